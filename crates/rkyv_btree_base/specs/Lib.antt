@@ -1,0 +1,12 @@
+pub mod Bytes
+pub mod Standing
+pub mod Rounding
+pub mod Kind
+pub mod Plain
+pub mod Layout
+pub mod Tree
+pub mod Spells
+pub mod Read
+pub mod Map
+pub mod Views
+pub mod laws

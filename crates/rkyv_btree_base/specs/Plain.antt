@@ -1,0 +1,139 @@
+-- Values whose meaning lies in their own bytes.
+use Rattle.std.specs.Prelude.{◌≡◌, ℕ, ◌+◌, ◌%◌, ◌≤◌, ◌<◌, ◌^◌, Bool, true, false, IsTrue, List, length, Option, Some, None, nat_eq, nat_lt, if◌then◌else◌}
+use Rattle.std.specs.Ordering.{nat_cmp}
+use Rattle.std.specs.Hash as fed
+use Rattle.std.specs.declared.cmp.Ordering.{Ordering}
+use Rattle.std.proofs.Common.{arith, refl, sym, ap, subst, ◌∙◌, ◌⊎◌, inl, inr}
+use Rattle.std.proofs.lemmas.Bool.{eqb-true, ltb-false, eq-eqb, le-ltb}
+use Rattle.std.proofs.lemmas.List.{ext_get_or, length-take, length-drop, get_or-take, get_or-drop}
+use Rattle.rkyv_btree_base.specs.Bytes.{from_le, bytes_at}
+use Rattle.rkyv_btree_base.specs.Kind.{Kind, Leaves, IsLawful}
+use Rattle.rkyv_btree_base.specs.Rounding.{IsAlignment, one, four, eight}
+use Rattle.rkyv_btree_base.specs.Standing.{IsAligned, Lies, SameBytes}
+
+-- a type whose values lie in their own bytes: what these bytes mean, and which of them are a value
+pub record Plain : Type 1 where
+  pub Value : Type 0
+  pub size : ℕ
+  pub align : ℕ
+  pub is_value : List ℕ → Bool
+  pub value : List ℕ → Value
+  pub same : Value → Value → Bool
+  pub order : Value → Value → Ordering
+  pub hash_input : Value → List (List ℕ)
+
+-- the own bytes are a value, this one, and the window is left as it was
+pub record MeansPlainly (plain : Plain) (buf : List ℕ) (lo hi at left : ℕ) (v : plain.Value) : Type 0 where
+  pub lies : Lies buf plain.size plain.align lo hi at left
+  pub unmoved : left ≡ lo
+  pub is_value : IsTrue (plain.is_value (bytes_at buf at plain.size))
+  pub value : v ≡ plain.value (bytes_at buf at plain.size)
+
+abbrev pub plain_leaves : Plain → Leaves
+plain_leaves plain buf lo hi at =
+    if nat_lt 4294967295 (length buf) then None else
+    if nat_lt (length buf) (at + plain.size) then None else
+    if nat_eq (at % plain.align) 0 then (if plain.is_value (bytes_at buf at plain.size) then Some lo else None) else None
+
+abbrev pub plain_kind : Plain → Kind
+plain_kind plain = record {
+  Value = plain.Value;
+  size = plain.size;
+  align = plain.align;
+  is_fitting = true;
+  Means = MeansPlainly plain;
+  leaves = plain_leaves plain;
+  read = λ buf at. plain.value (bytes_at buf at plain.size);
+  same = plain.same;
+  order = plain.order;
+  hash_input = plain.hash_input;
+}
+
+-- a little-endian number of so many bytes, aligned to its own size
+abbrev pub number : ℕ → (ℕ → List (List ℕ)) → Plain
+number size hash_input = record {
+  Value = ℕ;
+  size = size;
+  align = size;
+  is_value = λ bytes. true;
+  value = from_le;
+  same = nat_eq;
+  order = nat_cmp;
+  hash_input = hash_input;
+}
+
+abbrev pub u8_kind : Kind
+u8_kind = plain_kind (number 1 fed.u8)
+
+abbrev pub u32_kind : Kind
+u32_kind = plain_kind (number 4 fed.u32)
+
+abbrev pub u64_kind : Kind
+u64_kind = plain_kind (number 8 fed.u64)
+
+-- the same bytes at each place are the same list of bytes
+pub same_bytes_at : (buf other : List ℕ) (at size : ℕ) → at + size ≤ length buf → SameBytes buf other at (at + size) → bytes_at buf at size ≡ bytes_at other at size
+same_bytes_at buf other at size inside h =
+    let c = h.covers in
+    ext_get_or 0 _ _ (simp (length-take, length-drop) (omega arith)) (λ k l.
+    let m : k < size = omega (arith, simp (length-take, length-drop) at l) in
+    rw (get_or-take, get_or-drop, get_or-take, get_or-drop) (h.same (at + k) (omega arith) (omega arith)))
+
+-- which way a test went
+pub chosen : {X : Type 0} (b : Bool) (x y z : X) → (if b then x else y) ≡ z → ((b ≡ true) × (x ≡ z)) ⊎ ((b ≡ false) × (y ≡ z))
+chosen true x y z e = inl (refl, e)
+chosen false x y z e = inr (refl, e)
+
+module _ (plain : Plain) where
+  plain_found : (b : List ℕ) (lo hi at left : ℕ) → lo ≤ hi → hi ≤ at → plain_leaves plain b lo hi at ≡ Some left → (v : plain.Value) × MeansPlainly plain b lo hi at left v
+  plain_found b lo hi at left window before e =
+      elim (chosen (nat_lt 4294967295 (length b)) _ _ (Some left) e) [
+        | inl g ↦ absurd (cc g.1)
+        | inr g ↦ elim (chosen (nat_lt (length b) (at + plain.size)) _ _ (Some left) g.1) [
+          | inl h ↦ absurd (cc h.1)
+          | inr h ↦ elim (chosen (nat_eq (at % plain.align) 0) _ _ (Some left) h.1) [
+            | inl k ↦ elim (chosen (plain.is_value (bytes_at b at plain.size)) _ _ (Some left) k.1) [
+              | inl m ↦
+                  let same : left ≡ lo = cc m.1 in
+                  (plain.value (bytes_at b at plain.size), record { lies = record { short = ltb-false 4294967295 (length b) g.0; inside = ltb-false (length b) (at + plain.size) h.0; aligned = eqb-true (at % plain.align) 0 k.0; forward = omega arith; kept = omega arith; before = before }; unmoved = same; is_value = m.0; value = refl })
+              | inr m ↦ absurd (cc m.1)
+            ]
+            | inr k ↦ absurd (cc k.1)
+          ]
+        ]
+      ]
+
+  plain_only : (b : List ℕ) (lo hi at left : ℕ) (v : plain.Value) → MeansPlainly plain b lo hi at left v → plain_leaves plain b lo hi at ≡ Some left
+  plain_only b lo hi at left v m = rw (le-ltb 4294967295 (length b) m.lies.short, le-ltb (length b) (at + plain.size) m.lies.inside, eq-eqb (at % plain.align) 0 m.lies.aligned, m.is_value) (ap Some (sym m.unmoved))
+
+  pub plain_laws : IsAlignment plain.align → IsAligned plain.align plain.size → plain.size < 2 ^ 32 → IsLawful (plain_kind plain)
+  plain_laws alignment whole small = record {
+    alignment = alignment;
+    whole = whole;
+    size_fits = λ _. small;
+    lies = λ b lo hi at left v m. m.lies;
+    local = λ _ b c lo hi at left v short _ own m.
+        let same = same_bytes_at b c at plain.size m.lies.inside own in
+        record {
+          lies = record { short = short; inside = own.covers; aligned = m.lies.aligned; forward = m.lies.forward; kept = m.lies.kept; before = m.lies.before };
+          unmoved = m.unmoved;
+          is_value = subst (λ (bytes : List ℕ). IsTrue (plain.is_value bytes)) same m.is_value;
+          value = m.value ∙ ap plain.value same;
+        };
+    widens = λ b lo hi at left lo2 hi2 v p q r m.
+        let l = m.lies in
+        let e = m.unmoved in
+        (lo2, omega arith, record { lies = record { short = l.short; inside = l.inside; aligned = l.aligned; forward = omega arith; kept = omega arith; before = r }; unmoved = refl; is_value = m.is_value; value = m.value });
+    one_meaning = λ b lo hi at left left2 v w m n. (m.unmoved ∙ sym n.unmoved, m.value ∙ sym n.value);
+    is_read = λ b lo hi at left v m. m.value;
+    decides = λ _. record { found = plain_found; only = plain_only; within = λ b lo hi at left v m. (m.lies.forward, m.lies.kept) };
+  }
+
+pub u8_laws : IsLawful u8_kind
+u8_laws = plain_laws (number 1 fed.u8) one refl (omega arith)
+
+pub u32_laws : IsLawful u32_kind
+u32_laws = plain_laws (number 4 fed.u32) four refl (omega arith)
+
+pub u64_laws : IsLawful u64_kind
+u64_laws = plain_laws (number 8 fed.u64) eight refl (omega arith)

@@ -1,0 +1,12 @@
+pub mod Check
+pub mod Complete
+pub mod Local
+pub mod MapLaws
+pub mod Places
+pub mod Readings
+pub mod Results
+pub mod Root
+pub mod Sizes
+pub mod Sound
+pub mod Unique
+pub mod Widen
