@@ -10,3 +10,8 @@ pub mod Read
 pub mod Map
 pub mod Views
 pub mod laws
+pub mod InPlace
+pub mod Pointers
+pub mod Writing
+pub mod Image
+pub mod Serialising

@@ -1,6 +1,7 @@
 -- Values whose meaning lies in their own bytes.
-use Rattle.std.specs.Prelude.{◌≡◌, ℕ, ◌+◌, ◌%◌, ◌≤◌, ◌<◌, ◌^◌, Bool, true, false, IsTrue, List, length, Option, Some, None, nat_eq, nat_lt, if◌then◌else◌}
-use Rattle.std.specs.Ordering.{nat_cmp}
+use Rattle.std.specs.Prelude.{◌≡◌, ℕ, ℤ, ◌+◌, ◌%◌, ◌≤◌, ◌<◌, ◌^◌, Bool, true, false, IsTrue, List, length, Option, Some, None, nat_eq, nat_lt, if◌then◌else◌}
+use Rattle.std.specs.Int.{w32, cast_signed}
+use Rattle.std.specs.Ordering.{nat_cmp, int_eq, int_cmp}
 use Rattle.std.specs.Hash as fed
 use Rattle.std.specs.declared.cmp.Ordering.{Ordering}
 use Rattle.std.proofs.Common.{arith, refl, sym, ap, subst, ◌∙◌, ◌⊎◌, inl, inr}
@@ -61,6 +62,22 @@ number size hash_input = record {
   order = nat_cmp;
   hash_input = hash_input;
 }
+
+-- a relative pointer's offset: a number of four bytes in two's complement
+abbrev pub offset : Plain
+offset = record {
+  Value = ℤ;
+  size = 4;
+  align = 4;
+  is_value = λ bytes. true;
+  value = λ bytes. cast_signed w32 (from_le bytes);
+  same = int_eq;
+  order = int_cmp;
+  hash_input = fed.i32;
+}
+
+abbrev pub offset_kind : Kind
+offset_kind = plain_kind offset
 
 abbrev pub u8_kind : Kind
 u8_kind = plain_kind (number 1 fed.u8)
@@ -137,3 +154,6 @@ u32_laws = plain_laws (number 4 fed.u32) four refl (omega arith)
 
 pub u64_laws : IsLawful u64_kind
 u64_laws = plain_laws (number 8 fed.u64) eight refl (omega arith)
+
+pub offset_laws : IsLawful offset_kind
+offset_laws = plain_laws offset four refl (omega arith)

@@ -1,5 +1,6 @@
 //! Archived types.
-ghost use Rattle.std.specs.Prelude.{◌≡◌, ◌≤◌, ◌<◌, IsTrue};
+ghost use Rattle.std.specs.Prelude.{◌≡◌, ℕ, ◌≤◌, ◌<◌, IsTrue, List, length};
+ghost use Rattle.rkyv_btree_base.specs.InPlace.{IsInPlace};
 ghost use Rattle.rkyv_btree_base.specs.Kind.{Kind, IsLawful};
 
 /// A part of a buffer in which a value's outlying bytes may lie: the positions from `lo` up to `hi`, without `hi`.
@@ -30,4 +31,20 @@ pub trait Portable {
         ensures { result ≡ kind.is_fitting };
 
     ghost laws: { IsLawful kind };
+}
+
+/// An archived type whose values lie in their own bytes alone.
+pub trait InPlace: Portable {
+    /// The type of the values as the program has them.
+    type Native: Copy + Drop;
+
+    /// The own bytes of a native value.
+    ghost own: { Self.Native → List ℕ };
+
+    /// Writes the own bytes of a value.
+    fn write(value: Self::Native, bytes: &mut [u8])
+        requires { length bytes.old ≡ Self.kind.size }
+        ensures { bytes.new ≡ own value };
+
+    ghost in_place: { IsInPlace Self.kind own };
 }

@@ -1,10 +1,13 @@
 //! What archives are, how they are written, and how foreign bytes are checked.
 #![tactic(auto)]
 
+pub mod build;
 pub mod bytes;
 pub mod check;
 pub mod fault;
 pub mod layout;
 pub mod map;
+mod node;
 pub mod numbers;
+pub mod place;
 pub mod refusal;

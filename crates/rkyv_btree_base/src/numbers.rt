@@ -1,7 +1,9 @@
 //! The archived numbers.
 ghost use Rattle.rkyv_btree_base.specs.Plain.{u8_kind, u32_kind, u64_kind, u8_laws, u32_laws, u64_laws};
+ghost use Rattle.rkyv_btree_base.specs.InPlace.{u8_in_place, u32_in_place, u64_in_place};
+ghost use Rattle.std.specs.Int.{w8, w32, w64, to_le_bytes};
 
-use crate::check::Portable;
+use crate::check::{InPlace, Portable};
 
 impl Portable for u8 {
     ghost kind = { u8_kind };
@@ -19,6 +21,18 @@ impl Portable for u8 {
     }
 
     ghost laws = { u8_laws };
+}
+
+impl InPlace for u8 {
+    type Native = u8;
+
+    ghost own = { to_le_bytes w8 };
+
+    fn write(value: u8, bytes: &mut [u8]) {
+        bytes.copy_from_slice(&value.to_le_bytes());
+    }
+
+    ghost in_place = { u8_in_place };
 }
 
 /// A `u32` in four bytes, the least first.
@@ -42,6 +56,18 @@ impl Portable for ArchivedU32 {
     ghost laws = { u32_laws };
 }
 
+impl InPlace for ArchivedU32 {
+    type Native = u32;
+
+    ghost own = { to_le_bytes w32 };
+
+    fn write(value: u32, bytes: &mut [u8]) {
+        bytes.copy_from_slice(&value.to_le_bytes());
+    }
+
+    ghost in_place = { u32_in_place };
+}
+
 /// A `u64` in eight bytes, the least first.
 pub struct ArchivedU64;
 
@@ -61,4 +87,16 @@ impl Portable for ArchivedU64 {
     }
 
     ghost laws = { u64_laws };
+}
+
+impl InPlace for ArchivedU64 {
+    type Native = u64;
+
+    ghost own = { to_le_bytes w64 };
+
+    fn write(value: u64, bytes: &mut [u8]) {
+        bytes.copy_from_slice(&value.to_le_bytes());
+    }
+
+    ghost in_place = { u64_in_place };
 }

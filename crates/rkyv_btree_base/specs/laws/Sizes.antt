@@ -42,6 +42,7 @@ sound_of K V E k v h =
 
 -- how the parts of a node follow one another
 pub record Follow (s : Shape) : Type 0 where
+  pub kind : 1 ≤ keys_at s
   pub keys : keys_at s + s.capacity * s.key_size ≤ values_at s
   pub values : values_at s + s.capacity * s.value_size ≤ node_size s
   pub entries : node_size s ≤ len_at s
@@ -53,6 +54,7 @@ pub record Follow (s : Shape) : Type 0 where
 pub follow : (s : Shape) → IsSound s → Follow s
 unfolding keys_at values_at node_align node_size align len_at leaf_size inner_size
 follow s fits = record {
+  kind = le-round_up 1 s.key_align fits.key_align;
   keys = le-round_up _ s.value_align fits.value_align;
   values = le-round_up _ _ (omega arith);
   entries = le-round_up _ 4 (omega arith);

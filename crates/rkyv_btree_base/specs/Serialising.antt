@@ -1,0 +1,84 @@
+-- Serialising the items of an iterator, and the map itself.
+use Rattle.std.specs.Prelude.{◌≡◌, ◌≢◌, ℕ, ◌+◌, ◌<◌, ◌≤◌, List, [], ◌++◌, length, map, Option}
+use Rattle.std.specs.Borrow.{Bor}
+use Rattle.std.specs.Iterator.{Yields, Drains}
+use Rattle.rkyv_btree_base.specs.Bytes.{Holds}
+use Rattle.rkyv_btree_base.specs.Image.{leaf_image, root_image}
+use Rattle.rkyv_btree_base.specs.InPlace.{value_of}
+use Rattle.rkyv_btree_base.specs.Kind.{Kind}
+use Rattle.rkyv_btree_base.specs.Layout.{Shape, shape, align}
+use Rattle.rkyv_btree_base.specs.Rounding.{round_up}
+use Rattle.rkyv_btree_base.specs.Spells.{Spells}
+use Rattle.rkyv_btree_base.specs.Tree.{Tree, list, height}
+use Rattle.rkyv_btree_base.specs.Writing.{Writing, position, BeginsWith, Write, Wrote, Stopped, last_end}
+use Rattle.rkyv_btree_base.specs.declared.fault.Fault.{Fault}
+use Rattle.rkyv_btree_base.specs.declared.fault.Fault.TheVariants.{Length, LengthOverflow, PositionOverflow, OffsetOverflow, Writer, Memory, Entry}
+
+-- the own bytes of an item's key and value
+abbrev pub own_of : {M N : Type 0} → (M → List ℕ) → (N → List ℕ) → Bor M × Bor N → List ℕ × List ℕ
+own_of key value x = (key x.0.now, value x.1.now)
+
+-- what they mean
+abbrev pub meaning_of : {M N : Type 0} (K V : Kind) → (M → List ℕ) → (N → List ℕ) → Bor M × Bor N → K.Value × V.Value
+meaning_of K V key value x = (value_of K (key x.0.now), value_of V (value x.1.now))
+
+-- from state s a leaf of these entries was written at the root, if there are any, and state t was left
+pub record Built (s : Shape) (from : Writing) (xs : List (List ℕ × List ℕ)) (root : ℕ) (t : Writing) : Type 0 where
+  pub none : length xs ≡ 0 → (t ≡ from) × (root ≡ 0)
+  pub some : 0 < length xs → Wrote from (leaf_image s (position from) xs) t × (root ≡ round_up (position from) (align s)) × (position t ≤ last_end)
+
+-- every buffer that holds what was appended between two states spells a tree with this list, whose node is at the root
+pub record Spelled (K V : Kind) (E : ℕ) (from : Writing) (m : List (K.Value × V.Value)) (root : ℕ) (t : Writing) : Type 0 where
+  pub tree : Tree (K.Value × V.Value)
+  pub entries : list tree ≡ m
+  pub levels : height tree ≤ 32
+  pub appended : List ℕ
+  pub contents : t.contents ≡ from.contents ++ appended
+  pub spelled : (b : List ℕ) → length b ≤ 4294967295 → Holds b (position from) appended → position t ≤ length b → Spells K V E b (position from) (position t) root tree
+
+module _ {M N S : Type 0} (K V : Kind) (E : ℕ) (key : M → List ℕ) (value : N → List ℕ) (steps : S → Option (Bor M × Bor N) → S → Type 0) where
+  -- the iterator gave as many items as claimed, and then no more; the tree of them was written
+  pub record Serialised (iter : S) (claim : ℕ) (from : Writing) (root : ℕ) (t : Writing) : Type 0 where
+    pub items : List (Bor M × Bor N)
+    pub all : Drains steps iter items
+    pub count : length items ≡ claim
+    pub built : Built (shape K V E) from (map (own_of key value) items) root t
+    pub spelled : 0 < claim → Spelled K V E from (map (meaning_of K V key value) items) root t
+
+  -- the iterator gave as many items as claimed, and their tree's next write was refused
+  pub record StoppedBuilding {X : Type 0} (iter : S) (claim : ℕ) (from : Writing) (fault : Fault X) (t : Writing) : Type 0 where
+    pub items : List (Bor M × Bor N)
+    pub rest : S
+    pub taken : Yields steps iter items rest
+    pub count : length items ≡ claim
+    pub stopped : Stopped from (leaf_image (shape K V E) (position from) (map (own_of key value) items)) fault t
+
+  -- the iterator gave another number of items than the claim
+  pub record Miscounted (iter : S) (claim expected actual : ℕ) (from t : Writing) : Type 0 where
+    pub items : List (Bor M × Bor N)
+    pub all : Drains steps iter items
+    pub differs : length items ≢ claim
+    pub claimed : expected ≡ claim
+    pub counted : actual ≡ length items
+    pub kept : BeginsWith t from
+    pub nothing : claim ≡ 0 → t ≡ from
+
+  -- each fault's cause, and what it leaves
+  abbrev pub Refusal : {X : Type 0} → S → ℕ → Writing → Fault X → Writing → Type 0
+  Refusal iter claim from (Length m) t = Miscounted iter claim m.expected m.actual from t
+  Refusal iter claim from LengthOverflow t = (last_end < claim) × (t ≡ from)
+  Refusal {X} iter claim from PositionOverflow t = StoppedBuilding {X = X} iter claim from PositionOverflow t
+  Refusal {X} iter claim from OffsetOverflow t = StoppedBuilding {X = X} iter claim from OffsetOverflow t
+  Refusal iter claim from (Writer error) t = StoppedBuilding iter claim from (Writer error) t
+  Refusal iter claim from (Memory error) t = t ≡ from
+  Refusal iter claim from (Entry fault) t = ⊥
+
+-- each fault's cause in writing a map, and what it leaves
+abbrev pub RootRefusal : {X : Type 0} → ℕ → ℕ → Writing → Fault X → Writing → Type 0
+RootRefusal root len from (Length m) t = ⊥
+RootRefusal root len from LengthOverflow t = (last_end < len) × (t ≡ from)
+RootRefusal {X} root len from PositionOverflow t = Stopped {E = X} from (root_image (position from) root len) PositionOverflow t
+RootRefusal {X} root len from OffsetOverflow t = Stopped {E = X} from (root_image (position from) root len) OffsetOverflow t
+RootRefusal root len from (Writer error) t = Stopped from (root_image (position from) root len) (Writer error) t
+RootRefusal root len from (Memory error) t = ⊥
+RootRefusal root len from (Entry fault) t = ⊥
