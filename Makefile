@@ -1,0 +1,29 @@
+# RT is the command of the Rattle kit.
+RT ?= rt
+PROGRAM := crates/btreearc/out/btreearc
+
+.PHONY: run test bench program
+
+# Two lines become an archive, and the archive becomes the two lines again.
+run: program
+	@set -eu; \
+	work=$$(mktemp -d); \
+	trap 'rm -rf "$$work"' EXIT; \
+	printf '7 11\n8 12\n' > "$$work/lines"; \
+	$(PROGRAM) build < "$$work/lines" > "$$work/archive"; \
+	$(PROGRAM) list < "$$work/archive" > "$$work/listed"; \
+	echo "archive of 7 11 and 8 12:"; \
+	od -A d -t x1 -v "$$work/archive"; \
+	echo "listed again:"; \
+	cat "$$work/listed"; \
+	cmp "$$work/lines" "$$work/listed"
+
+test:
+	$(RT) ci
+
+bench: program
+	@bench/program.sh $(PROGRAM)
+
+# rt proves the program and its libraries before it builds it, which takes minutes the first time; where nothing has changed it does neither.
+program:
+	@cd crates/btreearc && $(RT) run -- build < /dev/null > /dev/null
