@@ -129,3 +129,171 @@ fn take_items<'x, M, N, A: Allocator, I: Iterator<Item = (&'x M, &'x N)>>(
     }
     true
 }
+
+/// Writes the leaf of an iterator's items, which are claimed to be `len`, and answers where it stands.
+fn build_leaf<'x, K, V, W, A, I, const E: usize>(
+    alloc: A,
+    len: usize,
+    mut iter: I,
+    writer: &mut W,
+) -> Result<BTreeMapResolver, Fault<W::Error>>
+where
+    K: InPlace,
+    V: InPlace,
+    W: Writer,
+    A: Allocator + Copy,
+    I: Iterator<Item = (&'x K::Native, &'x V::Native)>,
+    K::Native: 'x,
+    V::Native: 'x,
+    requires fitting { IsTrue (are_fitting K.kind V.kind E) }
+    requires some { 0 < len }
+    requires one_leaf { len ≤ E }
+    requires can { I.can_next iter }
+    requires ends { UpTo (I.remaining iter) 18446744073709551615 }
+    ensures ok { IfOk result (λ resolver. Serialised K.kind V.kind E K.own V.own I.next_gives iter len (W.state writer.old) resolver (W.state writer.new)) }
+    ensures err { IfErr result (λ fault. Refusal K.kind V.kind E K.own V.own I.next_gives iter len (W.state writer.old) fault (W.state writer.new)) }
+{
+    let Ok(mut node) = Vec::with_capacity(alloc, layout::leaf_size::<K, V, E>() as usize) else {
+        return Err(Fault::Memory(AllocError));
+    };
+    let Ok(mut items) = Vec::with_capacity(alloc, len) else {
+        return Err(Fault::Memory(AllocError));
+    };
+    if !take_items(&mut items, len, &mut iter) {
+        return Err(Fault::Length(IteratorLengthMismatch {
+            expected: len,
+            actual: items.len(),
+        }));
+    }
+    let root = match write_leaf::<K, V, W, A, E>(&mut node, &items, writer) {
+        Ok(root) => root,
+        Err(fault) => return Err(fault),
+    };
+    let more = iter.count();
+    if more != 0 {
+        return Err(Fault::Length(IteratorLengthMismatch {
+            expected: len,
+            actual: len + more,
+        }));
+    }
+    Ok(BTreeMapResolver { root })
+}
+
+impl<K: InPlace, V: InPlace, const E: usize> ArchivedBTreeMap<K, V, E> {
+    /// Serialises the items of an iterator, in their order, as the tree of a map, and answers where its root node
+    /// stands. `len` is the claimed number of items.
+    ///
+    /// A claim past 32 bits is refused before an item is taken. All memory is reserved before the first byte is
+    /// written. After an error the writer's contents begin with the old ones, and no resolver comes out; after a
+    /// refused growth they are unchanged. Too many items are refused with all of them counted. `next` isn't called
+    /// again once it has answered `None`.
+    pub fn serialize_from_ordered_iter<'x, W, A, I>(
+        alloc: A,
+        len: usize,
+        iter: I,
+        writer: &mut W,
+    ) -> Result<BTreeMapResolver, Fault<W::Error>>
+    where
+        W: Writer,
+        A: Allocator + Copy,
+        I: Iterator<Item = (&'x K::Native, &'x V::Native)>,
+        K::Native: 'x,
+        V::Native: 'x,
+        requires fitting { IsTrue (are_fitting K.kind V.kind E) }
+        requires one_leaf { len ≤ 4294967295 → len ≤ E }
+        requires can { I.can_next iter }
+        requires ends { UpTo (I.remaining iter) 18446744073709551615 }
+        ensures ok { IfOk result (λ resolver. Serialised K.kind V.kind E K.own V.own I.next_gives iter len (W.state writer.old) resolver (W.state writer.new)) }
+        ensures err { IfErr result (λ fault. Refusal K.kind V.kind E K.own V.own I.next_gives iter len (W.state writer.old) fault (W.state writer.new)) }
+    {
+        if len > 4294967295 {
+            return Err(Fault::LengthOverflow);
+        }
+        if len == 0 {
+            let actual = iter.count();
+            if actual != 0 {
+                return Err(Fault::Length(IteratorLengthMismatch {
+                    expected: 0,
+                    actual,
+                }));
+            }
+            return Ok(BTreeMapResolver { root: 0 });
+        }
+        build_leaf::<K, V, W, A, I, E>(alloc, len, iter, writer)
+    }
+}
+
+/// Writes a map's eight bytes at a position.
+fn fill_root(pos: u32, bytes: &mut [u8], len: usize, root: u32) -> Result<(), ResolveFault>
+    requires { length bytes.old ≡ 8 }
+    ensures ok { OnOk result (bytes.new ≡ root_bytes pos root len) }
+    ensures err { OnErr result (bytes.new ≡ bytes.old) }
+    ensures fits { IsOk result ↔ ((len ≤ last_end) × (root_reaches pos root len ≡ true)) }
+    ensures length { IsErrOf result ResolveFault.LengthOverflow ↔ (last_end < len) }
+{
+    if len > 4294967295 {
+        return Err(ResolveFault::LengthOverflow);
+    }
+    let mut pointer = [1, 0, 0, 0];
+    if len != 0 {
+        if write_offset(pos, root, &mut pointer).is_err() {
+            return Err(ResolveFault::OffsetOverflow);
+        }
+    }
+    let (front, back) = bytes.split_at_mut(4);
+    front.copy_from_slice(&pointer);
+    back.copy_from_slice(&(len as u32).to_le_bytes());
+    Ok(())
+}
+
+impl<K, V, const E: usize> ArchivedBTreeMap<K, V, E> {
+    /// Writes the map over a root node that was serialised for `len` entries. An `Err` leaves the place as it was.
+    pub fn resolve_from_len(
+        len: usize,
+        resolver: BTreeMapResolver,
+        out: Place<'_, ArchivedBTreeMap<K, V, E>>,
+    ) -> Result<(), ResolveFault>
+        requires { length out.bytes.now ≡ 8 }
+        ensures ok { OnOk result (out.exit.1.0.now ≡ root_bytes out.entry.pos resolver len) }
+        ensures err { OnErr result (out.exit.1.0.now ≡ out.entry.bytes.now) }
+        ensures fits { IsOk result ↔ ((len ≤ last_end) × (root_reaches out.entry.pos resolver len ≡ true)) }
+        ensures length { IsErrOf result ResolveFault.LengthOverflow ↔ (last_end < len) }
+    {
+        let Place { pos, bytes, of: _ } = out;
+        fill_root(pos, bytes, len, resolver.root)
+    }
+
+    /// Writes the map behind zeros up to a multiple of 4, and answers its position. After an error what was written
+    /// stays.
+    pub fn write_root<W: Writer>(
+        len: usize,
+        resolver: BTreeMapResolver,
+        writer: &mut W,
+    ) -> Result<u32, Fault<W::Error>>
+        ensures pos { IfOk result (λ pos. pos ≡ round_up (position (W.state writer.old)) 4) }
+        ensures ok { OnOk result (Wrote (W.state writer.old) (root_image (position (W.state writer.old)) resolver len) (W.state writer.new)) }
+        ensures last { OnOk result (position (W.state writer.new) ≤ last_end) }
+        ensures len { OnOk result (len ≤ last_end) }
+        ensures err { IfErr result (λ fault. RootRefusal resolver len (W.state writer.old) fault (W.state writer.new)) }
+    {
+        if len > 4294967295 {
+            return Err(Fault::LengthOverflow);
+        }
+        let pos = match pad(writer, 4) {
+            Ok(pos) => pos,
+            Err(fault) => return Err(fault),
+        };
+        if pos > LAST_END - 8 {
+            return Err(Fault::PositionOverflow);
+        }
+        let mut own = [0; 8];
+        match fill_root(pos as u32, &mut own, len, resolver.root) {
+            Ok(()) => {}
+            Err(_) => return Err(Fault::OffsetOverflow),
+        }
+        match put(writer, &own) {
+            Ok(()) => Ok(pos as u32),
+            Err(fault) => Err(fault),
+        }
+    }
+}
