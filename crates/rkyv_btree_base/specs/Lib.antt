@@ -15,3 +15,4 @@ pub mod Pointers
 pub mod Writing
 pub mod Image
 pub mod Serialising
+pub mod Archives

@@ -4,7 +4,6 @@ use Rattle.std.proofs.Common.{refl, subst, arith}
 use Rattle.rkyv_btree_base.specs.Kind.{Kind}
 use Rattle.rkyv_btree_base.specs.Kind.{IsLawful}
 
-
 -- in the widest window, all that stands before it, the value at the position is this one
 pub record MeansAt (kind : Kind) (buf : List ℕ) (pos : ℕ) (v : kind.Value) : Type 0 where
   pub left : ℕ

@@ -1,6 +1,7 @@
 //! Building archived maps.
 ghost use Rattle.std.specs.Prelude.{◌≡◌, ℕ, ◌+◌, ◌<◌, ◌≤◌, ◌^◌, ◌↔◌, [], ◌∷◌, ◌++◌, length, map, vec_len, true, false, vec_capacity, IsOk, OnOk, OnErr, IfOk, IfErr, IsErrOf, IsTrue};
 ghost use Rattle.std.specs.Iterator.{Yields, Drains, IsFinite, UpTo, size};
+ghost use Rattle.rkyv_btree_base.specs.Archives.{SerialisedIsAccepted, EmptyIsAccepted};
 ghost use Rattle.rkyv_btree_base.specs.Image.{padding, leaf_image, root_bytes, root_reaches, root_image};
 ghost use Rattle.rkyv_btree_base.specs.Layout.{shape, are_fitting, align, leaf_size};
 ghost use Rattle.rkyv_btree_base.specs.Rounding.{round_up};
@@ -297,3 +298,10 @@ impl<K, V, const E: usize> ArchivedBTreeMap<K, V, E> {
         }
     }
 }
+
+/// A buffer that holds what was serialised, and behind it the map as `resolve_from_len` or `write_root` writes it, is
+/// accepted there, and means the list of the items.
+pub fn archives_are_accepted<K: Portable, V: Portable, const E: usize>()
+    ensures entries { SerialisedIsAccepted K.kind V.kind E }
+    ensures none { EmptyIsAccepted K.kind V.kind E }
+{}

@@ -96,10 +96,7 @@ fn wide_inner_size<K: Portable, V: Portable, const E: usize>() -> u64
     requires entries { E ≤ 1073741823 }
     ensures { result ≡ inner_size (shape K.kind V.kind E) }
 {
-    round_up(
-        tail_at::<K, V, E>() + 4 * E as u64 + 4,
-        align::<K, V, E>(),
-    )
+    round_up(tail_at::<K, V, E>() + 4 * E as u64 + 4, align::<K, V, E>())
 }
 
 /// The test for what every call over `K`, `V` and `E` asks: both types fit, `E` is at least 1, and an inner node
@@ -160,10 +157,7 @@ pub fn leaf_size<K: Portable, V: Portable, const E: usize>() -> u32
     ensures value { result ≡ leaf_size (shape K.kind V.kind E) }
     ensures least { 8 ≤ result }
 {
-    round_up(
-        u64::from(len_at::<K, V, E>()) + 4,
-        align::<K, V, E>(),
-    ) as u32
+    round_up(u64::from(len_at::<K, V, E>()) + 4, align::<K, V, E>()) as u32
 }
 
 /// Where an inner node's pointer before entry `i` stands; at `E` it is `greater_at`.

@@ -11,3 +11,5 @@ mod node;
 pub mod numbers;
 pub mod place;
 pub mod refusal;
+#[cfg(test)]
+mod tests;

@@ -11,4 +11,3 @@ bind_ok (Err d) f y e = absurd (cc e)
 pub or_bad_ok : (at : ℕ) (o : Option ℕ) (lo : ℕ) → or_bad at o ≡ Ok lo → o ≡ Some lo
 or_bad_ok at None lo e = absurd (cc e)
 or_bad_ok at (Some x) lo e = cc e
-
