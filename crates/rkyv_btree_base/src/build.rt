@@ -232,9 +232,9 @@ fn fill_root(pos: u32, bytes: &mut [u8], len: usize, root: u32) -> Result<(), Re
     ensures fits { IsOk result ↔ ((len ≤ last_end) × (root_reaches pos root len ≡ true)) }
     ensures length { IsErrOf result ResolveFault.LengthOverflow ↔ (last_end < len) }
 {
-    if len > 4294967295 {
+    let Ok(count) = u32::try_from(len) else {
         return Err(ResolveFault::LengthOverflow);
-    }
+    };
     let mut pointer = [1, 0, 0, 0];
     if len != 0 {
         if write_offset(pos, root, &mut pointer).is_err() {
@@ -243,7 +243,7 @@ fn fill_root(pos: u32, bytes: &mut [u8], len: usize, root: u32) -> Result<(), Re
     }
     let (front, back) = bytes.split_at_mut(4);
     front.copy_from_slice(&pointer);
-    back.copy_from_slice(&(len as u32).to_le_bytes());
+    back.copy_from_slice(&count.to_le_bytes());
     Ok(())
 }
 
