@@ -31,6 +31,15 @@ leaf_bytes s xs = filled (filled (entry_bytes s 0 xs) (len_at s) ++ to_le_bytes 
 abbrev pub leaf_image : Shape → ℕ → List (List ℕ × List ℕ) → List Write
 leaf_image s at xs = padding (align s) at ++ record { bytes = leaf_bytes s xs; reaches = true } ∷ []
 
+-- the writes of the tree of these entries, and where its root node stands: no writes, and position 0, for no entries
+abbrev pub tree_image : Shape → ℕ → List (List ℕ × List ℕ) → List Write
+tree_image s at [] = []
+tree_image s at (x ∷ xs) = leaf_image s at (x ∷ xs)
+
+abbrev pub tree_root : Shape → ℕ → List (List ℕ × List ℕ) → ℕ
+tree_root s at [] = 0
+tree_root s at (x ∷ xs) = round_up at (align s)
+
 -- the map at a position: a pointer to its root node, none for no entries, and the number of its entries
 abbrev pub root_bytes : ℕ → ℕ → ℕ → List ℕ
 root_bytes at root len = (if nat_eq len 0 then no_pointer else pointer at root) ++ to_le_bytes w32 len

@@ -1,16 +1,15 @@
 -- Serialising the items of an iterator, and the map itself.
-use Rattle.std.specs.Prelude.{◌≡◌, ◌≢◌, ℕ, ◌+◌, ◌<◌, ◌≤◌, List, [], ◌++◌, length, map, Option}
+use Rattle.std.specs.Prelude.{◌≡◌, ◌≢◌, ℕ, ◌<◌, ◌≤◌, List, length, map, ◌++◌, Option}
 use Rattle.std.specs.Borrow.{Bor}
 use Rattle.std.specs.Iterator.{Yields, Drains}
 use Rattle.rkyv_btree_base.specs.Bytes.{Holds}
-use Rattle.rkyv_btree_base.specs.Image.{leaf_image, root_image}
+use Rattle.rkyv_btree_base.specs.Image.{tree_image, tree_root, root_image}
 use Rattle.rkyv_btree_base.specs.InPlace.{value_of}
 use Rattle.rkyv_btree_base.specs.Kind.{Kind}
-use Rattle.rkyv_btree_base.specs.Layout.{Shape, shape, align}
-use Rattle.rkyv_btree_base.specs.Rounding.{round_up}
+use Rattle.rkyv_btree_base.specs.Layout.{Shape, shape}
 use Rattle.rkyv_btree_base.specs.Spells.{Spells}
 use Rattle.rkyv_btree_base.specs.Tree.{Tree, list, height}
-use Rattle.rkyv_btree_base.specs.Writing.{Writing, position, BeginsWith, Write, Wrote, Stopped, last_end}
+use Rattle.rkyv_btree_base.specs.Writing.{Writing, position, BeginsWith, Wrote, Stopped, last_end}
 use Rattle.rkyv_btree_base.specs.declared.fault.Fault.{Fault}
 use Rattle.rkyv_btree_base.specs.declared.fault.Fault.TheVariants.{Length, LengthOverflow, PositionOverflow, OffsetOverflow, Writer, Memory, Entry}
 
@@ -22,10 +21,11 @@ own_of key value x = (key x.0.now, value x.1.now)
 abbrev pub meaning_of : {M N : Type 0} (K V : Kind) → (M → List ℕ) → (N → List ℕ) → Bor M × Bor N → K.Value × V.Value
 meaning_of K V key value x = (value_of K (key x.0.now), value_of V (value x.1.now))
 
--- from state s a leaf of these entries was written at the root, if there are any, and state t was left
+-- between two states the tree of these entries was written, whose node is at the root
 pub record Built (s : Shape) (from : Writing) (xs : List (List ℕ × List ℕ)) (root : ℕ) (t : Writing) : Type 0 where
-  pub none : length xs ≡ 0 → (t ≡ from) × (root ≡ 0)
-  pub some : 0 < length xs → Wrote from (leaf_image s (position from) xs) t × (root ≡ round_up (position from) (align s)) × (position t ≤ last_end)
+  pub wrote : Wrote from (tree_image s (position from) xs) t
+  pub root_is : root ≡ tree_root s (position from) xs
+  pub ends : 0 < length xs → position t ≤ last_end
 
 -- every buffer that holds what was appended between two states spells a tree with this list, whose node is at the root
 pub record Spelled (K V : Kind) (E : ℕ) (from : Writing) (m : List (K.Value × V.Value)) (root : ℕ) (t : Writing) : Type 0 where
@@ -51,7 +51,7 @@ module _ {M N S : Type 0} (K V : Kind) (E : ℕ) (key : M → List ℕ) (value :
     pub rest : S
     pub taken : Yields steps iter items rest
     pub count : length items ≡ claim
-    pub stopped : Stopped from (leaf_image (shape K V E) (position from) (map (own_of key value) items)) fault t
+    pub stopped : Stopped from (tree_image (shape K V E) (position from) (map (own_of key value) items)) fault t
 
   -- the iterator gave another number of items than the claim
   pub record Miscounted (iter : S) (claim expected actual : ℕ) (from t : Writing) : Type 0 where
