@@ -4,7 +4,7 @@ use Rattle.std.specs.Iterator.{Yields, Drains}
 use Rattle.std.proofs.lemmas.List.{length-map, length-append, append-nil, nil_from_length}
 use Rattle.rkyv_btree_base.specs.Bytes.{Holds}
 use Rattle.rkyv_btree_base.specs.Image.{padding, leaf_bytes, leaf_image, tree_image, tree_root, root_bytes, root_reaches}
-use Rattle.rkyv_btree_base.specs.InPlace.{IsInPlace}
+use Rattle.rkyv_btree_base.specs.InPlace.{IsOwn, OwnBytes, AreOwn, entry_of}
 use Rattle.rkyv_btree_base.specs.Kind.{Kind, IsLawful}
 use Rattle.rkyv_btree_base.specs.Layout.{Shape, shape, are_fitting, align, leaf_size}
 use Rattle.rkyv_btree_base.specs.Rounding.{round_up, le-round_up, round_up-aligned, alignment_positive}
@@ -61,29 +61,37 @@ module _ {M N S : Type 0} (K V : Kind) (E : ℕ) (key : M → List ℕ) (value :
   refused_of iter claim s (Memory error) t items rest y n h = absurd h.refused
   refused_of iter claim s (Entry fault) t items rest y n h = absurd h.refused
 
-  -- every buffer that holds a leaf's writes spells the leaf
-  module _ (k : IsLawful K) (v : IsLawful V) (kp : IsInPlace K key) (vp : IsInPlace V value) (fits : IsTrue (are_fitting K V E)) where
-    pub spelled_of : (s : Writing) (xs : List (Bor M × Bor N)) (root : ℕ) (t : Writing) → length xs ≤ E → Wrote s (leaf_image (shape K V E) (position s) (map (own_of key value) xs)) t → root ≡ round_up (position s) (align (shape K V E)) → position t ≡ root + leaf_size (shape K V E) → Spelled K V E s (map (meaning_of K V key value) xs) root t
-    spelled_of s xs root t few wrote root_is end =
-        let nodes = shape K V E in
-        let at = position s in
-        let bytes = leaf_bytes nodes (map (own_of key value) xs) in
-        let write : Write = record { bytes = bytes; reaches = _ } in
-        let pad = padding (align nodes) at in
-        let positive = alignment_positive (alignment K V E k v) in
-        record {
-          tree = leaf (map (meaning_of K V key value) xs);
-          entries = refl;
-          levels = omega arith;
-          appended = appended (leaf_image nodes at (map (own_of key value) xs));
-          contents = wrote.done.contents;
-          spelled = λ b short held inside.
-              let both : Holds b at (appended pad ++ (bytes ++ [])) = subst (Holds b at) (appended-append pad (write ∷ [])) held in
-              let behind : Holds b (at + length (appended pad)) (bytes ++ []) = Holds-back b at (appended pad) (bytes ++ []) both in
-              let there : Holds b root bytes = Holds-at b (at + length (appended pad)) root bytes (omega (arith, length-padding (align nodes) at positive)) (Holds-front b (at + length (appended pad)) bytes [] behind) in
-              spelled_leaf K V E key value k v kp vp fits b at (position t) root xs short
-              (subst (IsAligned (align nodes)) (sym root_is) (round_up-aligned at (align nodes))) (omega (arith, le-round_up at (align nodes) positive)) (omega arith) inside few there;
-        }
+-- the own bytes of items mean them
+pub own_items : {M N : Type 0} (K V : Kind) (key : M → List ℕ) (value : N → List ℕ) → ((n : M) → IsOwn K (key n)) → ((n : N) → IsOwn V (value n)) → (xs : List (Bor M × Bor N)) → AreOwn K V (map (own_of key value) xs)
+own_items K V key value kp vp [] = tt
+own_items K V key value kp vp (x ∷ xs) = (kp x.0.now, vp x.1.now, own_items K V key value kp vp xs)
+
+pub meaning_is : {M N : Type 0} (K V : Kind) (key : M → List ℕ) (value : N → List ℕ) (xs : List (Bor M × Bor N)) → map (entry_of K V) (map (own_of key value) xs) ≡ map (meaning_of K V key value) xs
+meaning_is K V key value [] = refl
+meaning_is K V key value (x ∷ xs) = ap (λ m. meaning_of K V key value x ∷ m) (meaning_is K V key value xs)
+
+-- every buffer that holds a leaf's writes spells the leaf
+pub spelled_of : (K V : Kind) (E : ℕ) → IsLawful K → IsLawful V → IsTrue (are_fitting K V E) → (s : Writing) (xs : List OwnBytes) (m : List (K.Value × V.Value)) (root : ℕ) (t : Writing) → AreOwn K V xs → map (entry_of K V) xs ≡ m → length xs ≤ E → Wrote s (leaf_image (shape K V E) (position s) xs) t → root ≡ round_up (position s) (align (shape K V E)) → position t ≡ root + leaf_size (shape K V E) → Spelled K V E s m root t
+spelled_of K V E k v fits s xs m root t own means few wrote root_is end =
+    let nodes = shape K V E in
+    let at = position s in
+    let bytes = leaf_bytes nodes xs in
+    let write : Write = record { bytes = bytes; reaches = _ } in
+    let pad = padding (align nodes) at in
+    let positive = alignment_positive (alignment K V E k v) in
+    record {
+      tree = leaf (map (entry_of K V) xs);
+      entries = means;
+      levels = omega arith;
+      appended = appended (leaf_image nodes at xs);
+      contents = wrote.done.contents;
+      spelled = λ b short held inside.
+          let both : Holds b at (appended pad ++ (bytes ++ [])) = subst (Holds b at) (appended-append pad (write ∷ [])) held in
+          let behind : Holds b (at + length (appended pad)) (bytes ++ []) = Holds-back b at (appended pad) (bytes ++ []) both in
+          let there : Holds b root bytes = Holds-at b (at + length (appended pad)) root bytes (omega (arith, length-padding (align nodes) at positive)) (Holds-front b (at + length (appended pad)) bytes [] behind) in
+          spelled_leaf K V E k v fits b at (position t) root xs own short
+          (subst (IsAligned (align nodes)) (sym root_is) (round_up-aligned at (align nodes))) (omega (arith, le-round_up at (align nodes) positive)) (omega arith) inside few there;
+    }
 
 abbrev root_write : ℕ → ℕ → ℕ → Write
 root_write at root len = record { bytes = root_bytes at root len; reaches = root_reaches at root len }

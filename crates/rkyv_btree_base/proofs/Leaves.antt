@@ -1,21 +1,20 @@
 -- A buffer that holds a leaf's bytes spells the leaf.
-use Rattle.std.proofs.Common.{◌≡◌, ℕ, ◌+◌, ◌-◌, ◌*◌, ◌^◌, ◌<◌, ◌≤◌, ◌∙◌, Bool, true, false, IsTrue, if◌then◌else◌, nat_eq, List, [], ◌∷◌, ◌++◌, length, map, Bor, refl, sym, ap, subst, arith}
+use Rattle.std.proofs.Common.{◌≡◌, ℕ, ◌+◌, ◌-◌, ◌*◌, ◌^◌, ◌<◌, ◌≤◌, ◌∙◌, Bool, true, false, IsTrue, if◌then◌else◌, nat_eq, List, [], ◌∷◌, ◌++◌, length, map, slice_index, refl, sym, ap, subst, arith}
 use Rattle.std.proofs.lemmas.Bool.Decides.{nat_tests}
 use Rattle.std.proofs.lemmas.List.{length-append, length-replicate, length-map}
 use Rattle.std.specs.Int.{w32, to_le_bytes}
 use Rattle.std.specs.List.{flat_map}
 use Rattle.rkyv_btree_base.specs.Bytes.{bytes_at, number_at, Holds, zeros}
 use Rattle.rkyv_btree_base.specs.Image.{zeros_write, padding, filled, entry_bytes, leaf_bytes}
-use Rattle.rkyv_btree_base.specs.InPlace.{IsInPlace}
+use Rattle.rkyv_btree_base.specs.InPlace.{OwnBytes, AreOwn, entry_of}
 use Rattle.rkyv_btree_base.specs.Kind.{Kind, IsLawful}
 use Rattle.rkyv_btree_base.specs.Layout.{Shape, shape, are_fitting, keys_at, values_at, key_at, value_at, len_at, align, leaf_size}
 use Rattle.rkyv_btree_base.specs.Rounding.{round_up, le-round_up}
-use Rattle.rkyv_btree_base.specs.Serialising.{own_of, meaning_of}
-use Rattle.rkyv_btree_base.specs.Spells.{IsNodeAt, Entries, Spells}
+use Rattle.rkyv_btree_base.specs.Spells.{Entries, Spells}
 use Rattle.rkyv_btree_base.specs.Standing.{IsAligned}
 use Rattle.rkyv_btree_base.specs.Tree.{leaf}
 use Rattle.rkyv_btree_base.specs.Writing.{appended}
-use Rattle.rkyv_btree_base.specs.laws.Sizes.{Room, room_of}
+use Rattle.rkyv_btree_base.specs.laws.Sizes.{room_of}
 use Rattle.rkyv_btree_base.proofs.Aligned.{key_aligned, value_aligned}
 use Rattle.rkyv_btree_base.proofs.Held.{Holds-front, Holds-back, Holds-at, first-held}
 use Rattle.rkyv_btree_base.proofs.HeldNumbers.{held_number}
@@ -62,85 +61,87 @@ module _ (a tail : List ℕ) (n size : ℕ) (first : length a ≤ n) (room : n +
         Holds-at b (p + length (filled a n)) (p + n) tail (omega (arith, length-filled a n first)) (Holds-back b p (filled a n) tail both),
       )
 
-module _ {M N : Type 0} (K V : Kind) (E : ℕ) (key : M → List ℕ) (value : N → List ℕ) (k : IsLawful K) (v : IsLawful V) (kp : IsInPlace K key) (vp : IsInPlace V value) (fits : IsTrue (are_fitting K V E)) where
-  keys_length : (xs : List (Bor M × Bor N)) → length (flat_map (λ x. x.0) (map (own_of key value) xs)) ≡ length xs * K.size
-  keys_length [] = omega arith
-  keys_length (x ∷ xs) = omega (arith, length-append (key x.0.now) (flat_map (λ y. y.0) (map (own_of key value) xs)), kp.size x.0.now, keys_length xs)
+-- the own bytes of all keys and of all values
+abbrev keys_of : List OwnBytes → List ℕ
+keys_of xs = flat_map (λ x. x.0) xs
 
-  values_length : (xs : List (Bor M × Bor N)) → length (flat_map (λ x. x.1) (map (own_of key value) xs)) ≡ length xs * V.size
-  values_length [] = omega arith
-  values_length (x ∷ xs) = omega (arith, length-append (value x.1.now) (flat_map (λ y. y.1) (map (own_of key value) xs)), vp.size x.1.now, values_length xs)
+abbrev values_of : List OwnBytes → List ℕ
+values_of xs = flat_map (λ x. x.1) xs
+
+module _ (K V : Kind) (E : ℕ) (k : IsLawful K) (v : IsLawful V) (fits : IsTrue (are_fitting K V E)) where
+  keys_length : (xs : List OwnBytes) → AreOwn K V xs → length (keys_of xs) ≡ length xs * K.size
+  keys_length [] own = omega arith
+  keys_length (x ∷ xs) own = omega (arith, length-append x.0 (keys_of xs), own.0.size, keys_length xs own.2)
+
+  values_length : (xs : List OwnBytes) → AreOwn K V xs → length (values_of xs) ≡ length xs * V.size
+  values_length [] own = omega arith
+  values_length (x ∷ xs) own = omega (arith, length-append x.1 (values_of xs), own.1.size, values_length xs own.2)
 
   -- the entries from number i on, in a window that they leave as it was
-  entries_held : (b : List ℕ) (lo p i : ℕ) (xs : List (Bor M × Bor N)) → length b ≤ 4294967295 → IsAligned (align (shape K V E)) p → lo ≤ p → i + length xs ≤ E → p + leaf_size (shape K V E) ≤ length b →
-      Holds b (p + key_at (shape K V E) i) (flat_map (λ x. x.0) (map (own_of key value) xs)) → Holds b (p + value_at (shape K V E) i) (flat_map (λ x. x.1) (map (own_of key value) xs)) → Entries K V E b p i lo lo (map (meaning_of K V key value) xs)
-  entries_held b lo p i [] short aligned window few inside ks vs = refl
-  entries_held b lo p i (x ∷ xs) short aligned window few inside ks vs =
+  entries_held : (b : List ℕ) (lo p i : ℕ) (xs : List OwnBytes) → AreOwn K V xs → length b ≤ 4294967295 → IsAligned (align (shape K V E)) p → lo ≤ p → i + length xs ≤ E → p + leaf_size (shape K V E) ≤ length b →
+      Holds b (p + key_at (shape K V E) i) (keys_of xs) → Holds b (p + value_at (shape K V E) i) (values_of xs) → Entries K V E b p i lo lo (map (entry_of K V) xs)
+  entries_held b lo p i [] own short aligned window few inside ks vs = refl
+  entries_held b lo p i (x ∷ xs) own short aligned window few inside ks vs =
       let s = shape K V E in
       let room = room_of K V E k v fits in
       let parts = room.parts in
-      let more = flat_map (λ y. y.0) (map (own_of key value) xs) in
-      let more_values = flat_map (λ y. y.1) (map (own_of key value) xs) in
+      let key_size = own.0.size in
+      let value_size = own.1.size in
       let key_room : (i + 1) * K.size ≤ E * K.size = room.key_at (i + 1) (omega arith) in
       let value_room : (i + 1) * V.size ≤ E * V.size = room.value_at (i + 1) (omega arith) in
-      let first : bytes_at b (p + key_at s i) K.size ≡ key x.0.now = ap (λ n. bytes_at b (p + key_at s i) n) (sym (kp.size x.0.now)) ∙ Holds-front b (p + key_at s i) (key x.0.now) more ks in
-      let second : bytes_at b (p + value_at s i) V.size ≡ value x.1.now = ap (λ n. bytes_at b (p + value_at s i) n) (sym (vp.size x.1.now)) ∙ Holds-front b (p + value_at s i) (value x.1.now) more_values vs in
-      let next_keys = Holds-at b (p + key_at s i + length (key x.0.now)) (p + key_at s (i + 1)) more (omega (arith, kp.size x.0.now)) (Holds-back b (p + key_at s i) (key x.0.now) more ks) in
-      let next_values = Holds-at b (p + value_at s i + length (value x.1.now)) (p + value_at s (i + 1)) more_values (omega (arith, vp.size x.1.now)) (Holds-back b (p + value_at s i) (value x.1.now) more_values vs) in (
+      let key : bytes_at b (p + key_at s i) K.size ≡ x.0 = ap (λ n. bytes_at b (p + key_at s i) n) (sym key_size) ∙ Holds-front b (p + key_at s i) x.0 (keys_of xs) ks in
+      let value : bytes_at b (p + value_at s i) V.size ≡ x.1 = ap (λ n. bytes_at b (p + value_at s i) n) (sym value_size) ∙ Holds-front b (p + value_at s i) x.1 (values_of xs) vs in
+      let next_keys = Holds-at b (p + key_at s i + length x.0) (p + key_at s (i + 1)) (keys_of xs) (omega arith) (Holds-back b (p + key_at s i) x.0 (keys_of xs) ks) in
+      let next_values = Holds-at b (p + value_at s i + length x.1) (p + value_at s (i + 1)) (values_of xs) (omega arith) (Holds-back b (p + value_at s i) x.1 (values_of xs) vs) in (
         lo,
         lo,
-        kp.means x.0.now b lo p (p + key_at s i) short window (omega arith) (key_aligned K V E k v p i aligned) (omega arith) first,
-        vp.means x.1.now b lo p (p + value_at s i) short window (omega arith) (value_aligned K V E k v p i aligned) (omega arith) second,
-        entries_held b lo p (i + 1) xs short aligned window (omega arith) inside next_keys next_values,
+        own.0.means b lo p (p + key_at s i) short window (omega arith) (key_aligned K V E k v p i aligned) (omega arith) key,
+        own.1.means b lo p (p + value_at s i) short window (omega arith) (value_aligned K V E k v p i aligned) (omega arith) value,
+        entries_held b lo p (i + 1) xs own.2 short aligned window (omega arith) inside next_keys next_values,
       )
 
-  -- the own bytes of all keys and of all values
-  abbrev keys_of : List (Bor M × Bor N) → List ℕ
-  keys_of xs = flat_map (λ x. x.0) (map (own_of key value) xs)
-
-  abbrev values_of : List (Bor M × Bor N) → List ℕ
-  values_of xs = flat_map (λ x. x.1) (map (own_of key value) xs)
-
-  keys_room : (xs : List (Bor M × Bor N)) → length xs ≤ E → keys_at (shape K V E) + length (keys_of xs) ≤ values_at (shape K V E)
-  keys_room xs few =
+  keys_room : (xs : List OwnBytes) → AreOwn K V xs → length xs ≤ E → keys_at (shape K V E) + length (keys_of xs) ≤ values_at (shape K V E)
+  keys_room xs own few =
       let room = room_of K V E k v fits in
       let parts = room.parts in
-      omega (arith, keys_length xs, room.key_at (length xs) few)
+      omega (arith, keys_length xs own, room.key_at (length xs) few)
 
-  pub entry_bytes_length : (kind : ℕ) (xs : List (Bor M × Bor N)) → length xs ≤ E → length (entry_bytes (shape K V E) kind (map (own_of key value) xs)) ≡ values_at (shape K V E) + length xs * V.size
-  entry_bytes_length kind xs few =
+  -- a node's kind and entries end before its length or its pointers
+  pub entries_end : (kind : ℕ) (xs : List OwnBytes) → AreOwn K V xs → length xs ≤ E → length (entry_bytes (shape K V E) kind xs) ≤ len_at (shape K V E)
+  entries_end kind xs own few =
+      let s = shape K V E in
+      let room = room_of K V E k v fits in
+      let parts = room.parts in
+      omega (arith, parts_length (kind ∷ []) (keys_of xs) (values_of xs) (keys_at s) (values_at s) parts.kind (keys_room xs own few), values_length xs own, room.value_at (length xs) few)
+
+  -- the kind and the entries of a node whose bytes are held
+  pub node_held : (b : List ℕ) (lo p kind : ℕ) (xs : List OwnBytes) → AreOwn K V xs → length b ≤ 4294967295 → IsAligned (align (shape K V E)) p → lo ≤ p → length xs ≤ E → p + leaf_size (shape K V E) ≤ length b → Holds b p (entry_bytes (shape K V E) kind xs) → (slice_index b p ≡ kind) × Entries K V E b p 0 lo lo (map (entry_of K V) xs)
+  node_held b lo p kind xs own short aligned window few inside holds =
       let s = shape K V E in
       let kind_at = (room_of K V E k v fits).parts.kind in
-      parts_length (kind ∷ []) (keys_of xs) (values_of xs) (keys_at s) (values_at s) kind_at (keys_room xs few) ∙ ap (λ n. values_at s + n) (values_length xs)
-
-  entries_end : (kind : ℕ) (xs : List (Bor M × Bor N)) → length xs ≤ E → length (entry_bytes (shape K V E) kind (map (own_of key value) xs)) ≤ len_at (shape K V E)
-  entries_end kind xs few =
-      let room = room_of K V E k v fits in
-      let parts = room.parts in
-      omega (arith, entry_bytes_length kind xs few, room.value_at (length xs) few)
-
-  pub leaf_bytes_length : (xs : List (Bor M × Bor N)) → length xs ≤ E → length (leaf_bytes (shape K V E) (map (own_of key value) xs)) ≡ leaf_size (shape K V E)
-  leaf_bytes_length xs few =
-      let s = shape K V E in
-      let len_room = (room_of K V E k v fits).parts.len in
-      let ys = map (own_of key value) xs in
-      tail_length (entry_bytes s 0 ys) (to_le_bytes w32 (length ys)) (len_at s) (leaf_size s) (entries_end 0 xs few) len_room
-
-  pub spelled_leaf : (b : List ℕ) (lo hi p : ℕ) (xs : List (Bor M × Bor N)) → length b ≤ 4294967295 → IsAligned (align (shape K V E)) p → lo ≤ p → p + leaf_size (shape K V E) ≤ hi → hi ≤ length b → length xs ≤ E → Holds b p (leaf_bytes (shape K V E) (map (own_of key value) xs)) → Spells K V E b lo hi p (leaf (map (meaning_of K V key value) xs))
-  spelled_leaf b lo hi p xs short aligned window inside within few holds =
-      let s = shape K V E in
-      let room = room_of K V E k v fits in
-      let parts = room.parts in
-      let ys = map (own_of key value) xs in
-      let tail = tail_held (entry_bytes s 0 ys) (to_le_bytes w32 (length ys)) (len_at s) (leaf_size s) (entries_end 0 xs few) parts.len b p holds in
-      let held = parts_held (0 ∷ []) (keys_of xs) (values_of xs) (keys_at s) (values_at s) parts.kind (keys_room xs few) b p tail.0 in
-      let count : length ys ≡ length xs = length-map xs (own_of key value) in
-      let meant : length (map (meaning_of K V key value) xs) ≡ length xs = length-map xs (meaning_of K V key value) in (
-        record { start = window; room = inside; aligned = aligned; kind_byte = first-held b p 0 [] held.0 },
-        held_number b (p + len_at s) (length ys) (omega (arith, count, room.entries)) tail.1 ∙ (count ∙ sym meant),
-        omega (arith, meant),
-        lo,
-        entries_held b lo p 0 xs short aligned window (omega arith) (omega arith)
+      let held = parts_held (kind ∷ []) (keys_of xs) (values_of xs) (keys_at s) (values_at s) kind_at (keys_room xs own few) b p holds in (
+        first-held b p kind [] held.0,
+        entries_held b lo p 0 xs own short aligned window (omega arith) inside
             (Holds-at b (p + keys_at s) (p + key_at s 0) (keys_of xs) (omega arith) held.1)
             (Holds-at b (p + values_at s) (p + value_at s 0) (values_of xs) (omega arith) held.2),
+      )
+
+  pub leaf_bytes_length : (xs : List OwnBytes) → AreOwn K V xs → length xs ≤ E → length (leaf_bytes (shape K V E) xs) ≡ leaf_size (shape K V E)
+  leaf_bytes_length xs own few =
+      let s = shape K V E in
+      let len_room = (room_of K V E k v fits).parts.len in
+      tail_length (entry_bytes s 0 xs) (to_le_bytes w32 (length xs)) (len_at s) (leaf_size s) (entries_end 0 xs own few) len_room
+
+  pub spelled_leaf : (b : List ℕ) (lo hi p : ℕ) (xs : List OwnBytes) → AreOwn K V xs → length b ≤ 4294967295 → IsAligned (align (shape K V E)) p → lo ≤ p → p + leaf_size (shape K V E) ≤ hi → hi ≤ length b → length xs ≤ E → Holds b p (leaf_bytes (shape K V E) xs) → Spells K V E b lo hi p (leaf (map (entry_of K V) xs))
+  spelled_leaf b lo hi p xs own short aligned window inside within few holds =
+      let s = shape K V E in
+      let room = room_of K V E k v fits in
+      let tail = tail_held (entry_bytes s 0 xs) (to_le_bytes w32 (length xs)) (len_at s) (leaf_size s) (entries_end 0 xs own few) room.parts.len b p holds in
+      let node = node_held b lo p 0 xs own short aligned window few (omega arith) tail.0 in
+      let meant : length (map (entry_of K V) xs) ≡ length xs = length-map xs (entry_of K V) in (
+        record { start = window; room = inside; aligned = aligned; kind_byte = node.0 },
+        held_number b (p + len_at s) (length xs) (omega (arith, room.entries)) tail.1 ∙ sym meant,
+        omega (arith, meant),
+        lo,
+        node.1,
       )

@@ -3,6 +3,7 @@ use Rattle.std.specs.Prelude.{◌≡◌, ℕ, ◌+◌, ◌-◌, ◌||◌, Bool, 
 use Rattle.std.specs.List.{flat_map}
 use Rattle.std.specs.Int.{w32, to_le_bytes}
 use Rattle.rkyv_btree_base.specs.Bytes.{zeros}
+use Rattle.rkyv_btree_base.specs.InPlace.{OwnBytes}
 use Rattle.rkyv_btree_base.specs.Layout.{Shape, keys_at, values_at, len_at, align, leaf_size}
 use Rattle.rkyv_btree_base.specs.Pointers.{pointer, no_pointer, offset_fits}
 use Rattle.rkyv_btree_base.specs.Rounding.{round_up}
@@ -20,23 +21,23 @@ abbrev pub filled : List ℕ → ℕ → List ℕ
 filled bytes len = bytes ++ zeros (len - length bytes)
 
 -- the kind, the keys and the values of a node, whose entries are given by their own bytes
-abbrev pub entry_bytes : Shape → ℕ → List (List ℕ × List ℕ) → List ℕ
+abbrev pub entry_bytes : Shape → ℕ → List OwnBytes → List ℕ
 entry_bytes s kind xs = filled (filled (kind ∷ []) (keys_at s) ++ flat_map (λ x. x.0) xs) (values_at s) ++ flat_map (λ x. x.1) xs
 
 -- a leaf: behind its entries the number of them, and zeros wherever nothing stands
-abbrev pub leaf_bytes : Shape → List (List ℕ × List ℕ) → List ℕ
+abbrev pub leaf_bytes : Shape → List OwnBytes → List ℕ
 leaf_bytes s xs = filled (filled (entry_bytes s 0 xs) (len_at s) ++ to_le_bytes w32 (length xs)) (leaf_size s)
 
 -- the writes of a leaf at a position: the padding before it, and then the node in one write
-abbrev pub leaf_image : Shape → ℕ → List (List ℕ × List ℕ) → List Write
+abbrev pub leaf_image : Shape → ℕ → List OwnBytes → List Write
 leaf_image s at xs = padding (align s) at ++ record { bytes = leaf_bytes s xs; reaches = true } ∷ []
 
 -- the writes of the tree of these entries, and where its root node stands: no writes, and position 0, for no entries
-abbrev pub tree_image : Shape → ℕ → List (List ℕ × List ℕ) → List Write
+abbrev pub tree_image : Shape → ℕ → List OwnBytes → List Write
 tree_image s at [] = []
 tree_image s at (x ∷ xs) = leaf_image s at (x ∷ xs)
 
-abbrev pub tree_root : Shape → ℕ → List (List ℕ × List ℕ) → ℕ
+abbrev pub tree_root : Shape → ℕ → List OwnBytes → ℕ
 tree_root s at [] = 0
 tree_root s at (x ∷ xs) = round_up at (align s)
 

@@ -4,7 +4,7 @@ use Rattle.std.specs.Borrow.{Bor}
 use Rattle.std.specs.Iterator.{Yields, Drains}
 use Rattle.rkyv_btree_base.specs.Bytes.{Holds}
 use Rattle.rkyv_btree_base.specs.Image.{tree_image, tree_root, root_image}
-use Rattle.rkyv_btree_base.specs.InPlace.{value_of}
+use Rattle.rkyv_btree_base.specs.InPlace.{OwnBytes, entry_of}
 use Rattle.rkyv_btree_base.specs.Kind.{Kind}
 use Rattle.rkyv_btree_base.specs.Layout.{Shape, shape}
 use Rattle.rkyv_btree_base.specs.Spells.{Spells}
@@ -14,15 +14,15 @@ use Rattle.rkyv_btree_base.specs.declared.fault.Fault.{Fault}
 use Rattle.rkyv_btree_base.specs.declared.fault.Fault.TheVariants.{Length, LengthOverflow, PositionOverflow, OffsetOverflow, Writer, Memory, Entry}
 
 -- the own bytes of an item's key and value
-abbrev pub own_of : {M N : Type 0} → (M → List ℕ) → (N → List ℕ) → Bor M × Bor N → List ℕ × List ℕ
+abbrev pub own_of : {M N : Type 0} → (M → List ℕ) → (N → List ℕ) → Bor M × Bor N → OwnBytes
 own_of key value x = (key x.0.now, value x.1.now)
 
--- what they mean
+-- what an item means
 abbrev pub meaning_of : {M N : Type 0} (K V : Kind) → (M → List ℕ) → (N → List ℕ) → Bor M × Bor N → K.Value × V.Value
-meaning_of K V key value x = (value_of K (key x.0.now), value_of V (value x.1.now))
+meaning_of K V key value x = entry_of K V (own_of key value x)
 
 -- between two states the tree of these entries was written, whose node is at the root
-pub record Built (s : Shape) (from : Writing) (xs : List (List ℕ × List ℕ)) (root : ℕ) (t : Writing) : Type 0 where
+pub record Built (s : Shape) (from : Writing) (xs : List OwnBytes) (root : ℕ) (t : Writing) : Type 0 where
   pub wrote : Wrote from (tree_image s (position from) xs) t
   pub root_is : root ≡ tree_root s (position from) xs
   pub ends : 0 < length xs → position t ≤ last_end

@@ -1,6 +1,6 @@
 //! Archived types.
 ghost use Rattle.std.specs.Prelude.{◌≡◌, ℕ, ◌≤◌, ◌<◌, IsTrue, List, length};
-ghost use Rattle.rkyv_btree_base.specs.InPlace.{IsInPlace};
+ghost use Rattle.rkyv_btree_base.specs.InPlace.{IsOwn};
 ghost use Rattle.rkyv_btree_base.specs.Kind.{Kind, IsLawful};
 
 /// A part of a buffer in which a value's outlying bytes may lie: the positions from `lo` up to `hi`, without `hi`.
@@ -46,5 +46,5 @@ pub trait InPlace: Portable {
         requires { length bytes.old ≡ Self.kind.size }
         ensures { bytes.new ≡ own value };
 
-    ghost in_place: { IsInPlace Self.kind own };
+    ghost in_place: { (n : Self.Native) → IsOwn Self.kind (own n) };
 }

@@ -1,6 +1,6 @@
 //! The archived numbers.
 ghost use Rattle.rkyv_btree_base.specs.Plain.{u8_kind, u32_kind, u64_kind, u8_laws, u32_laws, u64_laws};
-ghost use Rattle.rkyv_btree_base.specs.InPlace.{u8_in_place, u32_in_place, u64_in_place};
+ghost use Rattle.rkyv_btree_base.specs.InPlace.{u8_own, u32_own, u64_own};
 ghost use Rattle.std.specs.Int.{w8, w32, w64, to_le_bytes};
 
 use crate::check::{InPlace, Portable};
@@ -32,7 +32,7 @@ impl InPlace for u8 {
         bytes.copy_from_slice(&value.to_le_bytes());
     }
 
-    ghost in_place = { u8_in_place };
+    ghost in_place = { u8_own };
 }
 
 /// A `u32` in four bytes, the least first.
@@ -65,7 +65,7 @@ impl InPlace for ArchivedU32 {
         bytes.copy_from_slice(&value.to_le_bytes());
     }
 
-    ghost in_place = { u32_in_place };
+    ghost in_place = { u32_own };
 }
 
 /// A `u64` in eight bytes, the least first.
@@ -98,5 +98,5 @@ impl InPlace for ArchivedU64 {
         bytes.copy_from_slice(&value.to_le_bytes());
     }
 
-    ghost in_place = { u64_in_place };
+    ghost in_place = { u64_own };
 }

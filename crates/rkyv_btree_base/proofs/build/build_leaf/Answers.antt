@@ -1,9 +1,10 @@
-use Rattle.std.proofs.Common.{◌≡◌, ◌∙◌, ◌<◌, List, length, sym, subst, ap, arith}
+use Rattle.std.proofs.Common.{◌≡◌, ◌∙◌, ◌<◌, List, length, map, sym, subst, ap, arith}
+use Rattle.std.proofs.lemmas.List.{length-map}
 use Rattle.std.specs.Iterator.{Yields}
 use Rattle.rkyv_btree_base.specs.Layout.{shape}
-use Rattle.rkyv_btree_base.specs.Serialising.{own_of}
+use Rattle.rkyv_btree_base.specs.Serialising.{own_of, meaning_of}
 use Rattle.rkyv_btree_base.specs.Writing.{Write, Wrote, Stopped, position}
-use Rattle.rkyv_btree_base.proofs.Building.{leaf_is_tree, drained, miscounted_of, refused_of, spelled_of}
+use Rattle.rkyv_btree_base.proofs.Building.{leaf_is_tree, drained, miscounted_of, refused_of, own_items, meaning_is, spelled_of}
 use Rattle.rkyv_btree_base.proofs.build.build_leaf.Goals as goal
 
 pub returns-in-Err-clause-err : goal.returns-in-Err-clause-err
@@ -39,6 +40,7 @@ returns-clause-ok g c =
     let took = c.if-not-take_items.false in
     let ran = c.count-more.ensures.ran in
     let items = c.deref.result.now in
+    let own = own_of g.K.InPlace.own g.V.InPlace.own in
     let count : length items ≡ c.args.len = ap length c.deref.ensures.value ∙ c.take_items.ensures.len took in
     let wrote = c.in-Ok-write_leaf.ensures in
     let tree = leaf_is_tree nodes (position from) (own_of g.K.InPlace.own g.V.InPlace.own) items (omega (arith, count, c.requires.some)) in
@@ -52,6 +54,8 @@ returns-clause-ok g c =
         root_is = wrote.root ∙ sym tree.1;
         ends = λ some. wrote.last;
       };
-      spelled = λ some. spelled_of _ _ g.row.E g.K.InPlace.own g.V.InPlace.own steps g.met.K.Portable.laws g.met.V.Portable.laws g.met.K.InPlace.in_place g.met.V.InPlace.in_place c.requires.fitting _ items _ _
-          (omega (arith, count, c.requires.one_leaf)) wrote.ok wrote.root wrote.end;
+      spelled = λ some. spelled_of g.K.Portable.kind g.V.Portable.kind g.row.E g.met.K.Portable.laws g.met.V.Portable.laws c.requires.fitting from (map own items) (map (meaning_of g.K.Portable.kind g.V.Portable.kind g.K.InPlace.own g.V.InPlace.own) items) _ to
+          (own_items g.K.Portable.kind g.V.Portable.kind g.K.InPlace.own g.V.InPlace.own g.met.K.InPlace.in_place g.met.V.InPlace.in_place items)
+          (meaning_is g.K.Portable.kind g.V.Portable.kind g.K.InPlace.own g.V.InPlace.own items)
+          (omega (arith, count, c.requires.one_leaf, length-map items own)) wrote.ok wrote.root wrote.end;
     }
