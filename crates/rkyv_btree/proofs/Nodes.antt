@@ -1,0 +1,91 @@
+-- Where a tree is spelled, nodes stand.
+use Rattle.std.proofs.Common.{◌≡◌, ℕ, zero, suc, ◌+◌, ◌≤◌, ◌<◌, IsTrue, List, [], ◌∷◌, length, refl, arith, true, false, Some, None, slice_index, inl, inr}
+use Rattle.std.proofs.lemmas.Bool.{eq-eqb, ne_eqb, cases_lt}
+use Rattle.rkyv_btree_base.specs.Bytes.{number_at, target_at}
+use Rattle.rkyv_btree_base.specs.Kind.{Kind, IsLawful}
+use Rattle.rkyv_btree_base.specs.Layout.{shape, are_fitting, pointer_at, leaf_size, inner_size}
+use Rattle.rkyv_btree_base.specs.Spells.{Entries, Spells, SpellsRow, SpellsChild}
+use Rattle.rkyv_btree_base.specs.Tree.{Tree, leaf, inner, Row, last, step, Child, absent, child, row_entries, height, row_height, child_height}
+use Rattle.rkyv_btree_base.specs.Views.{stands_of}
+use Rattle.rkyv_btree_base.specs.laws.Places.{EntryStands}
+use Rattle.rkyv_btree_base.specs.laws.Sizes.{room_of}
+use Rattle.rkyv_btree.specs.Node.{LeadsBefore, is_leaf, entry_count, child_place, NodeOver, IsNode}
+
+module _ (K V : Kind) (E : ℕ) (b : List ℕ) where
+  -- a node has a level of its own, and its children have the others
+  pub open_node : (levels p : ℕ) → IsNode K V E b levels p → (m : ℕ) × (levels ≡ suc m) × NodeOver K V E b (IsNode K V E b m) p
+  unfolding IsNode
+  open_node zero p h = absurd h
+  open_node (suc m) p h = (m, refl, h)
+
+  pub close_node : (m p : ℕ) → NodeOver K V E b (IsNode K V E b m) p → IsNode K V E b (suc m) p
+  unfolding IsNode
+  close_node m p h = h
+
+  module _ (k : IsLawful K) (v : IsLawful V) (fits : IsTrue (are_fitting K V E)) where
+    entry_stands : (m : List (K.Value × V.Value)) (p i lo lo2 : ℕ) → Entries K V E b p i lo lo2 m → (j : ℕ) → i ≤ j → j < i + length m → EntryStands K V E b (p, j)
+    entry_stands [] p i lo lo2 h j low high = absurd (omega arith)
+    entry_stands (e ∷ m) p i lo lo2 h j low high =
+        let room = room_of K V E k v fits in
+        elim (cases_lt i j) [
+          | inl after ↦ entry_stands m p (i + 1) h.1 lo2 h.4 j (omega arith) (omega arith)
+          | inr here ↦
+              let same : j ≡ i = omega arith in
+              rw same (record { key = stands_of k room.key b lo p _ h.0 e.0 h.2; value = stands_of v room.value b h.0 p _ h.1 e.1 h.3 })
+        ]
+
+    starts_before : (t : Tree (K.Value × V.Value)) (lo hi p : ℕ) → Spells K V E b lo hi p t → p < hi
+    starts_before (leaf m) lo hi p h = let room = room_of K V E k v fits in let inside = h.0.room in let parts = room.parts.leaf in omega (arith, room.eight)
+    starts_before (inner row) lo hi p h = let room = room_of K V E k v fits in let inside = h.0.room in let parts = room.parts.leaf in omega (arith, room.eight)
+
+    mutual
+      -- where a tree is spelled, a tree of that many levels stands
+      pub spelled_node : (t : Tree (K.Value × V.Value)) (levels lo hi p : ℕ) → Spells K V E b lo hi p t → height t ≤ levels → hi ≤ length b → IsNode K V E b levels p
+      spelled_node (leaf m) zero lo hi p h d close = absurd (omega arith)
+      spelled_node (inner row) zero lo hi p h d close = absurd (omega arith)
+      spelled_node (leaf m) (suc levels) lo hi p h d close =
+          let room = h.0.room in
+          let few = h.2 in
+          let e : is_leaf (shape K V E) b p ≡ true = eq-eqb (slice_index b p) 0 h.0.kind_byte in
+          close_node levels p record {
+            leaf_inside = omega arith;
+            inner_inside = λ no. absurd (cc (e, no));
+            count = rw (e, h.1) few;
+            stand = λ i low. entry_stands m p 0 lo h.3 h.4 i (omega arith) (rw (e, h.1) at low);
+            leads = λ no. absurd (cc (e, no));
+            below = λ no. absurd (cc (e, no));
+          }
+      spelled_node (inner row) (suc levels) lo hi p h d close =
+          let room = h.0.room in
+          let kind = h.0.kind_byte in
+          let parts = (room_of K V E k v fits).parts.leaf in
+          let e : is_leaf (shape K V E) b p ≡ false = ne_eqb (slice_index b p) 0 (omega arith) in
+          let many = h.1 in
+          let low = row_leads row levels p 0 lo h.2 h.3 many (omega arith) (omega arith) in
+          close_node levels p record {
+            leaf_inside = omega arith;
+            inner_inside = λ no. omega arith;
+            count = rw e (omega arith);
+            stand = λ i less. entry_stands (row_entries row) p 0 h.2 h.4 h.5 i (omega arith) (let l : i < E = rw e at less in omega arith);
+            leads = λ no i le. (low i (omega arith) le).0;
+            below = λ no i q le. (low i (omega arith) le).1 q;
+          }
+
+      -- and so do nodes where the pointers of a row lead
+      pub row_leads : (row : Row (K.Value × V.Value)) (levels p i lo mid : ℕ) → SpellsRow K V E b p i lo mid row → i + length (row_entries row) ≡ E → row_height row ≤ levels → p ≤ length b
+          → (j : ℕ) → i ≤ j → j ≤ E → LeadsBefore p (target_at b (p + pointer_at (shape K V E) j)) × ((q : ℕ) → child_place (shape K V E) b p j ≡ Some q → IsNode K V E b levels q)
+      row_leads (last c) levels p i lo mid h n d close j low high =
+          let same : j ≡ i = omega arith in
+          rw same (child_leads c levels p i lo mid h d close)
+      row_leads (step c e row) levels p i lo mid h n d close j low high =
+          elim (cases_lt i j) [
+            | inl after ↦ row_leads row levels p (i + 1) h.0 mid h.2 (omega arith) (omega arith) close j (omega arith) high
+            | inr here ↦ let same : j ≡ i = omega arith in rw same (child_leads c levels p i lo h.0 h.1 (omega arith) close)
+          ]
+
+      pub child_leads : (c : Child (K.Value × V.Value)) (levels p i lo next : ℕ) → SpellsChild K V E b p i lo next c → child_height c ≤ levels → p ≤ length b
+          → LeadsBefore p (target_at b (p + pointer_at (shape K V E) i)) × ((q : ℕ) → child_place (shape K V E) b p i ≡ Some q → IsNode K V E b levels q)
+      child_leads absent levels p i lo next h d close = rw h.0 (tt, λ q to. absurd (cc to))
+      child_leads (child t) levels p i lo next h d close =
+          let node = spelled_node t levels lo p h.0 h.2 d close in
+          rw h.1 (starts_before t lo p h.0 h.2, λ q to. let same : q ≡ h.0 = cc to in rw same node)
