@@ -1,6 +1,7 @@
 -- Where a tree is spelled, nodes stand.
-use Rattle.std.proofs.Common.{◌≡◌, ℕ, zero, suc, ◌+◌, ◌≤◌, ◌<◌, IsTrue, List, [], ◌∷◌, length, refl, arith, true, false, Some, None, slice_index, inl, inr}
+use Rattle.std.proofs.Common.{◌≡◌, ℕ, zero, suc, ◌+◌, ◌≤◌, ◌<◌, IsTrue, List, [], ◌∷◌, length, refl, arith, true, false, Option, Some, None, slice_index, inl, inr}
 use Rattle.std.proofs.lemmas.Bool.{eq-eqb, ne_eqb, cases_lt}
+use Rattle.std.specs.Prelude.{ℤ, pos, negsuc}
 use Rattle.rkyv_btree_base.specs.Bytes.{number_at, target_at}
 use Rattle.rkyv_btree_base.specs.Kind.{Kind, IsLawful}
 use Rattle.rkyv_btree_base.specs.Layout.{shape, are_fitting, pointer_at, leaf_size, inner_size}
@@ -9,7 +10,7 @@ use Rattle.rkyv_btree_base.specs.Tree.{Tree, leaf, inner, Row, last, step, Child
 use Rattle.rkyv_btree_base.specs.Views.{stands_of}
 use Rattle.rkyv_btree_base.specs.laws.Places.{EntryStands}
 use Rattle.rkyv_btree_base.specs.laws.Sizes.{room_of}
-use Rattle.rkyv_btree.specs.Node.{LeadsBefore, is_leaf, entry_count, child_place, NodeOver, IsNode}
+use Rattle.rkyv_btree.specs.Node.{natural, LeadsBefore, is_leaf, entry_count, child_place, NodeOver, IsNode}
 
 module _ (K V : Kind) (E : ℕ) (b : List ℕ) where
   -- a node has a level of its own, and its children have the others
@@ -21,6 +22,36 @@ module _ (K V : Kind) (E : ℕ) (b : List ℕ) where
   pub close_node : (m p : ℕ) → NodeOver K V E b (IsNode K V E b m) p → IsNode K V E b (suc m) p
   unfolding IsNode
   close_node m p h = h
+
+  -- what a walk asks of a node that stands, whatever lies below it
+  pub node_leaf_inside : (levels p : ℕ) → IsNode K V E b levels p → p + leaf_size (shape K V E) ≤ length b
+  node_leaf_inside levels p node = (open_node levels p node).2.leaf_inside
+
+  pub node_inner_inside : (levels p : ℕ) → IsNode K V E b levels p → is_leaf (shape K V E) b p ≡ false → p + inner_size (shape K V E) ≤ length b
+  node_inner_inside levels p node = (open_node levels p node).2.inner_inside
+
+  pub node_count : (levels p : ℕ) → IsNode K V E b levels p → entry_count (shape K V E) b p ≤ E
+  node_count levels p node = (open_node levels p node).2.count
+
+  pub node_stand : (levels p : ℕ) → IsNode K V E b levels p → (i : ℕ) → i < entry_count (shape K V E) b p → EntryStands K V E b (p, i)
+  node_stand levels p node = (open_node levels p node).2.stand
+
+  pub node_leads : (levels p : ℕ) → IsNode K V E b levels p → is_leaf (shape K V E) b p ≡ false → (i : ℕ) → i ≤ E → LeadsBefore p (target_at b (p + pointer_at (shape K V E) i))
+  node_leads levels p node = (open_node levels p node).2.leads
+
+  leads_before : (p q : ℕ) (t : Option ℤ) → LeadsBefore p t → natural t ≡ Some q → q < p
+  leads_before p q None h e = absurd (cc e)
+  leads_before p q (Some (negsuc n)) h e = absurd h
+  leads_before p q (Some (pos r)) h e = let same : r ≡ q = cc e in omega arith
+
+  -- the children of a node stand before it, with a level less
+  pub node_child : (levels p : ℕ) → IsNode K V E b (suc levels) p → is_leaf (shape K V E) b p ≡ false → (i q : ℕ) → i ≤ E → child_place (shape K V E) b p i ≡ Some q → (q < p) × IsNode K V E b levels q
+  unfolding IsNode
+  node_child levels p node e i q le to = (leads_before p q (target_at b (p + pointer_at (shape K V E) i)) (node.leads e i le) to, node.below e i q le to)
+
+  -- an inner node has as many entries as there is room for
+  pub inner_count : (p : ℕ) → is_leaf (shape K V E) b p ≡ false → entry_count (shape K V E) b p ≡ E
+  inner_count p e = rw e refl
 
   module _ (k : IsLawful K) (v : IsLawful V) (fits : IsTrue (are_fitting K V E)) where
     entry_stands : (m : List (K.Value × V.Value)) (p i lo lo2 : ℕ) → Entries K V E b p i lo lo2 m → (j : ℕ) → i ≤ j → j < i + length m → EntryStands K V E b (p, j)
@@ -51,7 +82,7 @@ module _ (K V : Kind) (E : ℕ) (b : List ℕ) where
             leaf_inside = omega arith;
             inner_inside = λ no. absurd (cc (e, no));
             count = rw (e, h.1) few;
-            stand = λ i low. entry_stands m p 0 lo h.3 h.4 i (omega arith) (rw (e, h.1) at low);
+            stand = λ i low. entry_stands m p 0 lo h.3 h.4 i (omega arith) (let l : i < length m = rw (e, h.1) at low in omega arith);
             leads = λ no. absurd (cc (e, no));
             below = λ no. absurd (cc (e, no));
           }
@@ -61,7 +92,7 @@ module _ (K V : Kind) (E : ℕ) (b : List ℕ) where
           let parts = (room_of K V E k v fits).parts.leaf in
           let e : is_leaf (shape K V E) b p ≡ false = ne_eqb (slice_index b p) 0 (omega arith) in
           let many = h.1 in
-          let low = row_leads row levels p 0 lo h.2 h.3 many (omega arith) (omega arith) in
+          let low = row_leads row levels p 0 lo h.2 h.3 (omega arith) (omega arith) (omega arith) in
           close_node levels p record {
             leaf_inside = omega arith;
             inner_inside = λ no. omega arith;

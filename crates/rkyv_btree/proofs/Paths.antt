@@ -10,7 +10,7 @@ use Rattle.rkyv_btree_base.specs.Read.{run, child_of, row_at, tree_at}
 use Rattle.rkyv_btree_base.specs.Tree.{Tree, list, row_list, child_list}
 use Rattle.rkyv_btree.specs.Node.{natural, is_leaf, entry_count, child_place, IsNode}
 use Rattle.rkyv_btree.specs.Path.{entries_of, row_rest, node_rest, path_rest, IsPath}
-use Rattle.rkyv_btree.proofs.Nodes.{open_node}
+use Rattle.rkyv_btree.proofs.Nodes.{open_node, node_child, inner_count}
 
 module _ (s : Shape) (b : List ℕ) where
   row_splits : (below : ℕ → Tree (ℕ × ℕ)) (p n i : ℕ) → row_list (row_at s b below p n i) ≡ child_list (child_of s b below (target_at b (p + pointer_at s i))) ++ row_rest s b below p n i
@@ -99,3 +99,83 @@ module _ (K V : Kind) (E : ℕ) (b : List ℕ) where
   path_length n [] path = omega arith
   path_length zero (f ∷ fs) path = absurd path
   path_length (suc n) (f ∷ fs) path = let r = path_length n fs path.2 in omega (arith, r)
+
+-- a node is put on a path, at the level below the last
+module _ (K V : Kind) (E : ℕ) (b : List ℕ) (n p : ℕ) (fs : List (ℕ × ℕ)) (path : IsPath K V E b n fs) (node : IsNode K V E b (n - length fs) p) where
+  pub put_short : length fs < n
+  put_short = let o = open_node K V E b (n - length fs) p node in omega (arith, o.1)
+
+  pub put_path : IsPath K V E b n (fs ++ (p, 0) ∷ [])
+  put_path =
+      let o = open_node K V E b (n - length fs) p node in
+      path_snoc K V E b n o.0 fs (p, 0) (omega (arith, o.1)) path (rw o.1 at node) (omega arith)
+
+  pub put_leaf : is_leaf (shape K V E) b p ≡ true → path_rest (shape K V E) b n (fs ++ (p, 0) ∷ []) ≡ entries_of (shape K V E) b (n - length fs) p ++ path_rest (shape K V E) b n fs
+  put_leaf e =
+      let o = open_node K V E b (n - length fs) p node in
+      rw (o.1, all_leaf (shape K V E) b o.0 p e) (rest_snoc (shape K V E) b n o.0 fs (p, 0) (omega (arith, o.1)))
+
+  pub put_absent : is_leaf (shape K V E) b p ≡ false → child_place (shape K V E) b p 0 ≡ None → path_rest (shape K V E) b n (fs ++ (p, 0) ∷ []) ≡ entries_of (shape K V E) b (n - length fs) p ++ path_rest (shape K V E) b n fs
+  put_absent e none =
+      let o = open_node K V E b (n - length fs) p node in
+      rw (o.1, all_absent (shape K V E) b o.0 p e none) (rest_snoc (shape K V E) b n o.0 fs (p, 0) (omega (arith, o.1)))
+
+  put_over : (m q : ℕ) → n - length fs ≡ suc m → is_leaf (shape K V E) b p ≡ false → child_place (shape K V E) b p 0 ≡ Some q
+      → entries_of (shape K V E) b m q ++ path_rest (shape K V E) b n (fs ++ (p, 0) ∷ []) ≡ entries_of (shape K V E) b (n - length fs) p ++ path_rest (shape K V E) b n fs
+  put_over m q levels e to =
+      rw (rest_snoc (shape K V E) b n m fs (p, 0) (omega arith), levels, all_child (shape K V E) b m p q e to)
+      (sym (append_assoc (entries_of (shape K V E) b m q) (node_rest (shape K V E) b m p 0) (path_rest (shape K V E) b n fs)))
+
+  pub put_child : (q : ℕ) → is_leaf (shape K V E) b p ≡ false → child_place (shape K V E) b p 0 ≡ Some q → (m : ℕ) → m ≡ n - (length fs + 1) → (q < p) × IsNode K V E b m q
+      × (entries_of (shape K V E) b m q ++ path_rest (shape K V E) b n (fs ++ (p, 0) ∷ []) ≡ entries_of (shape K V E) b (n - length fs) p ++ path_rest (shape K V E) b n fs)
+  put_child q e to m less =
+      let o = open_node K V E b (n - length fs) p node in
+      let levels : n - length fs ≡ suc m = omega (arith, o.1) in
+      let below = node_child K V E b m p (rw levels at node) e 0 q (omega arith) to in
+      (below.0, below.1, put_over m q levels e to)
+
+-- the last node of a path is taken up again
+module _ (K V : Kind) (E : ℕ) (b : List ℕ) (n p i : ℕ) (fs : List (ℕ × ℕ)) (path : IsPath K V E b n (fs ++ (p, i) ∷ [])) where
+  pub pop_path : IsPath K V E b n fs
+  pop_path = (path_parts K V E b n fs (p, i) path).0
+
+  pub pop_node : (levels : ℕ) × IsNode K V E b levels p
+  pop_node = let r = path_parts K V E b n fs (p, i) path in (suc r.1, r.3)
+
+  pub pop_short : length fs < n
+  pop_short = let r = path_parts K V E b n fs (p, i) path in omega (arith, r.2)
+
+  pub pop_end : entry_count (shape K V E) b p ≤ i → path_rest (shape K V E) b n (fs ++ (p, i) ∷ []) ≡ path_rest (shape K V E) b n fs
+  pop_end h =
+      let r = path_parts K V E b n fs (p, i) path in
+      rest_snoc (shape K V E) b n r.1 fs (p, i) r.2 ∙ ap (λ xs. xs ++ path_rest (shape K V E) b n fs) (rest_end (shape K V E) b r.1 p i h)
+
+  module _ (more : i < entry_count (shape K V E) b p) where
+    pub take_path : IsPath K V E b n (fs ++ (p, i + 1) ∷ [])
+    take_path =
+        let r = path_parts K V E b n fs (p, i) path in
+        path_snoc K V E b n r.1 fs (p, i + 1) r.2 r.0 r.3 (omega arith)
+
+    pub take_leaf : is_leaf (shape K V E) b p ≡ true → path_rest (shape K V E) b n (fs ++ (p, i) ∷ []) ≡ (p, i) ∷ path_rest (shape K V E) b n (fs ++ (p, i + 1) ∷ [])
+    take_leaf e =
+        let r = path_parts K V E b n fs (p, i) path in
+        rw (rest_snoc (shape K V E) b n r.1 fs (p, i) r.2, rest_snoc (shape K V E) b n r.1 fs (p, i + 1) r.2, rest_leaf (shape K V E) b r.1 p i e more) refl
+
+    pub take_absent : is_leaf (shape K V E) b p ≡ false → child_place (shape K V E) b p (i + 1) ≡ None → path_rest (shape K V E) b n (fs ++ (p, i) ∷ []) ≡ (p, i) ∷ path_rest (shape K V E) b n (fs ++ (p, i + 1) ∷ [])
+    take_absent e none =
+        let r = path_parts K V E b n fs (p, i) path in
+        rw (rest_snoc (shape K V E) b n r.1 fs (p, i) r.2, rest_snoc (shape K V E) b n r.1 fs (p, i + 1) r.2, rest_absent (shape K V E) b r.1 p i e more none) refl
+
+    take_over : (m q : ℕ) → n ≡ length fs + suc m → is_leaf (shape K V E) b p ≡ false → child_place (shape K V E) b p (i + 1) ≡ Some q
+        → path_rest (shape K V E) b n (fs ++ (p, i) ∷ []) ≡ (p, i) ∷ (entries_of (shape K V E) b m q ++ path_rest (shape K V E) b n (fs ++ (p, i + 1) ∷ []))
+    take_over m q is e to =
+        rw (rest_snoc (shape K V E) b n m fs (p, i) is, rest_snoc (shape K V E) b n m fs (p, i + 1) is, rest_child (shape K V E) b m p i q e more to)
+        (ap (λ xs. (p, i) ∷ xs) (append_assoc (entries_of (shape K V E) b m q) (node_rest (shape K V E) b m p (i + 1)) (path_rest (shape K V E) b n fs)))
+
+    pub take_child : (q : ℕ) → is_leaf (shape K V E) b p ≡ false → child_place (shape K V E) b p (i + 1) ≡ Some q → (m : ℕ) → m ≡ n - (length fs + 1)
+        → IsNode K V E b m q × (path_rest (shape K V E) b n (fs ++ (p, i) ∷ []) ≡ (p, i) ∷ (entries_of (shape K V E) b m q ++ path_rest (shape K V E) b n (fs ++ (p, i + 1) ∷ [])))
+    take_child q e to m less =
+        let r = path_parts K V E b n fs (p, i) path in
+        let same : m ≡ r.1 = omega (arith, r.2) in
+        let full = inner_count K V E b p e in
+        rw same ((node_child K V E b r.1 p r.3 e (i + 1) q (omega arith) to).1, take_over r.1 q r.2 e to)

@@ -5,3 +5,4 @@ pub use rkyv_btree_base as base;
 
 pub mod map;
 pub mod view;
+mod walk;

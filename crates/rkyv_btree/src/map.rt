@@ -1,6 +1,6 @@
 //! Archived maps, read in place.
 ghost use Rattle.std.specs.Prelude.{◌≡◌, ◌≤◌, ◌+◌, ℕ, IsTrue, List, length, ◌↔◌, []};
-ghost use Rattle.rkyv_btree_base.specs.Layout.{shape, are_fitting, key_at, value_at, len_at, pointer_at};
+ghost use Rattle.rkyv_btree_base.specs.Layout.{shape, are_fitting, key_at, value_at, len_at, leaf_size, pointer_at, inner_size};
 ghost use Rattle.rkyv_btree_base.specs.Map.{map_kind};
 ghost use Rattle.rkyv_btree_base.specs.Read.{read_map};
 ghost use Rattle.rkyv_btree_base.specs.Spells.{Accepted};
@@ -45,13 +45,15 @@ pub trait ArchivedMap: Portable {
     /// Where a leaf's length stands.
     fn len_at() -> u32
         requires { IsTrue (are_fitting Self.Key.kind Self.Mapped.kind room) }
-        ensures { result ≡ len_at (shape Self.Key.kind Self.Mapped.kind room) };
+        ensures value { result ≡ len_at (shape Self.Key.kind Self.Mapped.kind room) }
+        ensures inside { result + 4 ≤ leaf_size (shape Self.Key.kind Self.Mapped.kind room) };
 
     /// Where pointer `i` of an inner node stands.
     fn pointer_at(i: usize) -> u32
         requires fitting { IsTrue (are_fitting Self.Key.kind Self.Mapped.kind room) }
         requires within { i ≤ room }
-        ensures { result ≡ pointer_at (shape Self.Key.kind Self.Mapped.kind room) i };
+        ensures value { result ≡ pointer_at (shape Self.Key.kind Self.Mapped.kind room) i }
+        ensures inside { result + 4 ≤ inner_size (shape Self.Key.kind Self.Mapped.kind room) };
 }
 
 impl<K: Portable, V: Portable, const E: usize> ArchivedMap for ArchivedBTreeMap<K, V, E> {

@@ -1,0 +1,130 @@
+//! Steps along the entries of a tree, over the path of nodes from its root.
+ghost use Rattle.std.specs.Prelude.{◌≡◌, ℕ, ◌+◌, ◌-◌, ◌≤◌, ◌<◌, List, [], ◌∷◌, ◌++◌, length, IfSome, MatchOption, IsTrue, Some};
+ghost use Rattle.rkyv_btree_base.specs.Bytes.{place_at, target_at};
+ghost use Rattle.rkyv_btree_base.specs.Layout.{shape, are_fitting, key_at, value_at, leaf_size, inner_size, pointer_at};
+ghost use Rattle.rkyv_btree_base.specs.Read.{map_tree};
+ghost use Rattle.rkyv_btree_base.specs.Tree.{list};
+ghost use Rattle.rkyv_btree_base.specs.laws.Places.{EntryStands};
+ghost use Rattle.rkyv_btree.specs.Node.{natural, LeadsBefore, is_leaf as is_leaf_at, entry_count as count_of, child_place, IsNode};
+ghost use Rattle.rkyv_btree.specs.Path.{entries_of, path_rest, IsPath};
+
+use crate::map::ArchivedMap;
+use crate::view::View;
+use arrayvec::ArrayVec;
+use rkyv_btree_base::bytes::{num32, target};
+
+/// The nodes from the root on, one a level, each with the number of its next entry.
+pub(crate) type Path = ArrayVec<(u32, usize), 32>;
+
+/// The position of a node that stands before another one.
+fn node_at(place: i64, end: u32) -> u32
+    requires { LeadsBefore end (Some place) }
+    ensures { natural (Some place) ≡ Some result }
+{
+    place as u32
+}
+
+/// Whether the node at `node` is a leaf.
+fn is_leaf<M: ArchivedMap>(buf: &[u8], node: u32) -> bool
+    requires { node < length buf.now }
+    ensures { result ≡ is_leaf_at (shape M.Key.kind M.Mapped.kind M.room) buf.now node }
+{
+    buf[node as usize] == 0
+}
+
+/// The number of entries in the node at `node`.
+fn entry_count<M: ArchivedMap>(buf: &[u8], node: u32) -> usize
+    requires fitting { IsTrue (are_fitting M.Key.kind M.Mapped.kind M.room) }
+    requires short { length buf.now ≤ 4294967295 }
+    requires inside { node + leaf_size (shape M.Key.kind M.Mapped.kind M.room) ≤ length buf.now }
+    ensures { result ≡ count_of (shape M.Key.kind M.Mapped.kind M.room) buf.now node }
+{
+    if is_leaf::<M>(buf, node) {
+        num32(buf, node + M::len_at()) as usize
+    } else {
+        M::capacity()
+    }
+}
+
+/// The node to which pointer `i` of the inner node at `node` leads.
+fn child<M: ArchivedMap>(buf: &[u8], node: u32, i: usize) -> Option<u32>
+    requires fitting { IsTrue (are_fitting M.Key.kind M.Mapped.kind M.room) }
+    requires short { length buf.now ≤ 4294967295 }
+    requires within { i ≤ M.room }
+    requires inside { node + inner_size (shape M.Key.kind M.Mapped.kind M.room) ≤ length buf.now }
+    requires leads { LeadsBefore node (target_at buf.now (node + pointer_at (shape M.Key.kind M.Mapped.kind M.room) i)) }
+    ensures { result ≡ child_place (shape M.Key.kind M.Mapped.kind M.room) buf.now node i }
+{
+    match target(buf, node + M::pointer_at(i)) {
+        None => None,
+        Some(place) => Some(node_at(place, node)),
+    }
+}
+
+/// Where the key of entry `i` of the node at `node` stands.
+pub(crate) fn key_pos<M: ArchivedMap>(node: u32, i: usize) -> u32
+    requires fitting { IsTrue (are_fitting M.Key.kind M.Mapped.kind M.room) }
+    requires within { i < M.room }
+    requires near { node + leaf_size (shape M.Key.kind M.Mapped.kind M.room) ≤ 4294967295 }
+    ensures { result ≡ node + key_at (shape M.Key.kind M.Mapped.kind M.room) i }
+{
+    node + M::key_at(i)
+}
+
+/// Where the value of entry `i` of the node at `node` stands.
+pub(crate) fn value_pos<M: ArchivedMap>(node: u32, i: usize) -> u32
+    requires fitting { IsTrue (are_fitting M.Key.kind M.Mapped.kind M.room) }
+    requires within { i < M.room }
+    requires near { node + leaf_size (shape M.Key.kind M.Mapped.kind M.room) ≤ 4294967295 }
+    ensures { result ≡ node + value_at (shape M.Key.kind M.Mapped.kind M.room) i }
+{
+    node + M::value_at(i)
+}
+
+/// Puts the node at `node` on the path, and below it first child after first child.
+fn descend<M: ArchivedMap>(buf: &[u8], node: u32, path: &mut Path)
+    requires fitting { IsTrue (are_fitting M.Key.kind M.Mapped.kind M.room) }
+    requires short { length buf.now ≤ 4294967295 }
+    requires path { IsPath M.Key.kind M.Mapped.kind M.room buf.now 32 path.old.items }
+    requires node { IsNode M.Key.kind M.Mapped.kind M.room buf.now (32 - length path.old.items) node }
+    ensures path { IsPath M.Key.kind M.Mapped.kind M.room buf.now 32 path.new.items }
+    ensures rest { path_rest (shape M.Key.kind M.Mapped.kind M.room) buf.now 32 path.new.items ≡ entries_of (shape M.Key.kind M.Mapped.kind M.room) buf.now (32 - length path.old.items) node ++ path_rest (shape M.Key.kind M.Mapped.kind M.room) buf.now 32 path.old.items }
+{
+    let mut at = node;
+    'down: loop {
+        path.push((at, 0));
+        if is_leaf::<M>(buf, at) {
+            return;
+        }
+        match child::<M>(buf, at, 0) {
+            None => return,
+            Some(next) => at = next,
+        }
+    }
+}
+
+/// Takes the first entry that is left of the path.
+pub(crate) fn advance<M: ArchivedMap>(buf: &[u8], path: &mut Path) -> Option<(u32, usize)>
+    requires fitting { IsTrue (are_fitting M.Key.kind M.Mapped.kind M.room) }
+    requires short { length buf.now ≤ 4294967295 }
+    requires path { IsPath M.Key.kind M.Mapped.kind M.room buf.now 32 path.old.items }
+    ensures path { IsPath M.Key.kind M.Mapped.kind M.room buf.now 32 path.new.items }
+    ensures stands { IfSome result (EntryStands M.Key.kind M.Mapped.kind M.room buf.now) }
+    ensures within { IfSome result (λ e. e.1 < M.room) }
+    ensures near { IfSome result (λ e. e.0 + leaf_size (shape M.Key.kind M.Mapped.kind M.room) ≤ 4294967295) }
+    ensures rest { MatchOption result ((path_rest (shape M.Key.kind M.Mapped.kind M.room) buf.now 32 path.old.items ≡ []) × (path_rest (shape M.Key.kind M.Mapped.kind M.room) buf.now 32 path.new.items ≡ [])) (λ e. path_rest (shape M.Key.kind M.Mapped.kind M.room) buf.now 32 path.old.items ≡ e ∷ path_rest (shape M.Key.kind M.Mapped.kind M.room) buf.now 32 path.new.items) }
+{
+    'up: while let Some((node, index)) = path.pop() {
+        if index < entry_count::<M>(buf, node) {
+            path.push((node, index + 1));
+            if !is_leaf::<M>(buf, node) {
+                match child::<M>(buf, node, index + 1) {
+                    None => {}
+                    Some(next) => descend::<M>(buf, next, path),
+                }
+            }
+            return Some((node, index));
+        }
+    }
+    None
+}
