@@ -1,2 +1,5 @@
 pub mod Nodes
 pub mod Paths
+pub mod Props
+pub mod Roots
+pub mod Visits

@@ -65,7 +65,7 @@ module _ (K V : Kind) (E : ℕ) (b : List ℕ) where
               rw same (record { key = stands_of k room.key b lo p _ h.0 e.0 h.2; value = stands_of v room.value b h.0 p _ h.1 e.1 h.3 })
         ]
 
-    starts_before : (t : Tree (K.Value × V.Value)) (lo hi p : ℕ) → Spells K V E b lo hi p t → p < hi
+    pub starts_before : (t : Tree (K.Value × V.Value)) (lo hi p : ℕ) → Spells K V E b lo hi p t → p < hi
     starts_before (leaf m) lo hi p h = let room = room_of K V E k v fits in let inside = h.0.room in let parts = room.parts.leaf in omega (arith, room.eight)
     starts_before (inner row) lo hi p h = let room = room_of K V E k v fits in let inside = h.0.room in let parts = room.parts.leaf in omega (arith, room.eight)
 

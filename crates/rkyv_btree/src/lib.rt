@@ -3,6 +3,8 @@
 
 pub use rkyv_btree_base as base;
 
+mod iter;
 pub mod map;
 pub mod view;
+mod visit;
 mod walk;

@@ -81,6 +81,17 @@ pub(crate) fn value_pos<M: ArchivedMap>(node: u32, i: usize) -> u32
     node + M::value_at(i)
 }
 
+/// The root node of the map at `pos`.
+#[tactic(auto, unfolding(rkyv_btree_base::specs::Bytes::place_at))]
+fn root(buf: &[u8], pos: u32) -> u32
+    requires inside { pos + 4 ≤ length buf.now }
+    requires leads { LeadsBefore pos (Some (place_at buf.now pos)) }
+    ensures { natural (Some (place_at buf.now pos)) ≡ Some result }
+{
+    let offset = num32(buf, pos).cast_signed();
+    node_at(i64::from(pos) + i64::from(offset), pos)
+}
+
 /// Puts the node at `node` on the path, and below it first child after first child.
 fn descend<M: ArchivedMap>(buf: &[u8], node: u32, path: &mut Path)
     requires fitting { IsTrue (are_fitting M.Key.kind M.Mapped.kind M.room) }
@@ -127,4 +138,16 @@ pub(crate) fn advance<M: ArchivedMap>(buf: &[u8], path: &mut Path) -> Option<(u3
         }
     }
     None
+}
+
+/// Puts the nodes from a map's root to its first entry on an empty path.
+pub(crate) fn begin<M: ArchivedMap>(map: View<'_, M>, path: &mut Path)
+    requires { path.old.items ≡ [] }
+    ensures path { IsPath M.Key.kind M.Mapped.kind M.room map.entry.buf.now 32 path.new.items }
+    ensures rest { path_rest (shape M.Key.kind M.Mapped.kind M.room) map.entry.buf.now 32 path.new.items ≡ list (map_tree (shape M.Key.kind M.Mapped.kind M.room) map.entry.buf.now map.entry.pos) }
+{
+    M::opened(&map);
+    if map.len() > 0 {
+        descend::<M>(map.buf, root(map.buf, map.pos), path);
+    }
 }
