@@ -8,3 +8,6 @@ pub mod map;
 pub mod view;
 mod visit;
 mod walk;
+
+#[cfg(test)]
+mod tests;
