@@ -1,3 +1,4 @@
+pub mod Archives
 pub mod Nodes
 pub mod Paths
 pub mod Props

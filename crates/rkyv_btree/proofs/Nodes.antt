@@ -2,7 +2,7 @@
 use Rattle.std.proofs.Common.{◌≡◌, ℕ, zero, suc, ◌+◌, ◌≤◌, ◌<◌, IsTrue, List, [], ◌∷◌, length, refl, arith, true, false, Option, Some, None, slice_index, inl, inr}
 use Rattle.std.proofs.lemmas.Bool.{eq-eqb, ne_eqb, cases_lt}
 use Rattle.std.specs.Prelude.{ℤ, pos, negsuc}
-use Rattle.rkyv_btree_base.specs.Bytes.{number_at, target_at}
+use Rattle.rkyv_btree_base.specs.Bytes.{target_at}
 use Rattle.rkyv_btree_base.specs.Kind.{Kind, IsLawful}
 use Rattle.rkyv_btree_base.specs.Layout.{shape, are_fitting, pointer_at, leaf_size, inner_size}
 use Rattle.rkyv_btree_base.specs.Spells.{Entries, Spells, SpellsRow, SpellsChild}

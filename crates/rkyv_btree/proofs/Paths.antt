@@ -6,7 +6,7 @@ use Rattle.std.specs.Prelude.{ℤ, pos, negsuc}
 use Rattle.rkyv_btree_base.specs.Bytes.{number_at, target_at}
 use Rattle.rkyv_btree_base.specs.Kind.{Kind}
 use Rattle.rkyv_btree_base.specs.Layout.{Shape, shape, len_at, pointer_at}
-use Rattle.rkyv_btree_base.specs.Read.{run, child_of, row_at, tree_at}
+use Rattle.rkyv_btree_base.specs.Read.{child_of, row_at, tree_at}
 use Rattle.rkyv_btree_base.specs.Tree.{Tree, list, row_list, child_list}
 use Rattle.rkyv_btree.specs.Node.{natural, is_leaf, entry_count, child_place, IsNode}
 use Rattle.rkyv_btree.specs.Path.{entries_of, row_rest, node_rest, path_rest, IsPath}

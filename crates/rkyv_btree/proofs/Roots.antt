@@ -1,6 +1,6 @@
 -- Where a map stands, its root does.
-use Rattle.std.proofs.Common.{◌≡◌, ◌≢◌, ℕ, ◌+◌, ◌≤◌, ◌<◌, IsTrue, List, [], ◌∷◌, length, refl, sym, ◌∙◌, arith, Some, inl, inr}
-use Rattle.std.proofs.lemmas.Bool.{eq-eqb, ne_eqb}
+use Rattle.std.proofs.Common.{◌≡◌, ℕ, ◌+◌, ◌<◌, IsTrue, List, length, refl, arith, Some, inl, inr}
+use Rattle.std.proofs.lemmas.Bool.{ne_eqb}
 use Rattle.std.specs.Prelude.{ℤ, pos, negsuc}
 use Rattle.rkyv_btree_base.specs.Bytes.{number_at, place_at}
 use Rattle.rkyv_btree_base.specs.Kind.{Kind, IsLawful}

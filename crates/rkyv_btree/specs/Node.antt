@@ -1,5 +1,5 @@
 -- What a walk needs of the nodes that it meets.
-use Rattle.std.specs.Prelude.{◌≡◌, ℕ, zero, suc, ◌+◌, ◌≤◌, ◌<◌, List, length, Option, Some, None, Bool, true, false, ℤ, pos, negsuc, slice_index, nat_eq, if◌then◌else◌}
+use Rattle.std.specs.Prelude.{◌≡◌, ℕ, zero, suc, ◌+◌, ◌≤◌, ◌<◌, List, length, Option, Some, None, Bool, false, ℤ, pos, negsuc, slice_index, nat_eq, if◌then◌else◌}
 use Rattle.rkyv_btree_base.specs.Bytes.{number_at, target_at}
 use Rattle.rkyv_btree_base.specs.Kind.{Kind}
 use Rattle.rkyv_btree_base.specs.Layout.{Shape, shape, len_at, leaf_size, inner_size, pointer_at}

@@ -1,9 +1,9 @@
 -- Where a walk along the entries of a tree stands: a path of nodes from the root on.
-use Rattle.std.specs.Prelude.{ℕ, zero, suc, ◌+◌, ◌-◌, ◌≤◌, List, [], ◌∷◌, ◌++◌, if◌then◌else◌}
+use Rattle.std.specs.Prelude.{ℕ, zero, suc, ◌+◌, ◌-◌, ◌≤◌, List, [], ◌∷◌, ◌++◌, map, if◌then◌else◌}
 use Rattle.rkyv_btree_base.specs.Bytes.{number_at}
 use Rattle.rkyv_btree_base.specs.Kind.{Kind}
 use Rattle.rkyv_btree_base.specs.Layout.{Shape, shape, len_at}
-use Rattle.rkyv_btree_base.specs.Read.{run, row_at, tree_at}
+use Rattle.rkyv_btree_base.specs.Read.{run, row_at, tree_at, entry_at}
 use Rattle.rkyv_btree_base.specs.Tree.{Tree, row_list, list}
 use Rattle.rkyv_btree.specs.Node.{is_leaf, entry_count, IsNode}
 
@@ -26,6 +26,10 @@ module _ (s : Shape) (b : List ℕ) where
   path_rest levels [] = []
   path_rest zero (f ∷ fs) = []
   path_rest (suc levels) (f ∷ fs) = path_rest levels fs ++ node_rest levels f.0 f.1
+
+-- what the entries that are left of a path from a root on mean
+abbrev pub read_rest : (K V : Kind) → ℕ → List ℕ → List (ℕ × ℕ) → List (K.Value × V.Value)
+read_rest K V E b fs = map (entry_at K V E b) (path_rest (shape K V E) b 32 fs)
 
 -- a path of nodes, one a level
 abbrev pub IsPath : Kind → Kind → ℕ → List ℕ → ℕ → List (ℕ × ℕ) → Type 0

@@ -5,9 +5,8 @@ pub use rkyv_btree_base as base;
 
 mod iter;
 pub mod map;
+#[cfg(test)]
+mod tests;
 pub mod view;
 mod visit;
 mod walk;
-
-#[cfg(test)]
-mod tests;

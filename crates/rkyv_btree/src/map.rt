@@ -2,7 +2,6 @@
 ghost use Rattle.std.specs.Prelude.{◌≡◌, ◌≤◌, ◌+◌, ℕ, IsTrue, List, length, ◌↔◌, []};
 ghost use Rattle.rkyv_btree_base.specs.Layout.{shape, are_fitting, key_at, value_at, len_at, leaf_size, pointer_at, inner_size};
 ghost use Rattle.rkyv_btree_base.specs.Map.{map_kind};
-ghost use Rattle.rkyv_btree_base.specs.Read.{read_map};
 ghost use Rattle.rkyv_btree_base.specs.Spells.{Accepted};
 ghost use Rattle.rkyv_btree_base.specs.Views.{stands};
 
@@ -95,7 +94,7 @@ pub fn access_valid<'a, K: Portable, V: Portable, const E: usize>(
     requires accepted { (left : ℕ) × (m : List (K.kind.Value × V.kind.Value)) × Accepted K.kind V.kind E buf.now 0 pos pos left m }
     ensures buffer { result.buf.now ≡ buf.now }
     ensures position { result.pos ≡ pos }
-    ensures reads { (left : ℕ) (m : List (K.kind.Value × V.kind.Value)) → Accepted K.kind V.kind E buf.now 0 pos pos left m → read_map K.kind V.kind E buf.now pos ≡ m }
+    ensures reads { (left : ℕ) (m : List (K.kind.Value × V.kind.Value)) → Accepted K.kind V.kind E buf.now 0 pos pos left m → (map_kind K.kind V.kind E).read result.buf.now result.pos ≡ m }
 {
     View {
         buf,

@@ -82,7 +82,12 @@ impl View<'_, ArchivedU64> {
         ensures { result ≡ ⟦<ArchivedU64 as Portable>⟧.kind.read self.entry.buf.now self.entry.pos }
     {
         let at = self.pos as usize;
-        let low = [self.buf[at], self.buf[at + 1], self.buf[at + 2], self.buf[at + 3]];
+        let low = [
+            self.buf[at],
+            self.buf[at + 1],
+            self.buf[at + 2],
+            self.buf[at + 3],
+        ];
         let high = [
             self.buf[at + 4],
             self.buf[at + 5],

@@ -1,9 +1,7 @@
 //! Visits of all entries.
-ghost use Rattle.std.specs.Prelude.{◌≡◌, ℕ, List, map};
-ghost use Rattle.rkyv_btree_base.specs.Layout.{shape};
+ghost use Rattle.std.specs.Prelude.{◌≡◌, ℕ, List};
 ghost use Rattle.rkyv_btree_base.specs.Map.{map_kind};
-ghost use Rattle.rkyv_btree_base.specs.Read.{entry_at};
-ghost use Rattle.rkyv_btree.specs.Path.{path_rest};
+ghost use Rattle.rkyv_btree.specs.Path.{read_rest};
 ghost use Rattle.rkyv_btree.specs.Visit.{Visits};
 
 use crate::iter::Iter;
@@ -19,12 +17,9 @@ fn visit_rest<
     X: Shows<'a, M::Mapped>,
     T,
     F: FnMut(W, X) -> ControlFlow<T, ()>,
->(
-    rest: Iter<'a, M>,
-    mut visit: F,
-) -> Option<T>
+>(rest: Iter<'a, M>, mut visit: F) -> Option<T>
     requires { F.IsAlwaysCallable visit }
-    ensures { (last : F) × Visits (λ f w x r g. F.step f w x r g) (λ w x. (M.Key.kind.read (W.bytes w) (W.place w), M.Mapped.kind.read (X.bytes x) (X.place x))) visit (map (entry_at M.Key.kind M.Mapped.kind M.room rest.entry.buf.now) (path_rest (shape M.Key.kind M.Mapped.kind M.room) rest.entry.buf.now 32 rest.entry.path.items)) result last }
+    ensures { (last : F) × Visits (λ f w x r g. F.step f w x r g) (λ w x. (M.Key.kind.read (W.bytes w) (W.place w), M.Mapped.kind.read (X.bytes x) (X.place x))) visit (read_rest M.Key.kind M.Mapped.kind M.room rest.entry.buf.now rest.entry.path.items) result last }
 {
     let mut left = rest;
     'along: while let Some((key, value)) = left.next() {
@@ -44,10 +39,7 @@ impl<'a, M: ArchivedMap> View<'a, M> {
         X: Shows<'a, M::Mapped>,
         T,
         F: FnMut(W, X) -> ControlFlow<T, ()>,
-    >(
-        self,
-        visit: F,
-    ) -> Option<T>
+    >(self, visit: F) -> Option<T>
         requires { F.IsAlwaysCallable visit }
         ensures { (last : F) × Visits (λ f w x r g. F.step f w x r g) (λ w x. (M.Key.kind.read (W.bytes w) (W.place w), M.Mapped.kind.read (X.bytes x) (X.place x))) visit ((map_kind M.Key.kind M.Mapped.kind M.room).read self.entry.buf.now self.entry.pos) result last }
     {

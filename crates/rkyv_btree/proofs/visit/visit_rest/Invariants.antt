@@ -1,7 +1,5 @@
-use Rattle.std.proofs.Common.{map, Option}
-use Rattle.rkyv_btree_base.specs.Layout.{shape}
-use Rattle.rkyv_btree_base.specs.Read.{entry_at}
-use Rattle.rkyv_btree.specs.Path.{path_rest}
+use Rattle.std.proofs.Common.{Option}
+use Rattle.rkyv_btree.specs.Path.{read_rest}
 use Rattle.rkyv_btree.specs.Visit.{Visits}
 use Rattle.rkyv_btree.proofs.visit.visit_rest.Given as goal
 
@@ -12,6 +10,6 @@ invariant-along g l =
     record {
       callable : goal.F-IsAlwaysCallable g l.visit;
       completes : (result : Option g.row.T.Denot) (last : g.row.F.Denot)
-        → Visits (λ f w x r h. goal.F-step g f w x r h) (λ w x. (K.read (g.W.Shows.bytes w) (g.W.Shows.place w), V.read (g.X.Shows.bytes x) (g.X.Shows.place x))) l.visit (map (entry_at K V E l.left.buf.now) (path_rest (shape K V E) l.left.buf.now 32 l.left.path.items)) result last
-        → Visits (λ f w x r h. goal.F-step g f w x r h) (λ w x. (K.read (g.W.Shows.bytes w) (g.W.Shows.place w), V.read (g.X.Shows.bytes x) (g.X.Shows.place x))) l.initial.visit (map (entry_at K V E l.initial.left.buf.now) (path_rest (shape K V E) l.initial.left.buf.now 32 l.initial.left.path.items)) result last;
+          → Visits (λ f w x r h. goal.F-step g f w x r h) (λ w x. (K.read (g.W.Shows.bytes w) (g.W.Shows.place w), V.read (g.X.Shows.bytes x) (g.X.Shows.place x))) l.visit (read_rest K V E l.left.buf.now l.left.path.items) result last
+          → Visits (λ f w x r h. goal.F-step g f w x r h) (λ w x. (K.read (g.W.Shows.bytes w) (g.W.Shows.place w), V.read (g.X.Shows.bytes x) (g.X.Shows.place x))) l.initial.visit (read_rest K V E l.initial.left.buf.now l.initial.left.path.items) result last;
     }

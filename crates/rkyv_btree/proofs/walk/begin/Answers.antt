@@ -1,9 +1,7 @@
 -- A map that stands has a root where it has entries.
-use Rattle.std.proofs.Common.{[], ◌≡◌, ◌-◌, ◌++◌, ◌∙◌, length, arith}
+use Rattle.std.proofs.Common.{◌∙◌, arith}
 use Rattle.std.proofs.lemmas.List.{append-nil}
-use Rattle.rkyv_btree_base.specs.Layout.{shape}
 use Rattle.rkyv_btree_base.specs.laws.MapLaws.{map_room, map_short}
-use Rattle.rkyv_btree.specs.Path.{entries_of, path_rest}
 use Rattle.rkyv_btree.proofs.Roots.{root_leads, root_node, root_list}
 use Rattle.rkyv_btree.proofs.walk.begin.Goals as goal
 

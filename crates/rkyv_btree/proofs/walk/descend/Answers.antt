@@ -1,4 +1,4 @@
-use Rattle.std.proofs.Common.{◌≡◌, ◌+◌, ◌-◌, ◌++◌, length, arith, sym, ◌∙◌, refl, ap}
+use Rattle.std.proofs.Common.{◌+◌, ◌-◌, ◌++◌, length, arith, sym, ◌∙◌, refl, ap}
 use Rattle.rkyv_btree_base.specs.Layout.{shape}
 use Rattle.rkyv_btree_base.specs.laws.Sizes.{room_of}
 use Rattle.rkyv_btree.specs.Path.{entries_of, path_rest}

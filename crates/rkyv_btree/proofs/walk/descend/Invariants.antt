@@ -12,7 +12,7 @@ invariant-down g l =
       path : IsPath K V E l.buf 32 l.path.items;
       node : IsNode K V E l.buf (32 - length l.path.items) l.at;
       rest : entries_of (shape K V E) l.buf (32 - length l.path.items) l.at ++ path_rest (shape K V E) l.buf 32 l.path.items
-        ≡ entries_of (shape K V E) l.buf (32 - length l.fn.path.items) l.node ++ path_rest (shape K V E) l.buf 32 l.fn.path.items;
+          ≡ entries_of (shape K V E) l.buf (32 - length l.fn.path.items) l.node ++ path_rest (shape K V E) l.buf 32 l.fn.path.items;
     }
 
 abbrev pub decreases-down : goal.decreases-down

@@ -1,6 +1,5 @@
 -- A key stands within its node.
 use Rattle.std.proofs.Common.{arith}
-use Rattle.rkyv_btree_base.specs.Layout.{shape}
 use Rattle.rkyv_btree_base.specs.laws.Sizes.{sound_of, key_inside}
 use Rattle.rkyv_btree.proofs.walk.key_pos.Goals as goal
 

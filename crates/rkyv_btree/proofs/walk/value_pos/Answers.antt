@@ -1,6 +1,5 @@
 -- A value stands within its node.
 use Rattle.std.proofs.Common.{arith}
-use Rattle.rkyv_btree_base.specs.Layout.{shape}
 use Rattle.rkyv_btree_base.specs.laws.Sizes.{sound_of, value_inside}
 use Rattle.rkyv_btree.proofs.walk.value_pos.Goals as goal
 
