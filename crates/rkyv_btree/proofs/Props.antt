@@ -6,7 +6,7 @@ use Rattle.std.specs.Prelude.{ℤ, pos, negsuc}
 use mathlib.Core.Logic.{∥∥₁_elim}
 use Rattle.rkyv_btree_base.specs.Kind.{Kind}
 use Rattle.rkyv_btree_base.specs.laws.Places.{EntryStands}
-use Rattle.rkyv_btree.specs.Node.{LeadsBefore, NodeOver, IsNode}
+use Rattle.rkyv_btree.specs.Node.{LeadsBefore, NodeStands, TreeStands}
 use Rattle.rkyv_btree.specs.Path.{IsPath}
 
 leads_prop : (p : ℕ) (t : Option ℤ) → IsProp (LeadsBefore p t)
@@ -18,21 +18,21 @@ module _ (K V : Kind) (E : ℕ) (b : List ℕ) where
   stands_prop : (e : ℕ × ℕ) → IsProp (EntryStands K V E b e)
   stands_prop e = hlevel Bool-set
 
-  node_over_prop : (Below : ℕ → Type 0) → ((q : ℕ) → IsProp (Below q)) → (p : ℕ) → IsProp (NodeOver K V E b Below p)
-  node_over_prop Below below p = hlevel (le_prop, leads_prop, stands_prop, below)
+  node_prop : (p : ℕ) → IsProp (NodeStands K V E b p)
+  node_prop p = hlevel (le_prop, leads_prop, stands_prop)
 
-  node_prop : (levels p : ℕ) → IsProp (IsNode K V E b levels p)
-  unfolding IsNode
-  node_prop zero p = hlevel
-  node_prop (suc levels) p = node_over_prop (IsNode K V E b levels) (node_prop levels) p
+  tree_prop : (levels p : ℕ) → IsProp (TreeStands K V E b levels p)
+  unfolding TreeStands
+  tree_prop zero p = hlevel
+  tree_prop (suc levels) p = let below = tree_prop levels in hlevel (node_prop, below)
 
   path_prop : (levels : ℕ) (fs : List (ℕ × ℕ)) → IsProp (IsPath K V E b levels fs)
   path_prop levels [] = hlevel
   path_prop zero (f ∷ fs) = hlevel
   path_prop (suc levels) (f ∷ fs) =
       let rest = path_prop levels fs in
-      let node = node_prop (suc levels) f.0 in
-      hlevel (le_prop, rest, node)
+      let tree = tree_prop (suc levels) f.0 in
+      hlevel (le_prop, rest, tree)
 
   pub path_had : (levels : ℕ) (fs : List (ℕ × ℕ)) → ∥ IsPath K V E b levels fs ∥₁ → IsPath K V E b levels fs
   path_had levels fs h = ∥∥₁_elim h (path_prop levels fs) (λ p. p)

@@ -11,7 +11,7 @@ natural None = None
 natural (Some (negsuc n)) = None
 natural (Some (pos q)) = Some q
 
--- a pointer leads nowhere, or before the node that it is of
+-- a pointer leads nowhere, or to a place before p
 abbrev pub LeadsBefore : ℕ → Option ℤ → Type 0
 LeadsBefore p None = Unit {0}
 LeadsBefore p (Some (negsuc n)) = ⊥
@@ -26,21 +26,20 @@ module _ (s : Shape) (b : List ℕ) where
   abbrev pub entry_count : ℕ → ℕ
   entry_count p = if is_leaf p then number_at b (p + len_at s) 4 else s.capacity
 
-  -- the node that its pointer number i leads to
+  -- its child number i, which stands before entry i, or behind the last one: a leaf has none
   abbrev pub child_place : ℕ → ℕ → Option ℕ
-  child_place p i = natural (target_at b (p + pointer_at s i))
+  child_place p i = if is_leaf p then None else natural (target_at b (p + pointer_at s i))
 
 module _ (K V : Kind) (E : ℕ) (b : List ℕ) where
-  -- the node at p lies in the buffer, its entries stand, and its pointers lead to nodes before it, `Below` which hold
-  pub record NodeOver (Below : ℕ → Type 0) (p : ℕ) : Type 0 where
+  -- the node at p lies in the buffer, its entries stand, and its pointers lead to places before it
+  pub record NodeStands (p : ℕ) : Type 0 where
     pub leaf_inside : p + leaf_size (shape K V E) ≤ length b
     pub inner_inside : is_leaf (shape K V E) b p ≡ false → p + inner_size (shape K V E) ≤ length b
     pub count : entry_count (shape K V E) b p ≤ E
-    pub stand : (i : ℕ) → i < entry_count (shape K V E) b p → EntryStands K V E b (p, i)
+    pub entries : (i : ℕ) → i < entry_count (shape K V E) b p → EntryStands K V E b (p, i)
     pub leads : is_leaf (shape K V E) b p ≡ false → (i : ℕ) → i ≤ E → LeadsBefore p (target_at b (p + pointer_at (shape K V E) i))
-    pub below : is_leaf (shape K V E) b p ≡ false → (i q : ℕ) → i ≤ E → child_place (shape K V E) b p i ≡ Some q → Below q
 
   -- a tree of at most so many levels stands at p
-  unfoldable pub IsNode : ℕ → ℕ → Type 0
-  IsNode zero p = ⊥
-  IsNode (suc levels) p = NodeOver (IsNode levels) p
+  unfoldable pub TreeStands : ℕ → ℕ → Type 0
+  TreeStands zero p = ⊥
+  TreeStands (suc levels) p = NodeStands p × ((i q : ℕ) → i ≤ E → child_place (shape K V E) b p i ≡ Some q → TreeStands levels q)

@@ -12,7 +12,8 @@ use rkyv_btree_base::layout;
 use rkyv_btree_base::map::ArchivedBTreeMap;
 use std::marker::PhantomData;
 
-/// A type of archived maps. Calls on a view of a map stand over it.
+/// A type of archived maps: what its keys and values are, and where they stand in a node. The calls on a view of a map
+/// stand over it. Positions in a node count from its first byte, which is its kind.
 pub trait ArchivedMap: Portable {
     type Key: Portable;
 
@@ -21,7 +22,7 @@ pub trait ArchivedMap: Portable {
     /// How many entries a node has room for.
     ghost room: { ℕ };
 
-    /// That a map stands, in the terms of its keys and values.
+    /// Does nothing: it says that a map stands, in the terms of its keys and values.
     fn opened(map: &View<'_, Self>)
         ensures { IsTrue (stands (map_kind Self.Key.kind Self.Mapped.kind room) map.now.buf.now map.now.pos) };
 
@@ -29,7 +30,7 @@ pub trait ArchivedMap: Portable {
     fn capacity() -> usize
         ensures { result ≡ room };
 
-    /// Where key `i` of a node stands, counted from its first byte.
+    /// Where key `i` of a node stands.
     fn key_at(i: usize) -> u32
         requires fitting { IsTrue (are_fitting Self.Key.kind Self.Mapped.kind room) }
         requires within { i ≤ room }
@@ -85,7 +86,8 @@ impl<K: Portable, V: Portable, const E: usize> ArchivedMap for ArchivedBTreeMap<
     }
 }
 
-/// The view of the map at `pos`, whose bytes mean some list in the window of all that stands before it.
+/// The view of the map at position `pos` of `buf`, whose bytes mean some list of entries in the window of all that
+/// stands before them. The list that the view reads is that one. Nothing is looked at.
 pub fn access_valid<'a, K: Portable, V: Portable, const E: usize>(
     buf: &'a [u8],
     pos: u32,
@@ -104,7 +106,7 @@ pub fn access_valid<'a, K: Portable, V: Portable, const E: usize>(
 }
 
 impl<'a, M: ArchivedMap> View<'a, M> {
-    /// The number of entries.
+    /// The number of entries, as the map's own bytes say it: the tree isn't walked.
     pub fn len(self) -> u32
         ensures { result ≡ length ((map_kind M.Key.kind M.Mapped.kind M.room).read self.entry.buf.now self.entry.pos) }
     {

@@ -8,11 +8,13 @@ use rkyv_btree_base::numbers::{ArchivedU32, ArchivedU64};
 use std::alloc::AllocError;
 use std::marker::PhantomData;
 
-/// A value at a position of a buffer, whose bytes there mean one.
+/// The value of `T` at position `pos` of `buf`, where the bytes mean one. All calls read in place: nothing is copied,
+/// and no memory is taken. A view is made by `access_valid`, or by a call on another view.
 pub struct View<'a, T: Portable> {
     pub buf: &'a [u8],
     pub pos: u32,
     pub of: PhantomData<T>,
+    // The type's own decision, so a call on a view asks nothing of its caller.
     pub ghost valid: { IsTrue (stands T.kind buf.now pos) },
 }
 
@@ -28,7 +30,8 @@ impl<'a, T: Portable> Clone for View<'a, T> {
     }
 }
 
-/// A type of views of `T`. `View` is the one: a closure's bound names it by a parameter.
+/// A type of views of `T`. `View<'a, T>` is the one: a call that takes a closure over views has a type parameter for
+/// each, which the closure's own types determine.
 pub trait Shows<'a, T: Portable> {
     /// The buffer in which the view's value stands.
     ghost bytes: { Self → List ℕ };
@@ -36,7 +39,7 @@ pub trait Shows<'a, T: Portable> {
     /// The position at which it stands.
     ghost place: { Self → ℕ };
 
-    /// The view of the value at `pos`.
+    /// The view of the value at position `pos` of `buf`.
     fn at(buf: &'a [u8], pos: u32) -> Self
         requires { IsTrue (stands T.kind buf.now pos) }
         ensures buffer { bytes result ≡ buf.now }
@@ -58,7 +61,7 @@ impl<'a, T: Portable> Shows<'a, T> for View<'a, T> {
 }
 
 impl View<'_, u8> {
-    /// The number.
+    /// The number at the view's position.
     pub fn to_native(self) -> u8
         ensures { result ≡ ⟦<u8 as Portable>⟧.kind.read self.entry.buf.now self.entry.pos }
     {
@@ -67,7 +70,7 @@ impl View<'_, u8> {
 }
 
 impl View<'_, ArchivedU32> {
-    /// The number.
+    /// The number of the four bytes from the view's position on, the least first.
     #[tactic(auto, unfolding(rkyv_btree_base::specs::Bytes::number_at))]
     pub fn to_native(self) -> u32
         ensures { result ≡ ⟦<ArchivedU32 as Portable>⟧.kind.read self.entry.buf.now self.entry.pos }
@@ -77,25 +80,20 @@ impl View<'_, ArchivedU32> {
 }
 
 impl View<'_, ArchivedU64> {
-    /// The number.
+    /// The number of the eight bytes from the view's position on, the least first.
     pub fn to_native(self) -> u64
         ensures { result ≡ ⟦<ArchivedU64 as Portable>⟧.kind.read self.entry.buf.now self.entry.pos }
     {
         let at = self.pos as usize;
-        let low = [
+        u64::from_le_bytes([
             self.buf[at],
             self.buf[at + 1],
             self.buf[at + 2],
             self.buf[at + 3],
-        ];
-        let high = [
             self.buf[at + 4],
             self.buf[at + 5],
             self.buf[at + 6],
             self.buf[at + 7],
-        ];
-        u64::from_le_bytes([
-            low[0], low[1], low[2], low[3], high[0], high[1], high[2], high[3],
         ])
     }
 }

@@ -32,8 +32,8 @@ fn visit_rest<
 }
 
 impl<'a, M: ArchivedMap> View<'a, M> {
-    /// Calls `visit` with the key and the value of each entry, in order, up to the first break, whose value it
-    /// answers. Where no call breaks, the answer is `None`.
+    /// Calls `visit` with the key and the value of each entry, in order, up to the first call that breaks, whose value
+    /// it answers. Where no call breaks, the answer is `None`. The walk takes no memory.
     pub fn visit<
         W: Shows<'a, M::Key>,
         X: Shows<'a, M::Mapped>,

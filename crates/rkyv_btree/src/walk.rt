@@ -1,19 +1,19 @@
 //! Steps along the entries of a tree, over the path of nodes from its root.
 ghost use Rattle.std.specs.Prelude.{◌≡◌, ℕ, ◌+◌, ◌-◌, ◌≤◌, ◌<◌, List, [], ◌∷◌, ◌++◌, length, IfSome, MatchOption, IsTrue, Some};
-ghost use Rattle.rkyv_btree_base.specs.Bytes.{place_at, target_at};
-ghost use Rattle.rkyv_btree_base.specs.Layout.{shape, are_fitting, key_at, value_at, leaf_size, inner_size, pointer_at};
+ghost use Rattle.rkyv_btree_base.specs.Bytes.{place_at};
+ghost use Rattle.rkyv_btree_base.specs.Layout.{shape, are_fitting, key_at, value_at, leaf_size};
 ghost use Rattle.rkyv_btree_base.specs.Read.{map_tree};
 ghost use Rattle.rkyv_btree_base.specs.Tree.{list};
 ghost use Rattle.rkyv_btree_base.specs.laws.Places.{EntryStands};
-ghost use Rattle.rkyv_btree.specs.Node.{natural, LeadsBefore, is_leaf as is_leaf_at, entry_count as count_of, child_place, IsNode};
-ghost use Rattle.rkyv_btree.specs.Path.{entries_of, path_rest, IsPath};
+ghost use Rattle.rkyv_btree.specs.Node.{natural, LeadsBefore, is_leaf as is_leaf_at, entry_count as count_of, child_place, NodeStands, TreeStands};
+ghost use Rattle.rkyv_btree.specs.Path.{tree_rest, path_rest, IsPath};
 
 use crate::map::ArchivedMap;
 use crate::view::View;
 use arrayvec::ArrayVec;
 use rkyv_btree_base::bytes::{num32, target};
 
-/// The nodes from the root on, one a level, each with the number of its next entry.
+/// The nodes from the root on, one a level, each with the number of its next entry. A tree has at most 32 levels.
 pub(crate) type Path = ArrayVec<(u32, usize), 32>;
 
 /// The position of a node that stands before another one.
@@ -26,7 +26,8 @@ fn node_at(place: i64, end: u32) -> u32
 
 /// Whether the node at `node` is a leaf.
 fn is_leaf<M: ArchivedMap>(buf: &[u8], node: u32) -> bool
-    requires { node < length buf.now }
+    requires fitting { IsTrue (are_fitting M.Key.kind M.Mapped.kind M.room) }
+    requires node { NodeStands M.Key.kind M.Mapped.kind M.room buf.now node }
     ensures { result ≡ is_leaf_at (shape M.Key.kind M.Mapped.kind M.room) buf.now node }
 {
     buf[node as usize] == 0
@@ -36,7 +37,7 @@ fn is_leaf<M: ArchivedMap>(buf: &[u8], node: u32) -> bool
 fn entry_count<M: ArchivedMap>(buf: &[u8], node: u32) -> usize
     requires fitting { IsTrue (are_fitting M.Key.kind M.Mapped.kind M.room) }
     requires short { length buf.now ≤ 4294967295 }
-    requires inside { node + leaf_size (shape M.Key.kind M.Mapped.kind M.room) ≤ length buf.now }
+    requires node { NodeStands M.Key.kind M.Mapped.kind M.room buf.now node }
     ensures { result ≡ count_of (shape M.Key.kind M.Mapped.kind M.room) buf.now node }
 {
     if is_leaf::<M>(buf, node) {
@@ -46,15 +47,17 @@ fn entry_count<M: ArchivedMap>(buf: &[u8], node: u32) -> usize
     }
 }
 
-/// The node to which pointer `i` of the inner node at `node` leads.
+/// The child before entry `i` of the node at `node`, or behind its last entry. A leaf has none.
 fn child<M: ArchivedMap>(buf: &[u8], node: u32, i: usize) -> Option<u32>
     requires fitting { IsTrue (are_fitting M.Key.kind M.Mapped.kind M.room) }
     requires short { length buf.now ≤ 4294967295 }
+    requires node { NodeStands M.Key.kind M.Mapped.kind M.room buf.now node }
     requires within { i ≤ M.room }
-    requires inside { node + inner_size (shape M.Key.kind M.Mapped.kind M.room) ≤ length buf.now }
-    requires leads { LeadsBefore node (target_at buf.now (node + pointer_at (shape M.Key.kind M.Mapped.kind M.room) i)) }
     ensures { result ≡ child_place (shape M.Key.kind M.Mapped.kind M.room) buf.now node i }
 {
+    if is_leaf::<M>(buf, node) {
+        return None;
+    }
     match target(buf, node + M::pointer_at(i)) {
         None => None,
         Some(place) => Some(node_at(place, node)),
@@ -92,24 +95,27 @@ fn root(buf: &[u8], pos: u32) -> u32
     node_at(i64::from(pos) + i64::from(offset), pos)
 }
 
-/// Puts the node at `node` on the path, and below it first child after first child.
-fn descend<M: ArchivedMap>(buf: &[u8], node: u32, path: &mut Path)
+/// Puts the node at `node` on the path, where entry `index` is next, and then the nodes of its child before that
+/// entry, first child after first child.
+fn descend<M: ArchivedMap>(buf: &[u8], node: u32, index: usize, path: &mut Path)
     requires fitting { IsTrue (are_fitting M.Key.kind M.Mapped.kind M.room) }
     requires short { length buf.now ≤ 4294967295 }
     requires path { IsPath M.Key.kind M.Mapped.kind M.room buf.now 32 path.old.items }
-    requires node { IsNode M.Key.kind M.Mapped.kind M.room buf.now (32 - length path.old.items) node }
+    requires tree { TreeStands M.Key.kind M.Mapped.kind M.room buf.now (32 - length path.old.items) node }
+    requires within { index ≤ count_of (shape M.Key.kind M.Mapped.kind M.room) buf.now node }
     ensures path { IsPath M.Key.kind M.Mapped.kind M.room buf.now 32 path.new.items }
-    ensures rest { path_rest (shape M.Key.kind M.Mapped.kind M.room) buf.now 32 path.new.items ≡ entries_of (shape M.Key.kind M.Mapped.kind M.room) buf.now (32 - length path.old.items) node ++ path_rest (shape M.Key.kind M.Mapped.kind M.room) buf.now 32 path.old.items }
+    ensures rest { path_rest (shape M.Key.kind M.Mapped.kind M.room) buf.now 32 path.new.items ≡ tree_rest (shape M.Key.kind M.Mapped.kind M.room) buf.now (32 - length path.old.items) node index ++ path_rest (shape M.Key.kind M.Mapped.kind M.room) buf.now 32 path.old.items }
 {
     let mut at = node;
+    let mut next = index;
     'down: loop {
-        path.push((at, 0));
-        if is_leaf::<M>(buf, at) {
-            return;
-        }
-        match child::<M>(buf, at, 0) {
+        path.push((at, next));
+        match child::<M>(buf, at, next) {
             None => return,
-            Some(next) => at = next,
+            Some(below) => {
+                at = below;
+                next = 0;
+            }
         }
     }
 }
@@ -127,13 +133,7 @@ pub(crate) fn advance<M: ArchivedMap>(buf: &[u8], path: &mut Path) -> Option<(u3
 {
     'up: while let Some((node, index)) = path.pop() {
         if index < entry_count::<M>(buf, node) {
-            path.push((node, index + 1));
-            if !is_leaf::<M>(buf, node) {
-                match child::<M>(buf, node, index + 1) {
-                    None => {}
-                    Some(next) => descend::<M>(buf, next, path),
-                }
-            }
+            descend::<M>(buf, node, index + 1, path);
             return Some((node, index));
         }
     }
@@ -148,6 +148,6 @@ pub(crate) fn begin<M: ArchivedMap>(map: View<'_, M>, path: &mut Path)
 {
     M::opened(&map);
     if map.len() > 0 {
-        descend::<M>(map.buf, root(map.buf, map.pos), path);
+        descend::<M>(map.buf, root(map.buf, map.pos), 0, path);
     }
 }
