@@ -1,3 +1,4 @@
-pub mod Path
 pub mod Node
+pub mod Path
 pub mod Visit
+pub mod laws
