@@ -1,0 +1,6 @@
+pub mod Archives
+pub mod Nodes
+pub mod Paths
+pub mod Props
+pub mod Roots
+pub mod Visits

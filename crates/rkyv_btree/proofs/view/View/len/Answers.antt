@@ -1,0 +1,18 @@
+-- A map stands with its eight bytes, and says how many entries are read.
+use Rattle.std.proofs.Common.{arith, sym, ◌∙◌}
+use Rattle.rkyv_btree_base.specs.laws.MapLaws.{map_length, map_room, map_short}
+use Rattle.rkyv_btree.proofs.view.View.len.Goals as goal
+
+pub overflow_add-self : goal.overflow_add-self
+overflow_add-self g c =
+    let room = map_room _ _ _ g.met.M.Key.Portable.laws g.met.M.Mapped.Portable.laws _ _ c.opened.ensures in
+    let short = map_short _ _ _ g.met.M.Key.Portable.laws g.met.M.Mapped.Portable.laws _ _ c.opened.ensures in
+    omega arith
+
+pub num32-requires : goal.num32-requires
+num32-requires g c =
+    let room = map_room _ _ _ g.met.M.Key.Portable.laws g.met.M.Mapped.Portable.laws _ _ c.opened.ensures in
+    omega arith
+
+pub returns : goal.returns
+returns g c = c.num32.ensures ∙ sym (map_length _ _ _ g.met.M.Key.Portable.laws g.met.M.Mapped.Portable.laws _ _ c.opened.ensures)

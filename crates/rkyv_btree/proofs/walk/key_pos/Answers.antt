@@ -1,0 +1,10 @@
+-- A key stands within its node.
+use Rattle.std.proofs.Common.{arith}
+use Rattle.rkyv_btree_base.specs.laws.Sizes.{sound_of, key_inside}
+use Rattle.rkyv_btree.proofs.walk.key_pos.Goals as goal
+
+pub overflow_add-result : goal.overflow_add-result
+overflow_add-result g c =
+    let sound = sound_of _ _ _ g.met.M.Key.Portable.laws g.met.M.Mapped.Portable.laws c.requires.fitting in
+    let inside = key_inside _ c.args.i sound c.requires.within in
+    omega arith

@@ -1,0 +1,4 @@
+pub mod Node
+pub mod Path
+pub mod Visit
+pub mod laws

@@ -1,0 +1,45 @@
+-- What a walk needs of the nodes that it meets.
+use Rattle.std.specs.Prelude.{◌≡◌, ℕ, zero, suc, ◌+◌, ◌≤◌, ◌<◌, List, length, Option, Some, None, Bool, false, ℤ, pos, negsuc, slice_index, nat_eq, if◌then◌else◌}
+use Rattle.rkyv_btree_base.specs.Bytes.{number_at, target_at}
+use Rattle.rkyv_btree_base.specs.Kind.{Kind}
+use Rattle.rkyv_btree_base.specs.Layout.{Shape, shape, len_at, leaf_size, inner_size, pointer_at}
+use Rattle.rkyv_btree_base.specs.laws.Places.{EntryStands}
+
+-- a place in a buffer, where it isn't before its start
+abbrev pub natural : Option ℤ → Option ℕ
+natural None = None
+natural (Some (negsuc n)) = None
+natural (Some (pos q)) = Some q
+
+-- a pointer leads nowhere, or to a place before p
+abbrev pub LeadsBefore : ℕ → Option ℤ → Type 0
+LeadsBefore p None = Unit {0}
+LeadsBefore p (Some (negsuc n)) = ⊥
+LeadsBefore p (Some (pos q)) = q < p
+
+module _ (s : Shape) (b : List ℕ) where
+  -- whether the node at p is a leaf
+  abbrev pub is_leaf : ℕ → Bool
+  is_leaf p = nat_eq (slice_index b p) 0
+
+  -- how many entries it has
+  abbrev pub entry_count : ℕ → ℕ
+  entry_count p = if is_leaf p then number_at b (p + len_at s) 4 else s.capacity
+
+  -- its child number i, which stands before entry i, or behind the last one: a leaf has none
+  abbrev pub child_place : ℕ → ℕ → Option ℕ
+  child_place p i = if is_leaf p then None else natural (target_at b (p + pointer_at s i))
+
+module _ (K V : Kind) (E : ℕ) (b : List ℕ) where
+  -- the node at p lies in the buffer, its entries stand, and its pointers lead to places before it
+  pub record NodeStands (p : ℕ) : Type 0 where
+    pub leaf_inside : p + leaf_size (shape K V E) ≤ length b
+    pub inner_inside : is_leaf (shape K V E) b p ≡ false → p + inner_size (shape K V E) ≤ length b
+    pub count : entry_count (shape K V E) b p ≤ E
+    pub entries : (i : ℕ) → i < entry_count (shape K V E) b p → EntryStands K V E b (p, i)
+    pub leads : is_leaf (shape K V E) b p ≡ false → (i : ℕ) → i ≤ E → LeadsBefore p (target_at b (p + pointer_at (shape K V E) i))
+
+  -- a tree of at most so many levels stands at p
+  unfoldable pub TreeStands : ℕ → ℕ → Type 0
+  TreeStands zero p = ⊥
+  TreeStands (suc levels) p = NodeStands p × ((i q : ℕ) → i ≤ E → child_place (shape K V E) b p i ≡ Some q → TreeStands levels q)

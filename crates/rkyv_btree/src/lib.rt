@@ -1,0 +1,12 @@
+//! Archived B-trees, read in place.
+#![tactic(auto)]
+
+pub use rkyv_btree_base as base;
+
+mod iter;
+pub mod map;
+#[cfg(test)]
+mod tests;
+pub mod view;
+mod visit;
+mod walk;

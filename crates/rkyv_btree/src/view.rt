@@ -1,0 +1,99 @@
+//! Values in a buffer.
+ghost use Rattle.std.specs.Prelude.{◌≡◌, ℕ, IsTrue, List, ⊤};
+ghost use Rattle.rkyv_btree_base.specs.Views.{stands};
+
+use rkyv_btree_base::bytes::num32;
+use rkyv_btree_base::check::Portable;
+use rkyv_btree_base::numbers::{ArchivedU32, ArchivedU64};
+use std::alloc::AllocError;
+use std::marker::PhantomData;
+
+/// The value of `T` at position `pos` of `buf`, where the bytes mean one. All calls read in place: nothing is copied,
+/// and no memory is taken. A view is made by `access_valid`, or by a call on another view.
+pub struct View<'a, T: Portable> {
+    pub buf: &'a [u8],
+    pub pos: u32,
+    pub of: PhantomData<T>,
+    // The type's own decision, so a call on a view asks nothing of its caller.
+    pub ghost valid: { IsTrue (stands T.kind buf.now pos) },
+}
+
+impl<'a, T: Portable> Copy for View<'a, T> {}
+
+impl<'a, T: Portable> Clone for View<'a, T> {
+    ghost is_clone = { λ s r. r ≡ s };
+
+    ghost is_infallible = { λ _. ⊤ };
+
+    fn clone(&self) -> Result<View<'a, T>, AllocError> {
+        Ok(*self)
+    }
+}
+
+/// A type of views of `T`. `View<'a, T>` is the one: a call that takes a closure over views has a type parameter for
+/// each, which the closure's own types determine.
+pub trait Shows<'a, T: Portable> {
+    /// The buffer in which the view's value stands.
+    ghost bytes: { Self → List ℕ };
+
+    /// The position at which it stands.
+    ghost place: { Self → ℕ };
+
+    /// The view of the value at position `pos` of `buf`.
+    fn at(buf: &'a [u8], pos: u32) -> Self
+        requires { IsTrue (stands T.kind buf.now pos) }
+        ensures buffer { bytes result ≡ buf.now }
+        ensures position { place result ≡ pos };
+}
+
+impl<'a, T: Portable> Shows<'a, T> for View<'a, T> {
+    ghost bytes = { λ v. v.buf.now };
+
+    ghost place = { λ v. v.pos };
+
+    fn at(buf: &'a [u8], pos: u32) -> View<'a, T> {
+        View {
+            buf,
+            pos,
+            of: PhantomData,
+        }
+    }
+}
+
+impl View<'_, u8> {
+    /// The number at the view's position.
+    pub fn to_native(self) -> u8
+        ensures { result ≡ ⟦<u8 as Portable>⟧.kind.read self.entry.buf.now self.entry.pos }
+    {
+        self.buf[self.pos as usize]
+    }
+}
+
+impl View<'_, ArchivedU32> {
+    /// The number of the four bytes from the view's position on, the least first.
+    #[tactic(auto, unfolding(rkyv_btree_base::specs::Bytes::number_at))]
+    pub fn to_native(self) -> u32
+        ensures { result ≡ ⟦<ArchivedU32 as Portable>⟧.kind.read self.entry.buf.now self.entry.pos }
+    {
+        num32(self.buf, self.pos)
+    }
+}
+
+impl View<'_, ArchivedU64> {
+    /// The number of the eight bytes from the view's position on, the least first.
+    pub fn to_native(self) -> u64
+        ensures { result ≡ ⟦<ArchivedU64 as Portable>⟧.kind.read self.entry.buf.now self.entry.pos }
+    {
+        let at = self.pos as usize;
+        u64::from_le_bytes([
+            self.buf[at],
+            self.buf[at + 1],
+            self.buf[at + 2],
+            self.buf[at + 3],
+            self.buf[at + 4],
+            self.buf[at + 5],
+            self.buf[at + 6],
+            self.buf[at + 7],
+        ])
+    }
+}
