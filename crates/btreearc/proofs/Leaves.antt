@@ -2,27 +2,28 @@
 use Rattle.std.proofs.Common.{◌≡◌, ℕ, zero, suc, ◌+◌, ◌*◌, ◌%◌, ◌≤◌, List, [], ◌∷◌, ◌++◌, length, refl, sym, ap, subst, ◌∙◌, arith, inl, inr}
 use Rattle.std.specs.Hash as fed
 use Rattle.rkyv_btree_base.specs.Bytes.{number_at}
-use Rattle.rkyv_btree_base.specs.Layout.{Shape, shape, keys_at, values_at, node_align, node_size, align, len_at, leaf_size, key_at, value_at}
+use Rattle.rkyv_btree_base.specs.Layout.{Shape, shape, keys_at, values_at, node_align, node_size, align, len_at, leaf_size, inner_size, key_at, value_at}
 use Rattle.rkyv_btree_base.specs.Plain.{MeansPlainly, number, u32_kind}
 use Rattle.rkyv_btree_base.specs.Rounding.{round_up}
 use Rattle.rkyv_btree_base.specs.Spells.{Entries}
 use Rattle.rkyv_btree_base.specs.Tree.{leaf}
 use Rattle.btreearc.specs.Leaf.{IsArchive, HasRoot, HasLeaf, told, leaf_len, entries_at}
 
-abbrev five : Shape
+abbrev pub five : Shape
 five = shape u32_kind u32_kind 5
 
 -- where the parts of a leaf stand
-record Places : Type 0 where
+pub record Places : Type 0 where
   pub keys : keys_at five ≡ 4
   pub values : values_at five ≡ 24
   pub len : len_at five ≡ 44
   pub size : leaf_size five ≡ 48
+  pub inner : inner_size five ≡ 68
   pub align_is : align five ≡ 4
 
-places : Places
-unfolding keys_at values_at node_align node_size align len_at leaf_size round_up
-places = record { keys = refl; values = refl; len = refl; size = refl; align_is = refl }
+pub places : Places
+unfolding keys_at values_at node_align node_size align len_at leaf_size inner_size round_up
+places = record { keys = refl; values = refl; len = refl; size = refl; inner = refl; align_is = refl }
 
 -- a number that lies in the buffer behind a node means itself
 number-means : (b : List ℕ) (p at other : ℕ) → length b ≤ 4294967295 → p ≤ at → at + 4 ≤ length b → at % 4 ≡ 0 → other ≡ at → MeansPlainly (number 4 fed.u32) b 0 p at 0 (number_at b other 4)

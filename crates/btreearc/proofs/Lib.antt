@@ -1,6 +1,7 @@
 pub mod Digits
 pub mod Leaves
 pub mod Once
+pub mod Refused
 pub mod Spelling
 pub mod Splitting
 pub mod Written

@@ -99,6 +99,11 @@ RefusesLeaf b (InvalidLength fault) = IsOverlong b fault.len fault.maximum
 RefusesLeaf b (EntriesLengthMismatch fault) = IsMiscounted b fault.entries fault.len
 RefusesLeaf b _ = ⊥
 
+-- an inner node was met
+abbrev pub IsInner : Refusal → Type 0
+IsInner (BadKind at byte) = byte ≡ 1
+IsInner _ = ⊥
+
 -- so many entries of the leaf at a place, from number i on
 abbrev pub entries_at : List ℕ → ℕ → ℕ → ℕ → List (ℕ × ℕ)
 entries_at b p zero i = []

@@ -1,8 +1,8 @@
 //! The check of archives whose tree is one leaf.
-ghost use Rattle.std.specs.Prelude.{◌≡◌, ◌≢◌, ◌+◌, ◌≤◌, ◌<◌, length, IfOk, IfErr};
+ghost use Rattle.std.specs.Prelude.{◌≡◌, ◌≢◌, ℕ, ◌+◌, ◌≤◌, ◌<◌, List, length, IfOk, IfErr};
 ghost use Rattle.rkyv_btree_base.specs.Bytes.{place_at};
 ghost use Rattle.btreearc.specs.Faults.{IsListFault};
-ghost use Rattle.btreearc.specs.Leaf.{root_of, told, leaf_len, HasRoot, HasPlace, HasLeaf, IsArchive, RefusesLeaf, entries_at};
+ghost use Rattle.btreearc.specs.Leaf.{root_of, told, leaf_len, HasRoot, HasPlace, HasLeaf, IsArchive, RefusesLeaf, IsInner, entries_at};
 
 use crate::fault::ProgramFault;
 use rkyv_btree_base::bytes::num32;
@@ -64,6 +64,7 @@ pub fn check_leaf(archive: &[u8]) -> Result<Leaf, Refusal>
     ensures few { IfOk result (λ leaf. leaf.len ≤ 5) }
     ensures room { IfOk result (λ leaf. 0 < leaf.len → leaf.place + 48 ≤ length archive.now) }
     ensures err { IfErr result (RefusesLeaf archive.now) }
+    ensures first { (refusal : Refusal) → RefusesLeaf archive.now refusal → result ≡ Err refusal }
 {
     let root = check_root(archive)?;
     let told = num32(archive, root + 4);
@@ -151,6 +152,11 @@ fn check_len(archive: &[u8], place: u32) -> Result<u32, Refusal>
     }
     Ok(len)
 }
+
+/// What is refused is no archive, except for an inner node, which may be part of one.
+pub fn refused_is_no_archive()
+    ensures { (b : List ℕ) (refusal : Refusal) (entries : List (ℕ × ℕ)) → RefusesLeaf b refusal → IsArchive b entries → IsInner refusal }
+{}
 
 /// Reads the entries of a leaf.
 ///

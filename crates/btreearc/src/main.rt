@@ -8,6 +8,8 @@ mod lines;
 mod listing;
 mod program;
 mod streams;
+#[cfg(test)]
+mod tests;
 
 use crate::fault::ProgramFault;
 use std::env;

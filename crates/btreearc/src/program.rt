@@ -1,5 +1,6 @@
 //! The commands over a reader and a writer.
-ghost use Rattle.std.specs.Prelude.{codes};
+ghost use Rattle.std.specs.Prelude.{codes, OnOk};
+ghost use Rattle.std.specs.Io.KnownBytes.{IsAtEnd};
 ghost use Rattle.btreearc.specs.Commands.{IsWord, Builds, Lists, IsMisused};
 
 use crate::build::{self, MOST_ENTRIES};
@@ -27,6 +28,7 @@ pub fn run<R: Read, W: Write>(
     ensures build { IsWord (codes "build") args.now → Builds (R.remaining input.old) (W.contents output.old) (W.contents output.new) result }
     ensures list { IsWord (codes "list") args.now → Lists (R.remaining input.old) (W.contents output.old) (W.contents output.new) result }
     ensures usage { (IsWord (codes "build") args.now → ⊥) → (IsWord (codes "list") args.now → ⊥) → IsMisused (R.remaining input.old) (R.remaining input.new) (W.contents output.old) (W.contents output.new) result }
+    ensures end { OnOk result (IsAtEnd (R.remaining input.new)) }
 {
     let [word] = args else {
         return Err(ProgramFault::Usage);
@@ -51,7 +53,8 @@ fn build<R: Read, W: Write>(
     input: &mut R,
     output: &mut W,
 ) -> Result<u8, ProgramFault>
-    ensures { Builds (R.remaining input.old) (W.contents output.old) (W.contents output.new) result }
+    ensures done { Builds (R.remaining input.old) (W.contents output.old) (W.contents output.new) result }
+    ensures end { OnOk result (IsAtEnd (R.remaining input.new)) }
 {
     let text = read_all(alloc, input)?;
     let entries = parse_lines(alloc, &text)?;
@@ -69,7 +72,8 @@ fn build<R: Read, W: Write>(
 ///
 /// `Refused` for the first fact for which the input is no archive, and `InputFailed`, `OutputFailed` or `Memory`.
 fn list<R: Read, W: Write>(alloc: Global, input: &mut R, output: &mut W) -> Result<u8, ProgramFault>
-    ensures { Lists (R.remaining input.old) (W.contents output.old) (W.contents output.new) result }
+    ensures done { Lists (R.remaining input.old) (W.contents output.old) (W.contents output.new) result }
+    ensures end { OnOk result (IsAtEnd (R.remaining input.new)) }
 {
     let archive = read_all(alloc, input)?;
     let entries = leaf::entries(alloc, &archive)?;
