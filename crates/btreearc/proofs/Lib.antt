@@ -1,3 +1,4 @@
+pub mod Built
 pub mod Digits
 pub mod Leaves
 pub mod Once

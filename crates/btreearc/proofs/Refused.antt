@@ -1,5 +1,5 @@
 -- Bytes that are refused are no archive, except where an inner node stands.
-use Rattle.std.proofs.Common.{◌≡◌, ◌≢◌, ℕ, ◌+◌, ◌%◌, ◌≤◌, ◌<◌, ◌⊎◌, List, length, ℤ, pos, refl, sym, ap, subst, ◌∙◌, arith, inl, inr, slice_index}
+use Rattle.std.proofs.Common.{◌≡◌, ◌≢◌, ℕ, ◌+◌, ◌%◌, ◌≤◌, ◌⊎◌, List, length, pos, sym, ap, subst, ◌∙◌, arith, inl, inr, slice_index}
 use Rattle.rkyv_btree_base.specs.declared.refusal.Refusal.{Refusal}
 use Rattle.rkyv_btree_base.specs.declared.refusal.Refusal.TheVariants.{OutOfRange, Misaligned, BadKind, InvalidLength, BadEntry, TooDeep, EntriesLengthMismatch, TooLong}
 use Rattle.rkyv_btree_base.specs.Bytes.{number_at, place_at}

@@ -1,8 +1,10 @@
 //! Archives of at most five entries, which one leaf holds.
-ghost use Rattle.std.specs.Prelude.{◌≡◌, ◌≤◌, ◌++◌, length, IfOk, OnOk, IfErr};
+ghost use Rattle.std.specs.Prelude.{◌≡◌, ℕ, ◌≤◌, List, ◌++◌, length, IfOk, OnOk, IfErr};
 ghost use Rattle.std.specs.Int.{w32, to_le_bytes};
 ghost use Rattle.btreearc.specs.Archive.{archive_of, leaf_of, keys_of, values_of, padding};
 ghost use Rattle.btreearc.specs.Faults.{IsBuildFault};
+ghost use Rattle.btreearc.specs.Grammar.{AreShort};
+ghost use Rattle.btreearc.specs.Leaf.{IsArchive};
 
 use crate::fault::ProgramFault;
 use rkyv_btree_base::fault::Fault;
@@ -36,6 +38,11 @@ pub fn archive(alloc: Global, entries: &[(u32, u32)]) -> Result<Vec<u8>, Program
         Err(error) => Err(ProgramFault::NotBuilt(Fault::Memory(error))),
     }
 }
+
+/// What is built for entries is an archive of them.
+pub fn built_is_archive()
+    ensures { (entries : List (ℕ × ℕ)) → AreShort entries → length entries ≤ 5 → IsArchive (archive_of entries) entries }
+{}
 
 /// Writes the archive of entries at the end.
 fn push_archive(bytes: &mut Vec<u8>, entries: &[(u32, u32)]) -> Result<(), AllocError>

@@ -158,12 +158,17 @@ pub fn refused_is_no_archive()
     ensures { (b : List ℕ) (refusal : Refusal) (entries : List (ℕ × ℕ)) → RefusesLeaf b refusal → IsArchive b entries → IsInner refusal }
 {}
 
+/// Bytes are an archive of one list alone.
+pub fn one_list()
+    ensures { (b : List ℕ) (entries others : List (ℕ × ℕ)) → IsArchive b entries → IsArchive b others → entries ≡ others }
+{}
+
 /// Reads the entries of a leaf.
 ///
 /// # Errors
 ///
 /// Where the entries find no room.
-pub fn read_leaf(alloc: Global, archive: &[u8], leaf: Leaf) -> Result<Vec<(u32, u32)>, AllocError>
+fn read_leaf(alloc: Global, archive: &[u8], leaf: Leaf) -> Result<Vec<(u32, u32)>, AllocError>
     requires short { length archive.now ≤ 4294967295 }
     requires few { leaf.len ≤ 5 }
     requires room { 0 < leaf.len → leaf.place + 48 ≤ length archive.now }
