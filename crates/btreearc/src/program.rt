@@ -1,0 +1,86 @@
+//! The commands over a reader and a writer.
+ghost use Rattle.std.specs.Prelude.{codes, OnOk};
+ghost use Rattle.std.specs.Io.KnownBytes.{IsAtEnd};
+ghost use Rattle.btreearc.specs.Commands.{IsWord, Builds, Lists, IsMisused};
+
+use crate::build::{self, MOST_ENTRIES};
+use crate::fault::ProgramFault;
+use crate::leaf;
+use crate::lines::parse_lines;
+use crate::listing::write_entries;
+use crate::streams::{read_all, write_all};
+use std::alloc::Global;
+use std::io::{Read, Write};
+
+/// Runs the command that the words name, and gives the exit status.
+///
+/// # Errors
+///
+/// `Usage` where the words name no command, and then nothing is read. Each command names its own. Nothing is written
+/// before all of the input is read and tested and all of the output is made. So an error leaves the output as it was,
+/// except for `OutputFailed`.
+pub fn run<R: Read, W: Write>(
+    alloc: Global,
+    args: &[String],
+    input: &mut R,
+    output: &mut W,
+) -> Result<u8, ProgramFault>
+    ensures build { IsWord (codes "build") args.now → Builds (R.remaining input.old) (W.contents output.old) (W.contents output.new) result }
+    ensures list { IsWord (codes "list") args.now → Lists (R.remaining input.old) (W.contents output.old) (W.contents output.new) result }
+    ensures usage { (IsWord (codes "build") args.now → ⊥) → (IsWord (codes "list") args.now → ⊥) → IsMisused (R.remaining input.old) (R.remaining input.new) (W.contents output.old) (W.contents output.new) result }
+    ensures end { OnOk result (IsAtEnd (R.remaining input.new)) }
+{
+    let [word] = args else {
+        return Err(ProgramFault::Usage);
+    };
+    let word = word.as_str();
+    if word == "build" {
+        build(alloc, input, output)
+    } else if word == "list" {
+        list(alloc, input, output)
+    } else {
+        Err(ProgramFault::Usage)
+    }
+}
+
+/// Writes the archive of the input's lines.
+///
+/// # Errors
+///
+/// `Line` for the first bad line, `TooMany`, `NotBuilt`, and `InputFailed`, `OutputFailed` or `Memory`.
+fn build<R: Read, W: Write>(
+    alloc: Global,
+    input: &mut R,
+    output: &mut W,
+) -> Result<u8, ProgramFault>
+    ensures done { Builds (R.remaining input.old) (W.contents output.old) (W.contents output.new) result }
+    ensures end { OnOk result (IsAtEnd (R.remaining input.new)) }
+{
+    let text = read_all(alloc, input)?;
+    let entries = parse_lines(alloc, &text)?;
+    if entries.len() > MOST_ENTRIES {
+        return Err(ProgramFault::TooMany);
+    }
+    let archive = build::archive(alloc, &entries)?;
+    write_all(output, &archive)?;
+    Ok(0)
+}
+
+/// Writes a line for each entry of the input's archive.
+///
+/// # Errors
+///
+/// `Refused` for the first fact for which the input is no archive, and `InputFailed`, `OutputFailed` or `Memory`.
+fn list<R: Read, W: Write>(alloc: Global, input: &mut R, output: &mut W) -> Result<u8, ProgramFault>
+    ensures done { Lists (R.remaining input.old) (W.contents output.old) (W.contents output.new) result }
+    ensures end { OnOk result (IsAtEnd (R.remaining input.new)) }
+{
+    let archive = read_all(alloc, input)?;
+    let entries = leaf::entries(alloc, &archive)?;
+    let mut text = String::new(alloc);
+    if write_entries(&mut text, &entries).is_err() {
+        return Err(ProgramFault::Memory);
+    }
+    write_all(output, text.as_str().as_bytes())?;
+    Ok(0)
+}

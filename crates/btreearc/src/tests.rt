@@ -1,0 +1,334 @@
+//! The commands over readers and writers in memory. The archives' bytes are those of the format's definition.
+
+use crate::fault::ProgramFault;
+use crate::program::run;
+use rkyv_btree_base::fault::{EntryFault, Fault, IteratorLengthMismatch};
+use std::alloc::{AllocError, Global};
+use std::io::{self, ErrorKind, Read, Write};
+use std::process::Abort;
+use std::test::Fail;
+
+/// The line of a wrong use.
+const USAGE: &str =
+    "usage: btreearc build | list | get KEY | range LOW HIGH | check | set KEY VALUE";
+
+/// The archive of the one entry 7 and 11.
+const SEVEN: [u8; 56] = [
+    0, 0, 0, 0, 7, 0, 0, 0, 0, 0, 0, 0, 0, 0, 0, 0, 0, 0, 0, 0, 0, 0, 0, 0, 11, 0, 0, 0, 0, 0, 0,
+    0, 0, 0, 0, 0, 0, 0, 0, 0, 0, 0, 0, 0, 1, 0, 0, 0, 0xD0, 0xFF, 0xFF, 0xFF, 1, 0, 0, 0,
+];
+
+/// The words as the program gets them.
+fn words_of(alloc: Global, words: &[&str]) -> Result<Vec<String>, AllocError> {
+    let mut args = Vec::new(alloc);
+    for word in words {
+        args.push(format!(in alloc; "{word}")?)?;
+    }
+    Ok(args)
+}
+
+/// The words succeed on the input, and write these bytes.
+fn writes(
+    rt: &impl Abort,
+    alloc: Global,
+    words: &[&str],
+    input: &[u8],
+    expected: &[u8],
+) -> Result<(), Fail> {
+    let args = words_of(alloc, words)?;
+    let mut input = input;
+    let mut output = Vec::new(alloc);
+    let status = run(alloc, &args, &mut input, &mut output)?;
+    assert_eq!(rt; status, 0);
+    assert_eq!(rt; output.as_slice(), expected);
+    Ok(())
+}
+
+/// The words fail on the input with this line, and write nothing.
+fn fails(
+    rt: &impl Abort,
+    alloc: Global,
+    words: &[&str],
+    input: &[u8],
+    line: &str,
+) -> Result<(), Fail> {
+    let args = words_of(alloc, words)?;
+    let mut input = input;
+    let mut output = Vec::new(alloc);
+    let result = run(alloc, &args, &mut input, &mut output);
+    assert!(rt; output.is_empty());
+    says(rt, alloc, result, line)
+}
+
+/// The answer is a fault of this line.
+fn says(
+    rt: &impl Abort,
+    alloc: Global,
+    answer: Result<u8, ProgramFault>,
+    line: &str,
+) -> Result<(), Fail> {
+    let text = match answer {
+        Ok(status) => format!(in alloc; "status {status}")?,
+        Err(fault) => format!(in alloc; "{fault}")?,
+    };
+    assert_eq!(rt; text.as_str(), line);
+    Ok(())
+}
+
+#[test]
+fn archives_are_built_and_listed(rt: HostRuntime) -> Result<(), Fail> {
+    let alloc = rt.alloc();
+    writes(&rt, alloc, &["build"], b"7 11\n", &SEVEN)?;
+    writes(&rt, alloc, &["build"], b"0000000007 11", &SEVEN)?;
+    writes(&rt, alloc, &["list"], &SEVEN, b"7 11\n")?;
+    let empty = [1, 0, 0, 0, 0, 0, 0, 0];
+    writes(&rt, alloc, &["build"], b"", &empty)?;
+    writes(&rt, alloc, &["list"], &empty, b"")?;
+    let empty_elsewhere = [255, 255, 255, 255, 0, 0, 0, 0];
+    writes(&rt, alloc, &["list"], &empty_elsewhere, b"")
+}
+
+#[test]
+fn two_entries_keep_their_order(rt: HostRuntime) -> Result<(), Fail> {
+    let alloc = rt.alloc();
+    let mut two = SEVEN;
+    two[4] = 1;
+    two[8] = 2;
+    two[24] = 10;
+    two[28] = 20;
+    two[44] = 2;
+    two[52] = 2;
+    writes(&rt, alloc, &["build"], b"1 10\n2 20\n", &two)?;
+    writes(&rt, alloc, &["list"], &two, b"1 10\n2 20\n")
+}
+
+#[test]
+fn the_greatest_numbers_stand(rt: HostRuntime) -> Result<(), Fail> {
+    let alloc = rt.alloc();
+    let mut greatest = SEVEN;
+    for at in 4..8 {
+        greatest[at] = 255;
+        greatest[at + 20] = 255;
+    }
+    writes(&rt, alloc, &["build"], b"4294967295 4294967295", &greatest)?;
+    writes(&rt, alloc, &["list"], &greatest, b"4294967295 4294967295\n")
+}
+
+#[test]
+fn bad_lines_are_named(rt: HostRuntime) -> Result<(), Fail> {
+    let alloc = rt.alloc();
+    let first = "btreearc: line 1: not KEY VALUE";
+    let bad: [&[u8]; 8] = [
+        b"1 x",
+        b"4294967296 1",
+        b"1 4294967296",
+        b"00000000001 2",
+        b"1  2",
+        b"1 2\r\n",
+        b"\n1 2\n",
+        b"1 2 \n",
+    ];
+    for text in bad {
+        fails(&rt, alloc, &["build"], text, first)?;
+    }
+    let second = "btreearc: line 2: not KEY VALUE";
+    fails(&rt, alloc, &["build"], b"1 2\n\n3 4\n", second)?;
+    let third = "btreearc: line 3: not KEY VALUE";
+    fails(
+        &rt,
+        alloc,
+        &["build"],
+        b"1 2\n3 4\n5\n7 8\n9 10\n11 12\n",
+        third,
+    )
+}
+
+#[test]
+fn a_sixth_entry_is_too_many(rt: HostRuntime) -> Result<(), Fail> {
+    let alloc = rt.alloc();
+    let line = "btreearc: not built: more than 5 entries";
+    fails(
+        &rt,
+        alloc,
+        &["build"],
+        b"1 2\n3 4\n5 6\n7 8\n9 10\n11 12\n",
+        line,
+    )
+}
+
+#[test]
+fn a_wrong_use_reads_nothing(rt: HostRuntime) -> Result<(), Fail> {
+    let alloc = rt.alloc();
+    fails(&rt, alloc, &[], b"1 2\n", USAGE)?;
+    fails(&rt, alloc, &[""], b"1 2\n", USAGE)?;
+    fails(&rt, alloc, &["Build"], b"1 2\n", USAGE)?;
+    fails(&rt, alloc, &["build", "1"], b"1 2\n", USAGE)?;
+    fails(&rt, alloc, &["list", "list"], &SEVEN, USAGE)?;
+    let args = words_of(alloc, &["lists"])?;
+    let mut input = SEVEN.as_slice();
+    let mut output = Vec::new(alloc);
+    let result = run(alloc, &args, &mut input, &mut output);
+    assert_eq!(rt; input.len(), 56);
+    says(&rt, alloc, result, USAGE)
+}
+
+#[test]
+fn what_is_no_archive_is_refused(rt: HostRuntime) -> Result<(), Fail> {
+    let alloc = rt.alloc();
+    let out = "btreearc: refused: position 0 is out of range";
+    fails(&rt, alloc, &["list"], b"", out)?;
+    fails(&rt, alloc, &["list"], &SEVEN[..7], out)?;
+    let odd = "btreearc: refused: position 1 is misaligned";
+    fails(&rt, alloc, &["list"], &SEVEN[..9], odd)?;
+    let nowhere = [1, 0, 0, 0, 1, 0, 0, 0];
+    let ahead = "btreearc: refused: position 1 is out of range";
+    fails(&rt, alloc, &["list"], &nowhere, ahead)?;
+    let before = "btreearc: refused: position -48 is out of range";
+    fails(&rt, alloc, &["list"], &SEVEN[48..], before)
+}
+
+#[test]
+fn damaged_archives_are_refused(rt: HostRuntime) -> Result<(), Fail> {
+    let alloc = rt.alloc();
+    let damages = [
+        (
+            0,
+            2,
+            "btreearc: refused: position 0 holds kind 2, which is no node",
+        ),
+        (
+            44,
+            6,
+            "btreearc: refused: Invalid length in B-tree node: len 6 was greater than maximum 5",
+        ),
+        (
+            52,
+            2,
+            "btreearc: refused: B-tree map claimed to have 2 entries, but actually had 1",
+        ),
+        (48, 0xD1, "btreearc: refused: position 1 is out of range"),
+    ];
+    for (at, byte, line) in damages {
+        let mut damaged = SEVEN;
+        damaged[at] = byte;
+        fails(&rt, alloc, &["list"], &damaged, line)?;
+    }
+    let mut moved = [0; 60];
+    moved[..52].copy_from_slice(&SEVEN[..52]);
+    moved[52] = 0xCE;
+    moved[53..56].copy_from_slice(&[255, 255, 255]);
+    moved[56] = 1;
+    let odd = "btreearc: refused: position 2 is misaligned";
+    fails(&rt, alloc, &["list"], &moved, odd)
+}
+
+#[test]
+fn a_fault_of_building_says_its_cause(rt: HostRuntime) -> Result<(), Fail> {
+    let alloc = rt.alloc();
+    let mismatch = IteratorLengthMismatch {
+        expected: 2,
+        actual: 3,
+    };
+    let causes = [
+        (
+            Fault::Length(mismatch),
+            "btreearc: not built: iterator claimed that it contained 2 elements, but yielded 3 items during iteration",
+        ),
+        (
+            Fault::LengthOverflow,
+            "btreearc: not built: length is past 32 bits",
+        ),
+        (
+            Fault::PositionOverflow,
+            "btreearc: not built: position is past 32 bits",
+        ),
+        (
+            Fault::OffsetOverflow,
+            "btreearc: not built: offset is past 32 bits",
+        ),
+        (
+            Fault::Writer(AllocError),
+            "btreearc: not built: writer failed",
+        ),
+        (
+            Fault::Memory(AllocError),
+            "btreearc: not built: out of memory",
+        ),
+        (
+            Fault::Entry(EntryFault { code: 1 }),
+            "btreearc: not built: entry refused",
+        ),
+    ];
+    for (fault, line) in causes {
+        says(&rt, alloc, Err(ProgramFault::NotBuilt(fault)), line)?;
+    }
+    says(
+        &rt,
+        alloc,
+        Err(ProgramFault::Memory),
+        "btreearc: out of memory",
+    )
+}
+
+/// Gives the bytes, and then fails.
+#[derive(Drop)]
+struct FailingReader<'a> {
+    bytes: &'a [u8],
+}
+
+impl Read for FailingReader<'_> {
+    fn read(&mut self, buf: &mut [u8]) -> io::Result<usize> {
+        if self.bytes.is_empty() {
+            return Err(ErrorKind::Other.into());
+        }
+        self.bytes.read(buf)
+    }
+}
+
+/// Takes a byte, and then fails.
+#[derive(Drop)]
+struct FailingWriter {
+    is_full: bool,
+}
+
+impl Write for FailingWriter {
+    fn write(&mut self, buf: &[u8]) -> io::Result<usize> {
+        if self.is_full || buf.is_empty() {
+            return Err(ErrorKind::Other.into());
+        }
+        self.is_full = true;
+        Ok(1)
+    }
+
+    fn flush(&mut self) -> io::Result<()> {
+        Ok(())
+    }
+}
+
+#[test]
+fn a_failed_read_is_told(rt: HostRuntime) -> Result<(), Fail> {
+    let alloc = rt.alloc();
+    for word in ["build", "list"] {
+        let args = words_of(alloc, &[word])?;
+        let mut input = FailingReader { bytes: b"1 x\n" };
+        let mut output = Vec::new(alloc);
+        let result = run(alloc, &args, &mut input, &mut output);
+        assert!(rt; output.is_empty());
+        says(&rt, alloc, result, "btreearc: input failed")?;
+    }
+    Ok(())
+}
+
+#[test]
+fn a_failed_write_is_told(rt: HostRuntime) -> Result<(), Fail> {
+    let alloc = rt.alloc();
+    let inputs: [(&str, &[u8]); 2] = [("build", b"7 11"), ("list", &SEVEN)];
+    for (word, input) in inputs {
+        let args = words_of(alloc, &[word])?;
+        let mut input = input;
+        let mut output = FailingWriter { is_full: false };
+        let result = run(alloc, &args, &mut input, &mut output);
+        says(&rt, alloc, result, "btreearc: output failed")?;
+    }
+    Ok(())
+}
