@@ -15,8 +15,10 @@ use std::marker::PhantomData;
 /// A type of archived maps: what its keys and values are, and where they stand in a node. The calls on a view of a map
 /// stand over it. Positions in a node count from its first byte, which is its kind.
 pub trait ArchivedMap: Portable {
+    /// The archived type of the keys.
     type Key: Portable;
 
+    /// The archived type of the values.
     type Mapped: Portable;
 
     /// How many entries a node has room for.

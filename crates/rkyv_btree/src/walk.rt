@@ -16,7 +16,7 @@ use rkyv_btree_base::bytes::{num32, target};
 /// The nodes from the root on, one a level, each with the number of its next entry. A tree has at most 32 levels.
 pub(crate) type Path = ArrayVec<(u32, usize), 32>;
 
-/// The position of a node that stands before another one.
+/// The position of a node, which stands before `end`.
 fn node_at(place: i64, end: u32) -> u32
     requires { LeadsBefore end (Some place) }
     ensures { natural (Some place) ≡ Some result }
