@@ -24,11 +24,11 @@ pub record AreMany (bytes : List ℕ) (entries : List (ℕ × ℕ)) : Type 0 whe
   pub spelled : IsLines bytes entries
   pub many : 5 < length entries
 
--- `build` has written the archive of the input's lines, or it names the fault and has written nothing, except where a
+-- `build` has written the archive of the input's lines, which is accepted and means them, or it names the fault and has written nothing, except where a
 -- write failed
 abbrev pub Builds : Option (List ℕ) → Option (List ℕ) → Option (List ℕ) → Result ℕ ProgramFault → Type 0
 Builds input old new (Ok status) =
-    (status ≡ 0) × IfSome input (λ bytes. (entries : List (ℕ × ℕ)) × AreFew bytes entries × Appends old new (archive_of entries))
+    (status ≡ 0) × IfSome input (λ bytes. (entries : List (ℕ × ℕ)) × AreFew bytes entries × IsArchive (archive_of entries) entries × Appends old new (archive_of entries))
 Builds input old new (Err (Line n)) = IfSome input (λ bytes. BadLine bytes n) × (new ≡ old)
 Builds input old new (Err TooMany) = IfSome input (λ bytes. (entries : List (ℕ × ℕ)) × AreMany bytes entries) × (new ≡ old)
 Builds input old new (Err (NotBuilt fault)) = IfSome input (λ bytes. (entries : List (ℕ × ℕ)) × AreFew bytes entries) × (new ≡ old)

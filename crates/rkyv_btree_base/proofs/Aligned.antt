@@ -1,7 +1,7 @@
 -- Keys, values and pointers of an aligned node are aligned.
-use Rattle.std.proofs.Common.{◌≡◌, ℕ, ◌+◌, ◌*◌, max, arith}
+use Rattle.std.proofs.Common.{ℕ, ◌+◌, max}
 use Rattle.rkyv_btree_base.specs.Kind.{Kind, IsLawful}
-use Rattle.rkyv_btree_base.specs.Layout.{shape, keys_at, values_at, key_at, value_at, node_align, align, len_at, pointer_at, node_size}
+use Rattle.rkyv_btree_base.specs.Layout.{shape, keys_at, values_at, key_at, value_at, node_align, align}
 use Rattle.rkyv_btree_base.specs.Rounding.{IsAlignment, one, four, max_alignment, aligned_left, aligned_right, aligned_add, aligned_mul, round_up-aligned}
 use Rattle.rkyv_btree_base.specs.Standing.{IsAligned}
 

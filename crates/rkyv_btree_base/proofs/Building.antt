@@ -1,18 +1,17 @@
 -- What building leaves, from what its parts leave.
-use Rattle.std.proofs.Common.{◌≡◌, ◌≢◌, ℕ, ◌+◌, ◌*◌, ◌<◌, ◌≤◌, ◌∙◌, Bool, IsTrue, List, [], ◌∷◌, ◌++◌, length, map, Bor, Option, refl, sym, subst, ap, arith}
+use Rattle.std.proofs.Common.{◌≡◌, ◌≢◌, ℕ, ◌+◌, ◌<◌, ◌≤◌, ◌∙◌, Bool, IsTrue, List, [], ◌∷◌, ◌++◌, length, map, Bor, Option, refl, sym, subst, ap, arith}
 use Rattle.std.specs.Iterator.{Yields, Drains}
-use Rattle.std.proofs.lemmas.List.{length-map, length-append, append-nil, nil_from_length}
+use Rattle.std.proofs.lemmas.List.{length-append, append-nil, nil_from_length}
 use Rattle.rkyv_btree_base.specs.Bytes.{Holds}
-use Rattle.rkyv_btree_base.specs.Image.{padding, leaf_bytes, leaf_image, tree_image, tree_root, root_bytes, root_reaches}
+use Rattle.rkyv_btree_base.specs.Image.{padding, leaf_bytes, leaf_image, entries_image, entries_root, root_bytes, root_reaches}
 use Rattle.rkyv_btree_base.specs.InPlace.{IsOwn, OwnBytes, AreOwn, entry_of}
 use Rattle.rkyv_btree_base.specs.Kind.{Kind, IsLawful}
 use Rattle.rkyv_btree_base.specs.Layout.{Shape, shape, are_fitting, align, leaf_size}
 use Rattle.rkyv_btree_base.specs.Rounding.{round_up, le-round_up, round_up-aligned, alignment_positive}
-use Rattle.rkyv_btree_base.specs.Serialising.{own_of, meaning_of, Built, Spelled, Serialised, Miscounted, Refusal, RootRefusal}
-use Rattle.rkyv_btree_base.specs.Spells.{Spells}
+use Rattle.rkyv_btree_base.specs.Serialising.{own_of, meaning_of, Spelled, Miscounted, Refusal, RootRefusal}
 use Rattle.rkyv_btree_base.specs.Standing.{IsAligned}
 use Rattle.rkyv_btree_base.specs.Tree.{leaf}
-use Rattle.rkyv_btree_base.specs.Writing.{Writing, position, BeginsWith, Write, appended, Wrote, Refused, Stopped, last_end}
+use Rattle.rkyv_btree_base.specs.Writing.{Writing, position, Write, appended, Wrote, Refused, Stopped}
 use Rattle.rkyv_btree_base.specs.declared.fault.Fault.{Fault}
 use Rattle.rkyv_btree_base.specs.declared.fault.Fault.TheVariants.{Length, LengthOverflow, PositionOverflow, OffsetOverflow, Writer, Memory, Entry}
 use Rattle.rkyv_btree_base.proofs.Aligned.{alignment}
@@ -33,7 +32,7 @@ drained steps s xs t ys n y d is none =
     subst (Drains steps s) (ap (λ zs. xs ++ zs) (nil_from_length ys (sym is ∙ none)) ∙ append-nil xs) (Drains-behind steps s xs t ys y d)
 
 -- some entries are a leaf
-pub leaf_is_tree : {M : Type 0} (s : Shape) (at : ℕ) (f : M → List ℕ × List ℕ) (xs : List M) → 0 < length xs → (tree_image s at (map f xs) ≡ leaf_image s at (map f xs)) × (tree_root s at (map f xs) ≡ round_up at (align s))
+pub leaf_is_tree : {M : Type 0} (s : Shape) (at : ℕ) (f : M → List ℕ × List ℕ) (xs : List M) → 0 < length xs → (entries_image s at (map f xs) ≡ leaf_image s at (map f xs)) × (entries_root s at (map f xs) ≡ round_up at (align s))
 leaf_is_tree s at f [] some = absurd (omega arith)
 leaf_is_tree s at f (x ∷ xs) some = (refl, refl)
 
@@ -52,7 +51,7 @@ module _ {M N S : Type 0} (K V : Kind) (E : ℕ) (key : M → List ℕ) (value :
 
   -- which faults stop the building, and how
   pub refused_of : {X : Type 0} (iter : S) (claim : ℕ) (s : Writing) (fault : Fault X) (t : Writing) (items : List (Bor M × Bor N)) (rest : S) →
-      Yields steps iter items rest → length items ≡ claim → Stopped s (tree_image (shape K V E) (position s) (map (own_of key value) items)) fault t → Refusal K V E key value steps iter claim s fault t
+      Yields steps iter items rest → length items ≡ claim → Stopped s (entries_image (shape K V E) (position s) (map (own_of key value) items)) fault t → Refusal K V E key value steps iter claim s fault t
   refused_of iter claim s PositionOverflow t items rest y n h = record { items = items; rest = rest; taken = y; count = n; stopped = h }
   refused_of iter claim s OffsetOverflow t items rest y n h = record { items = items; rest = rest; taken = y; count = n; stopped = h }
   refused_of iter claim s (Writer error) t items rest y n h = record { items = items; rest = rest; taken = y; count = n; stopped = h }

@@ -1,10 +1,10 @@
 -- Numbers and pointers that a buffer holds.
-use Rattle.std.proofs.Common.{◌≡◌, ℕ, ◌+◌, ◌-◌, ◌*◌, ◌%◌, ◌<◌, ◌≤◌, ◌^◌, ◌∙◌, List, [], ◌∷◌, length, suc, sym, ap, arith, ℤ, pos, negsuc, ◌+ℤ◌, ⊎_elim}
+use Rattle.std.proofs.Common.{◌≡◌, ℕ, ◌+◌, ◌-◌, ◌%◌, ◌<◌, ◌≤◌, ◌^◌, ◌∙◌, List, suc, sym, ap, arith, pos, negsuc, ◌+ℤ◌, ⊎_elim}
 use Rattle.std.proofs.lemmas.Bool.{cases_lt}
 use Rattle.std.proofs.lemmas.Int.{ints}
 use Rattle.std.proofs.Math.Facts.{to_z-neg}
 use Rattle.std.specs.Int.{w32, to_le_bytes, cast_signed}
-use Rattle.rkyv_btree_base.specs.Bytes.{from_le, bytes_at, number_at, place_at, Holds}
+use Rattle.rkyv_btree_base.specs.Bytes.{from_le, number_at, place_at, Holds}
 use Rattle.rkyv_btree_base.specs.Pointers.{FitsOffset, pointer}
 
 pub from_le-to_le_bytes : (n : ℕ) → n < 2 ^ 32 → from_le (to_le_bytes w32 n) ≡ n

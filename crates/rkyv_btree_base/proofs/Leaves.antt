@@ -1,14 +1,14 @@
 -- A buffer that holds a leaf's bytes spells the leaf.
-use Rattle.std.proofs.Common.{◌≡◌, ℕ, ◌+◌, ◌-◌, ◌*◌, ◌^◌, ◌<◌, ◌≤◌, ◌∙◌, Bool, true, false, IsTrue, if◌then◌else◌, nat_eq, List, [], ◌∷◌, ◌++◌, length, map, slice_index, refl, sym, ap, subst, arith}
+use Rattle.std.proofs.Common.{◌≡◌, ℕ, ◌+◌, ◌-◌, ◌*◌, ◌<◌, ◌≤◌, ◌∙◌, Bool, true, false, IsTrue, if◌then◌else◌, nat_eq, List, [], ◌∷◌, ◌++◌, length, map, slice_index, refl, sym, ap, arith}
 use Rattle.std.proofs.lemmas.Bool.Decides.{nat_tests}
 use Rattle.std.proofs.lemmas.List.{length-append, length-replicate, length-map}
 use Rattle.std.specs.Int.{w32, to_le_bytes}
 use Rattle.std.specs.List.{flat_map}
-use Rattle.rkyv_btree_base.specs.Bytes.{bytes_at, number_at, Holds, zeros}
+use Rattle.rkyv_btree_base.specs.Bytes.{bytes_at, Holds, zeros}
 use Rattle.rkyv_btree_base.specs.Image.{zeros_write, padding, filled, entry_bytes, leaf_bytes}
 use Rattle.rkyv_btree_base.specs.InPlace.{OwnBytes, AreOwn, entry_of}
 use Rattle.rkyv_btree_base.specs.Kind.{Kind, IsLawful}
-use Rattle.rkyv_btree_base.specs.Layout.{Shape, shape, are_fitting, keys_at, values_at, key_at, value_at, len_at, align, leaf_size}
+use Rattle.rkyv_btree_base.specs.Layout.{shape, are_fitting, keys_at, values_at, key_at, value_at, len_at, align, leaf_size}
 use Rattle.rkyv_btree_base.specs.Rounding.{round_up, le-round_up}
 use Rattle.rkyv_btree_base.specs.Spells.{Entries, Spells}
 use Rattle.rkyv_btree_base.specs.Standing.{IsAligned}

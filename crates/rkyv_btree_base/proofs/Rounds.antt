@@ -1,7 +1,7 @@
 -- What rounding up adds.
 use Rattle.std.proofs.Common.{◌≡◌, ℕ, ◌+◌, ◌-◌, ◌*◌, ◌/◌, ◌%◌, ◌<◌, ◌≤◌, ap, arith}
 use Rattle.std.proofs.lemmas.Nat.{div_below, le-div}
-use Rattle.rkyv_btree_base.specs.Rounding.{round_up, le-round_up, round_up-lt, round_up-least}
+use Rattle.rkyv_btree_base.specs.Rounding.{round_up, le-round_up, round_up-least}
 
 pub round_up-multiple : (w a : ℕ) → 0 < a → w % a ≡ 0 → round_up w a ≡ w
 round_up-multiple w a positive whole = omega (arith, le-round_up w a positive, round_up-least w a w positive whole (omega arith))

@@ -1,5 +1,5 @@
 -- The writes that put an archive down: nodes, and the map itself.
-use Rattle.std.specs.Prelude.{◌≡◌, ℕ, ◌+◌, ◌-◌, ◌||◌, Bool, true, nat_eq, if◌then◌else◌, List, [], ◌∷◌, ◌++◌, length}
+use Rattle.std.specs.Prelude.{ℕ, ◌-◌, ◌||◌, Bool, true, nat_eq, if◌then◌else◌, List, [], ◌∷◌, ◌++◌, length}
 use Rattle.std.specs.List.{flat_map}
 use Rattle.std.specs.Int.{w32, to_le_bytes}
 use Rattle.rkyv_btree_base.specs.Bytes.{zeros}
@@ -33,13 +33,13 @@ abbrev pub leaf_image : Shape → ℕ → List OwnBytes → List Write
 leaf_image s at xs = padding (align s) at ++ record { bytes = leaf_bytes s xs; reaches = true } ∷ []
 
 -- the writes of the tree of these entries, and where its root node stands: no writes, and position 0, for no entries
-abbrev pub tree_image : Shape → ℕ → List OwnBytes → List Write
-tree_image s at [] = []
-tree_image s at (x ∷ xs) = leaf_image s at (x ∷ xs)
+abbrev pub entries_image : Shape → ℕ → List OwnBytes → List Write
+entries_image s at [] = []
+entries_image s at (x ∷ xs) = leaf_image s at (x ∷ xs)
 
-abbrev pub tree_root : Shape → ℕ → List OwnBytes → ℕ
-tree_root s at [] = 0
-tree_root s at (x ∷ xs) = round_up at (align s)
+abbrev pub entries_root : Shape → ℕ → List OwnBytes → ℕ
+entries_root s at [] = 0
+entries_root s at (x ∷ xs) = round_up at (align s)
 
 -- the map at a position: a pointer to its root node, none for no entries, and the number of its entries
 abbrev pub root_bytes : ℕ → ℕ → ℕ → List ℕ

@@ -1,12 +1,12 @@
 -- Types whose values lie in their own bytes alone, as they are written from native values.
-use Rattle.std.specs.Prelude.{◌≡◌, ℕ, ◌+◌, ◌≤◌, true, IsTrue, List, [], ◌∷◌, length}
+use Rattle.std.specs.Prelude.{◌≡◌, ℕ, ◌+◌, ◌≤◌, IsTrue, List, [], ◌∷◌, length}
 use Rattle.std.specs.Hash as fed
 use Rattle.std.specs.Int.{w8, w32, w64, to_le_bytes}
 use Rattle.std.proofs.Common.{refl, sym, ap, subst, ◌∙◌, arith}
 use Rattle.std.proofs.lemmas.List.{take_all}
 use Rattle.rkyv_btree_base.specs.Bytes.{bytes_at}
 use Rattle.rkyv_btree_base.specs.Kind.{Kind}
-use Rattle.rkyv_btree_base.specs.Plain.{Plain, MeansPlainly, plain_kind, number, u8_kind, u32_kind, u64_kind}
+use Rattle.rkyv_btree_base.specs.Plain.{Plain, plain_kind, number, u8_kind, u32_kind, u64_kind}
 use Rattle.rkyv_btree_base.specs.Standing.{IsAligned}
 
 -- what own bytes mean by themselves

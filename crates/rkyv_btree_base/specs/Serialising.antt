@@ -3,7 +3,7 @@ use Rattle.std.specs.Prelude.{◌≡◌, ◌≢◌, ℕ, ◌<◌, ◌≤◌, Lis
 use Rattle.std.specs.Borrow.{Bor}
 use Rattle.std.specs.Iterator.{Yields, Drains}
 use Rattle.rkyv_btree_base.specs.Bytes.{Holds}
-use Rattle.rkyv_btree_base.specs.Image.{tree_image, tree_root, root_image}
+use Rattle.rkyv_btree_base.specs.Image.{entries_image, entries_root, root_image}
 use Rattle.rkyv_btree_base.specs.InPlace.{OwnBytes, entry_of}
 use Rattle.rkyv_btree_base.specs.Kind.{Kind}
 use Rattle.rkyv_btree_base.specs.Layout.{Shape, shape}
@@ -23,8 +23,8 @@ meaning_of K V key value x = entry_of K V (own_of key value x)
 
 -- between two states the tree of these entries was written, whose node is at the root
 pub record Built (s : Shape) (from : Writing) (xs : List OwnBytes) (root : ℕ) (t : Writing) : Type 0 where
-  pub wrote : Wrote from (tree_image s (position from) xs) t
-  pub root_is : root ≡ tree_root s (position from) xs
+  pub wrote : Wrote from (entries_image s (position from) xs) t
+  pub root_is : root ≡ entries_root s (position from) xs
   pub ends : 0 < length xs → position t ≤ last_end
 
 -- every buffer that holds what was appended between two states spells a tree with this list, whose node is at the root
@@ -51,7 +51,7 @@ module _ {M N S : Type 0} (K V : Kind) (E : ℕ) (key : M → List ℕ) (value :
     pub rest : S
     pub taken : Yields steps iter items rest
     pub count : length items ≡ claim
-    pub stopped : Stopped from (tree_image (shape K V E) (position from) (map (own_of key value) items)) fault t
+    pub stopped : Stopped from (entries_image (shape K V E) (position from) (map (own_of key value) items)) fault t
 
   -- the iterator gave another number of items than the claim
   pub record Miscounted (iter : S) (claim expected actual : ℕ) (from t : Writing) : Type 0 where

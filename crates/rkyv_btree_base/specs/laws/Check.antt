@@ -1,4 +1,4 @@
-use Rattle.std.specs.Prelude.{ℕ, zero, suc, ◌+◌, ◌*◌, ◌^◌, ◌%◌, ◌≤◌, ◌||◌, List, length, Option, Some, None, Result, Ok, Err, ℤ, pos, negsuc, slice_index, nat_eq, nat_lt, if◌then◌else◌}
+use Rattle.std.specs.Prelude.{ℕ, zero, suc, ◌+◌, ◌%◌, ◌||◌, List, length, Option, Some, None, Result, Ok, Err, ℤ, pos, negsuc, slice_index, nat_eq, nat_lt, if◌then◌else◌}
 use Rattle.rkyv_btree_base.specs.declared.refusal.Refusal.{Refusal}
 use Rattle.rkyv_btree_base.specs.declared.refusal.Refusal.TheVariants.{OutOfRange, Misaligned, BadKind, InvalidLength, BadEntry, TooDeep, EntriesLengthMismatch, TooLong}
 use Rattle.rkyv_btree_base.specs.Bytes.{number_at, target_at, place_at}

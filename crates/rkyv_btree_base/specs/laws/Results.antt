@@ -1,7 +1,5 @@
-use Rattle.std.proofs.Common.{◌≡◌, ◌⊎◌, inl, inr, Bool, true, false, if◌then◌else◌, Option, Some, None, Result, Ok, Err, refl, ℕ, List, ◌≤◌}
-use Rattle.rkyv_btree_base.specs.Kind.{Kind, Leaves, Decides}
+use Rattle.std.proofs.Common.{◌≡◌, Option, Some, None, Result, Ok, Err, refl, ℕ}
 use Rattle.rkyv_btree_base.specs.declared.refusal.Refusal.{Refusal}
-use Rattle.rkyv_btree_base.specs.declared.refusal.Refusal.TheVariants.{BadEntry}
 use Rattle.rkyv_btree_base.specs.laws.Check.{◌>>=◌, or_bad}
 
 pub bind_ok : {A B : Type 0} (r : Result A Refusal) (f : A → Result B Refusal) (y : B) → r >>= f ≡ Ok y → (x : A) × (r ≡ Ok x) × (f x ≡ Ok y)

@@ -1,10 +1,10 @@
 -- How the parts of a node follow one another.
-use Rattle.std.proofs.Common.{◌≡◌, ℕ, ◌+◌, ◌-◌, ◌*◌, ◌/◌, ◌≤◌, ◌<◌, ◌^◌, ◌&&◌, Bool, true, false, IsTrue, nat_le, refl, arith}
+use Rattle.std.proofs.Common.{◌≡◌, ℕ, ◌+◌, ◌*◌, ◌≤◌, ◌<◌, ◌^◌, ◌&&◌, Bool, true, false, IsTrue, nat_le, refl, arith}
 use Rattle.std.proofs.lemmas.Bool.Decides.{nat_tests}
 use Rattle.std.proofs.Math.Nat.{mul-le-mul_right}
 use Rattle.rkyv_btree_base.specs.Kind.{Kind, IsLawful}
 use Rattle.rkyv_btree_base.specs.Layout.{shape, Shape, are_fitting, keys_at, values_at, node_align, node_size, align, len_at, leaf_size, inner_size, key_at, value_at, pointer_at}
-use Rattle.rkyv_btree_base.specs.Rounding.{alignment_positive, round_up, le-round_up, round_up_mono, round_up-aligned}
+use Rattle.rkyv_btree_base.specs.Rounding.{alignment_positive, le-round_up, round_up_mono, round_up-aligned}
 
 -- what `are_fitting` tests
 pub record AreFitting (K V : Kind) (E : ℕ) : Type 0 where

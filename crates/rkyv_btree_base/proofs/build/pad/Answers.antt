@@ -1,4 +1,4 @@
-use Rattle.std.proofs.Common.{◌≡◌, ◌∙◌, sym, ap, true, arith}
+use Rattle.std.proofs.Common.{◌∙◌, sym, ap, true, arith}
 use Rattle.rkyv_btree_base.specs.Rounding.{round_up}
 use Rattle.rkyv_btree_base.proofs.Rounds.{round_up-multiple, round_up-past}
 use Rattle.rkyv_btree_base.proofs.Writes.{padding-wrote, padding-stopped, unpadded}

@@ -1,4 +1,4 @@
-use Rattle.std.proofs.Common.{ℕ, ◌∙◌, ap, sym, subst}
+use Rattle.std.proofs.Common.{ℕ, ◌∙◌, ap, subst}
 use Rattle.rkyv_btree_base.specs.Image.{root_bytes}
 use Rattle.rkyv_btree_base.specs.Serialising.{RootRefusal}
 use Rattle.rkyv_btree_base.proofs.Building.{root_refused}

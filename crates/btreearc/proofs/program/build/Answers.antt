@@ -1,0 +1,21 @@
+use Rattle.std.proofs.Common.{ℕ, List, ◌∙◌, refl, sym, ap, subst, arith}
+use Rattle.std.specs.Io.KnownBytes.{Appends}
+use Rattle.btreearc.specs.Archive.{archive_of}
+use Rattle.btreearc.specs.Grammar.{IsLines, AreShort}
+use Rattle.btreearc.specs.Leaf.{IsArchive}
+use Rattle.btreearc.proofs.Built.{lines_are_short, output_built}
+use Rattle.btreearc.proofs.program.build.Goals as goal
+
+pub returns-clause-done : goal.returns-clause-done
+returns-clause-done g c =
+    let entries = c.in_ok-entries.entries.items in
+    let archive = c.in_ok-archive.archive.items in
+    let lines = subst (λ (bytes : List ℕ). IsLines bytes entries) c.deref.ensures.value c.in_ok-entries.ensures.ok in
+    let same = c.deref-2.ensures.value in
+    let accepted = c.in_ok-archive.ensures.accepted (subst AreShort (sym same) (lines_are_short _ entries lines)) in (
+      refl,
+      output_built (g.R.Read.remaining c.args.input.now) (g.W.Write.contents c.args.output.now) (g.W.Write.contents c.write_all.new.output) c.in_ok-text.text.items archive entries c.in_ok-text.ensures.all
+          (record { spelled = lines; few = omega arith })
+          (subst (IsArchive archive) same accepted) (c.in_ok-archive.ensures.ok ∙ ap archive_of same)
+          (subst (λ (bytes : List ℕ). Appends (g.W.Write.contents c.args.output.now) (g.W.Write.contents c.write_all.new.output) bytes) c.deref-3.ensures.value c.in_ok-write_all.ensures.all),
+    )
