@@ -1,11 +1,11 @@
 -- What is built for entries is their archive.
-use Rattle.std.proofs.Common.{◌≡◌, ℕ, ◌+◌, ◌^◌, ◌≤◌, ◌<◌, IsTrue, IfSome, Option, Some, None, List, [], ◌∷◌, ◌++◌, length, map, Bor, refl, sym, ap, subst, ◌∙◌, arith}
-use Rattle.std.proofs.lemmas.List.{length-map, length-append}
+use Rattle.std.proofs.Common.{◌≡◌, ℕ, ◌^◌, ◌≤◌, ◌<◌, IsTrue, IfSome, Option, Some, None, List, [], ◌∷◌, ◌++◌, length, map, Bor, refl, sym, ap, subst, ◌∙◌, arith}
+use Rattle.std.proofs.lemmas.List.{length-map}
 use Rattle.std.specs.Int.{w32, to_le_bytes}
 use Rattle.std.specs.Io.KnownBytes.{Appends}
 use Rattle.std.specs.Iterator.{Drains, YieldsFirstBy}
 use Rattle.rkyv_btree_base.specs.Bytes.{from_le}
-use Rattle.rkyv_btree_base.specs.Image.{entries_image, entries_root, root_image}
+use Rattle.rkyv_btree_base.specs.Image.{root_image}
 use Rattle.rkyv_btree_base.specs.Layout.{shape, are_fitting, inner_size, len_at, node_size, values_at, keys_at, align, node_align}
 use Rattle.rkyv_btree_base.specs.Plain.{u32_kind, u32_laws}
 use Rattle.rkyv_btree_base.specs.Rounding.{round_up}
