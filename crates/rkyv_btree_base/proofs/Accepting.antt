@@ -17,7 +17,7 @@ use Rattle.rkyv_btree_base.specs.Writing.{Writing, position, last_end, Write, Wr
 use Rattle.rkyv_btree_base.specs.laws.Widen.{map_widens}
 use Rattle.rkyv_btree_base.proofs.Held.{Holds-front, Holds-back}
 use Rattle.rkyv_btree_base.proofs.Leaves.{length-padding}
-use Rattle.rkyv_btree_base.proofs.Writes.{appended-append}
+use Rattle.rkyv_btree_base.proofs.WriteRuns.{appended-append}
 use Rattle.rkyv_btree_base.proofs.HeldNumbers.{held_number, held_pointer}
 
 reached : (at root : ℕ) → offset_fits at root ≡ true → FitsOffset at root

@@ -17,7 +17,7 @@ use Rattle.rkyv_btree_base.specs.declared.fault.Fault.TheVariants.{Length, Lengt
 use Rattle.rkyv_btree_base.proofs.Aligned.{alignment}
 use Rattle.rkyv_btree_base.proofs.Held.{Holds-front, Holds-back, Holds-at}
 use Rattle.rkyv_btree_base.proofs.Leaves.{length-padding, spelled_leaf}
-use Rattle.rkyv_btree_base.proofs.Writes.{appended-append, stopped-behind, stopped-one}
+use Rattle.rkyv_btree_base.proofs.WriteRuns.{appended-append, stopped-behind, stopped-one}
 
 -- what was taken, and then the rest
 Drains-behind : {S A : Type 0} (steps : S → Option A → S → Type 0) (s : S) (xs : List A) (t : S) (ys : List A) → Yields steps s xs t → Drains steps t ys → Drains steps s (xs ++ ys)

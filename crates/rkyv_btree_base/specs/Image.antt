@@ -1,12 +1,13 @@
--- The writes that put an archive down: nodes, and the map itself.
-use Rattle.std.specs.Prelude.{ℕ, ◌-◌, ◌||◌, Bool, true, nat_eq, if◌then◌else◌, List, [], ◌∷◌, ◌++◌, length}
+-- The writes that put an archive down: nodes, trees, and the map itself.
+use Rattle.std.specs.Prelude.{ℕ, ◌+◌, ◌-◌, ◌||◌, ◌&&◌, Bool, true, nat_eq, if◌then◌else◌, List, [], ◌∷◌, ◌++◌, length, Option, Some, None}
 use Rattle.std.specs.List.{flat_map}
 use Rattle.std.specs.Int.{w32, to_le_bytes}
 use Rattle.rkyv_btree_base.specs.Bytes.{zeros}
 use Rattle.rkyv_btree_base.specs.InPlace.{OwnBytes}
-use Rattle.rkyv_btree_base.specs.Layout.{Shape, keys_at, values_at, len_at, align, leaf_size}
+use Rattle.rkyv_btree_base.specs.Layout.{Shape, keys_at, values_at, len_at, align, leaf_size, inner_size}
 use Rattle.rkyv_btree_base.specs.Pointers.{pointer, no_pointer, offset_fits}
 use Rattle.rkyv_btree_base.specs.Rounding.{round_up}
+use Rattle.rkyv_btree_base.specs.Tree.{Tree, leaf, inner, Row, last, step, Child, absent, child, row_entries}
 use Rattle.rkyv_btree_base.specs.Writing.{Write}
 
 abbrev pub zeros_write : ℕ → Write
@@ -32,14 +33,69 @@ leaf_bytes s xs = filled (filled (entry_bytes s 0 xs) (len_at s) ++ to_le_bytes 
 abbrev pub leaf_image : Shape → ℕ → List OwnBytes → List Write
 leaf_image s at xs = padding (align s) at ++ record { bytes = leaf_bytes s xs; reaches = true } ∷ []
 
--- the writes of the tree of these entries, and where its root node stands: no writes, and position 0, for no entries
-abbrev pub entries_image : Shape → ℕ → List OwnBytes → List Write
-entries_image s at [] = []
-entries_image s at (x ∷ xs) = leaf_image s at (x ∷ xs)
+-- pointers from a position on, to nodes at these positions
+abbrev pub pointers : ℕ → List (Option ℕ) → List ℕ
+pointers at [] = []
+pointers at (None ∷ roots) = no_pointer ++ pointers (at + 4) roots
+pointers at (Some root ∷ roots) = pointer at root ++ pointers (at + 4) roots
 
-abbrev pub entries_root : Shape → ℕ → List OwnBytes → ℕ
-entries_root s at [] = 0
-entries_root s at (x ∷ xs) = round_up at (align s)
+-- each of them reaches its node
+abbrev pub pointers_reach : ℕ → List (Option ℕ) → Bool
+pointers_reach at [] = true
+pointers_reach at (None ∷ roots) = pointers_reach (at + 4) roots
+pointers_reach at (Some root ∷ roots) = offset_fits at root && pointers_reach (at + 4) roots
+
+-- an inner node at a position: behind its entries the pointers to its children, and zeros wherever nothing stands
+abbrev pub inner_bytes : Shape → ℕ → List OwnBytes → List (Option ℕ) → List ℕ
+inner_bytes s at xs roots = filled (filled (entry_bytes s 1 xs) (len_at s) ++ pointers (at + len_at s) roots) (inner_size s)
+
+abbrev pub inner_write : Shape → ℕ → List OwnBytes → List (Option ℕ) → Write
+inner_write s at xs roots = record { bytes = inner_bytes s at xs roots; reaches = pointers_reach (at + len_at s) roots }
+
+-- the writes of an inner node at a position, behind its children
+abbrev pub inner_image : Shape → ℕ → List OwnBytes → List (Option ℕ) → List Write
+inner_image s at xs roots = padding (align s) at ++ inner_write s (round_up at (align s)) xs roots ∷ []
+
+-- where the writes of a tree, of a row of children or of a child end, if they begin at a position
+abbrev mutual
+  pub tree_end : Shape → ℕ → Tree OwnBytes → ℕ
+  tree_end s at (leaf xs) = round_up at (align s) + leaf_size s
+  tree_end s at (inner row) = round_up (row_end s at row) (align s) + inner_size s
+
+  pub row_end : Shape → ℕ → Row OwnBytes → ℕ
+  row_end s at (last c) = child_end s at c
+  row_end s at (step c x row) = row_end s (child_end s at c) row
+
+  pub child_end : Shape → ℕ → Child OwnBytes → ℕ
+  child_end s at absent = at
+  child_end s at (child t) = tree_end s at t
+
+-- the position of a tree's root node, of a child's, and of each child's in a row
+abbrev pub tree_root : Shape → ℕ → Tree OwnBytes → ℕ
+tree_root s at (leaf xs) = round_up at (align s)
+tree_root s at (inner row) = round_up (row_end s at row) (align s)
+
+abbrev pub child_root : Shape → ℕ → Child OwnBytes → Option ℕ
+child_root s at absent = None
+child_root s at (child t) = Some (tree_root s at t)
+
+abbrev pub row_roots : Shape → ℕ → Row OwnBytes → List (Option ℕ)
+row_roots s at (last c) = child_root s at c ∷ []
+row_roots s at (step c x row) = child_root s at c ∷ row_roots s (child_end s at c) row
+
+-- the writes of a tree: the children from the left, and then their parent
+abbrev mutual
+  pub tree_image : Shape → ℕ → Tree OwnBytes → List Write
+  tree_image s at (leaf xs) = leaf_image s at xs
+  tree_image s at (inner row) = row_image s at row ++ inner_image s (row_end s at row) (row_entries row) (row_roots s at row)
+
+  pub row_image : Shape → ℕ → Row OwnBytes → List Write
+  row_image s at (last c) = child_image s at c
+  row_image s at (step c x row) = child_image s at c ++ row_image s (child_end s at c) row
+
+  pub child_image : Shape → ℕ → Child OwnBytes → List Write
+  child_image s at absent = []
+  child_image s at (child t) = tree_image s at t
 
 -- the map at a position: a pointer to its root node, none for no entries, and the number of its entries
 abbrev pub root_bytes : ℕ → ℕ → ℕ → List ℕ

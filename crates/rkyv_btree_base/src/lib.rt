@@ -13,3 +13,5 @@ pub mod place;
 pub mod refusal;
 #[cfg(test)]
 mod tests;
+mod tree;
+mod writes;

@@ -1,8 +1,8 @@
 use Rattle.std.proofs.Common.{◌∙◌, sym, ap, true, arith}
 use Rattle.rkyv_btree_base.specs.Rounding.{round_up}
 use Rattle.rkyv_btree_base.proofs.Rounds.{round_up-multiple, round_up-past}
-use Rattle.rkyv_btree_base.proofs.Writes.{padding-wrote, padding-stopped, unpadded}
-use Rattle.rkyv_btree_base.proofs.build.pad.Goals as goal
+use Rattle.rkyv_btree_base.proofs.WriteRuns.{padding-wrote, padding-stopped, unpadded}
+use Rattle.rkyv_btree_base.proofs.writes.pad.Goals as goal
 
 pub returns-then-past-eq0-clause-pos : goal.returns-then-past-eq0-clause-pos
 returns-then-past-eq0-clause-pos g c =

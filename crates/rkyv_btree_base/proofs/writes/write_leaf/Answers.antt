@@ -3,8 +3,8 @@ use Rattle.rkyv_btree_base.specs.Image.{leaf_bytes, padding}
 use Rattle.rkyv_btree_base.specs.Layout.{shape, align}
 use Rattle.rkyv_btree_base.specs.Serialising.{own_of}
 use Rattle.rkyv_btree_base.specs.Writing.{Appended, Write, Wrote, position}
-use Rattle.rkyv_btree_base.proofs.Writes.{wrote-both, wrote-one}
-use Rattle.rkyv_btree_base.proofs.build.write_leaf.Goals as goal
+use Rattle.rkyv_btree_base.proofs.WriteRuns.{wrote-both, wrote-one}
+use Rattle.rkyv_btree_base.proofs.writes.write_leaf.Goals as goal
 
 pub returns-in-Ok-put-clause-ok : goal.returns-in-Ok-put-clause-ok
 returns-in-Ok-put-clause-ok g c =
