@@ -11,5 +11,6 @@ mod node;
 pub mod numbers;
 pub mod place;
 pub mod refusal;
+pub mod shape;
 #[cfg(test)]
 mod tests;
