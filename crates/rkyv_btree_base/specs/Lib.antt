@@ -16,3 +16,9 @@ pub mod Writing
 pub mod Image
 pub mod Serialising
 pub mod Archives
+pub mod Weight
+pub mod Logarithm
+pub mod Plan
+pub mod LeftComplete
+pub mod Smallest
+pub mod Worked

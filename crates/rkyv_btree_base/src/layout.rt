@@ -1,6 +1,7 @@
 //! Sizes and offsets of nodes. Offsets count from the node's first byte, which is its kind.
 ghost use Rattle.std.specs.Prelude.{◌≡◌, ◌+◌, ◌≤◌, ◌<◌, ◌^◌, IsTrue};
 ghost use Rattle.rkyv_btree_base.specs.Layout.{shape, are_fitting, keys_at, values_at, key_at, value_at, node_align, node_size, align, len_at, leaf_size, pointer_at, inner_size};
+ghost use Rattle.rkyv_btree_base.specs.Logarithm.{ilog};
 ghost use Rattle.rkyv_btree_base.specs.Rounding.{round_up};
 
 use crate::check::Portable;
@@ -185,4 +186,33 @@ pub fn inner_size<K: Portable, V: Portable, const E: usize>() -> u32
     ensures not_less { leaf_size (shape K.kind V.kind E) ≤ result }
 {
     wide_inner_size::<K, V, E>() as u32
+}
+
+/// The number of levels of the built tree of so many entries, at least 1.
+pub fn entries_to_height<const E: usize>(entries: u64) -> u32
+    requires room { 1 ≤ E }
+    requires small { E < 2 ^ 32 }
+    requires some { 0 < entries }
+    ensures { result ≡ 1 + ilog (E + 1) entries }
+{
+    let branches = E as u64 + 1;
+    let mut above = 0;
+    let mut rest = entries;
+    while rest >= branches {
+        rest /= branches;
+        above += 1;
+    }
+    above + 1
+}
+
+/// How many of the entries stand on the last level of their built tree.
+pub(crate) fn last_level_entries<const E: usize>(entries: u64) -> u64
+    requires room { 1 ≤ E }
+    requires small { E < 2 ^ 32 }
+    requires some { 0 < entries }
+    ensures least { 1 ≤ result }
+    ensures above { result + (E + 1) ^ ilog (E + 1) entries ≡ entries + 1 }
+{
+    let above = entries_to_height::<E>(entries) - 1;
+    entries - ((E as u64 + 1).pow(above) - 1)
 }

@@ -11,6 +11,7 @@ mod node;
 pub mod numbers;
 pub mod place;
 pub mod refusal;
+pub mod shape;
 #[cfg(test)]
 mod tests;
 mod tree;

@@ -1,0 +1,53 @@
+-- Trees with each entry replaced by its image. The plan of the images is the image of the plan.
+use Rattle.std.proofs.Common.{◌≡◌, ℕ, zero, suc, ◌+◌, ◌*◌, ◌-◌, ◌^◌, ◌<◌, ◌≤◌, min, List, [], ◌∷◌, length, map, take, drop, refl, ap, ◌∙◌}
+use Rattle.std.proofs.Common.{⊎_elim}
+use Rattle.std.proofs.lemmas.Bool.{cases_lt}
+use Rattle.std.proofs.lemmas.List.{drop-map, take-map, length-map}
+use Rattle.rkyv_btree_base.specs.Tree.{Tree, leaf, inner, Row, last, step, Child, absent, child}
+use Rattle.rkyv_btree_base.specs.Logarithm.{ilog}
+use Rattle.rkyv_btree_base.specs.Plan.{leaf_plan, row_plan, child_plan, plan, tree_of}
+use Rattle.rkyv_btree_base.proofs.PlanLaws.{row_plan_step, row_plan_short, row_plan_last, child_plan_zero, child_plan_few, child_plan_many}
+
+abbrev mutual
+  pub map_tree : {X Y : Type 0} → (X → Y) → Tree X → Tree Y
+  map_tree f (leaf xs) = leaf (map f xs)
+  map_tree f (inner row) = inner (map_row f row)
+
+  pub map_row : {X Y : Type 0} → (X → Y) → Row X → Row Y
+  map_row f (last c) = last (map_child f c)
+  map_row f (step c x row) = step (map_child f c) (f x) (map_row f row)
+
+  pub map_child : {X Y : Type 0} → (X → Y) → Child X → Child Y
+  map_child f absent = absent
+  map_child f (child t) = child (map_tree f t)
+
+leaf_plan_mapped : {X Y : Type 0} (f : X → Y) (xs : List X) → leaf_plan (map f xs) ≡ map_child f (leaf_plan xs)
+unfolding leaf_plan
+leaf_plan_mapped f [] = refl
+leaf_plan_mapped f (x ∷ xs) = refl
+
+pub row_plan_mapped : {X Y : Type 0} (f : X → Y) (p : List X → Child X) (q : List Y → Child Y) → ((xs : List X) → q (map f xs) ≡ map_child f (p xs)) → (base full k rest : ℕ) (xs : List X) → row_plan q base full k rest (map f xs) ≡ map_row f (row_plan p base full k rest xs)
+row_plan_mapped f p q each base full zero rest xs = rw (row_plan_last q base full rest (map f xs), row_plan_last p base full rest xs) (ap last (each xs))
+row_plan_mapped {X} {Y} f p q each base full (suc k) rest xs = go (drop (base - 1 + min rest full) xs) refl (row_plan_mapped f p q each base full k (rest - full))
+  where
+    go : (zs : List X) → drop (base - 1 + min rest full) xs ≡ zs → ((ys : List X) → row_plan q base full k (rest - full) (map f ys) ≡ map_row f (row_plan p base full k (rest - full) ys)) → row_plan q base full (suc k) rest (map f xs) ≡ map_row f (row_plan p base full (suc k) rest xs)
+    go [] e further = rw (row_plan_short q base full k rest (map f xs) (drop-map f (base - 1 + min rest full) xs ∙ ap (map f) e), row_plan_short p base full k rest xs e) refl
+    go (x ∷ ys) e further = rw (row_plan_step q base full k rest (map f xs) (f x) (map f ys) (drop-map f (base - 1 + min rest full) xs ∙ ap (map f) e), row_plan_step p base full k rest xs x ys e, take-map f (base - 1 + min rest full) xs, each (take (base - 1 + min rest full) xs), further ys) refl
+
+few_mapped : {X Y : Type 0} (f : X → Y) (E g : ℕ) (xs : List X) → length xs ≤ E → child_plan E (suc g) (map f xs) ≡ map_child f (child_plan E (suc g) xs)
+few_mapped f E g xs h = rw (child_plan_few E g (map f xs) (rw (length-map xs f) h), child_plan_few E g xs h) (leaf_plan_mapped f xs)
+
+many_mapped : {X Y : Type 0} (f : X → Y) (E g : ℕ) (xs : List X) → ((ys : List X) → child_plan E g (map f ys) ≡ map_child f (child_plan E g ys)) → E < length xs → child_plan E (suc g) (map f xs) ≡ map_child f (child_plan E (suc g) xs)
+many_mapped f E g xs each h = rw (child_plan_many E g (map f xs) (rw (length-map xs f) h), child_plan_many E g xs h, length-map xs f) (ap (λ row. child (inner row)) (row_plan_mapped f (child_plan E g) (child_plan E g) each ((E + 1) ^ g) (E * (E + 1) ^ g) E (length xs + 1 - (E + 1) ^ suc g) xs))
+
+pub child_plan_mapped : {X Y : Type 0} (f : X → Y) (E g : ℕ) (xs : List X) → child_plan E g (map f xs) ≡ map_child f (child_plan E g xs)
+child_plan_mapped f E zero xs = rw (child_plan_zero E (map f xs), child_plan_zero E xs) (leaf_plan_mapped f xs)
+child_plan_mapped f E (suc g) xs = ⊎_elim (λ h. many_mapped f E g xs (child_plan_mapped f E g) h) (λ h. few_mapped f E g xs h) (cases_lt E (length xs))
+
+tree_of_mapped : {X Y : Type 0} (f : X → Y) (c : Child X) → tree_of (map_child f c) ≡ map_tree f (tree_of c)
+tree_of_mapped f absent = refl
+tree_of_mapped f (child t) = refl
+
+pub plan_mapped : {X Y : Type 0} (f : X → Y) (E : ℕ) (xs : List X) → plan E (map f xs) ≡ map_tree f (plan E xs)
+unfolding plan
+plan_mapped f E xs = rw (length-map xs f, child_plan_mapped f E (ilog (E + 1) (length xs)) xs) (tree_of_mapped f (child_plan E (ilog (E + 1) (length xs)) xs))
