@@ -1,14 +1,15 @@
 -- Serialising the items of an iterator, and the map itself.
-use Rattle.std.specs.Prelude.{◌≡◌, ◌≢◌, ℕ, ◌<◌, ◌≤◌, List, length, map, ◌++◌, Option}
+use Rattle.std.specs.Prelude.{◌≡◌, ◌≢◌, ℕ, ◌<◌, ◌≤◌, List, length, map, ◌++◌, Option, unwrap_or}
 use Rattle.std.specs.Borrow.{Bor}
 use Rattle.std.specs.Iterator.{Yields, Drains}
 use Rattle.rkyv_btree_base.specs.Bytes.{Holds}
-use Rattle.rkyv_btree_base.specs.Image.{entries_image, entries_root, root_image}
+use Rattle.rkyv_btree_base.specs.Image.{child_image, child_root, child_end, root_image}
 use Rattle.rkyv_btree_base.specs.InPlace.{OwnBytes, entry_of}
 use Rattle.rkyv_btree_base.specs.Kind.{Kind}
 use Rattle.rkyv_btree_base.specs.Layout.{Shape, shape}
+use Rattle.rkyv_btree_base.specs.Plan.{planned_alone}
 use Rattle.rkyv_btree_base.specs.Spells.{Spells}
-use Rattle.rkyv_btree_base.specs.Tree.{Tree, list, height}
+use Rattle.rkyv_btree_base.specs.Tree.{Tree, Child, list, height}
 use Rattle.rkyv_btree_base.specs.Writing.{Writing, position, BeginsWith, Wrote, Stopped, last_end}
 use Rattle.rkyv_btree_base.specs.declared.fault.Fault.{Fault}
 use Rattle.rkyv_btree_base.specs.declared.fault.Fault.TheVariants.{Length, LengthOverflow, PositionOverflow, OffsetOverflow, Writer, Memory, Entry}
@@ -21,10 +22,20 @@ own_of key value x = (key x.0.now, value x.1.now)
 abbrev pub meaning_of : {M N : Type 0} (K V : Kind) → (M → List ℕ) → (N → List ℕ) → Bor M × Bor N → K.Value × V.Value
 meaning_of K V key value x = entry_of K V (own_of key value x)
 
--- between two states the tree of these entries was written, whose node is at the root
+-- between two states a subtree was written, if there is one, whose node is at the root
+pub record ChildWritten (s : Shape) (from : Writing) (c : Child OwnBytes) (root : Option ℕ) (t : Writing) : Type 0 where
+  pub wrote : Wrote from (child_image s (position from) c) t
+  pub place : root ≡ child_root s (position from) c
+  pub end : position t ≡ child_end s (position from) c
+
+-- the tree that is built of these entries; nothing for none
+abbrev pub built : Shape → List OwnBytes → Child OwnBytes
+built s xs = planned_alone s.capacity xs
+
+-- between two states that tree was written, whose node is at the root, or at position 0 if there is none
 pub record Built (s : Shape) (from : Writing) (xs : List OwnBytes) (root : ℕ) (t : Writing) : Type 0 where
-  pub wrote : Wrote from (entries_image s (position from) xs) t
-  pub root_is : root ≡ entries_root s (position from) xs
+  pub wrote : Wrote from (child_image s (position from) (built s xs)) t
+  pub root_is : root ≡ unwrap_or (child_root s (position from) (built s xs)) 0
   pub ends : 0 < length xs → position t ≤ last_end
 
 -- every buffer that holds what was appended between two states spells a tree with this list, whose node is at the root
@@ -51,7 +62,7 @@ module _ {M N S : Type 0} (K V : Kind) (E : ℕ) (key : M → List ℕ) (value :
     pub rest : S
     pub taken : Yields steps iter items rest
     pub count : length items ≡ claim
-    pub stopped : Stopped from (entries_image (shape K V E) (position from) (map (own_of key value) items)) fault t
+    pub stopped : Stopped from (child_image (shape K V E) (position from) (built (shape K V E) (map (own_of key value) items))) fault t
 
   -- the iterator gave another number of items than the claim
   pub record Miscounted (iter : S) (claim expected actual : ℕ) (from t : Writing) : Type 0 where

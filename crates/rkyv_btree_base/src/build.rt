@@ -1,20 +1,21 @@
 //! Building archived maps.
-ghost use Rattle.std.specs.Prelude.{◌≡◌, ℕ, ◌+◌, ◌<◌, ◌≤◌, ◌^◌, ◌↔◌, [], ◌∷◌, ◌++◌, length, map, vec_len, true, false, vec_capacity, IsOk, OnOk, OnErr, IfOk, IfErr, IsErrOf, IsTrue};
+ghost use Rattle.std.specs.Prelude.{◌≡◌, ℕ, ◌+◌, ◌*◌, ◌<◌, ◌≤◌, ◌↔◌, [], length, true, false, vec_capacity, IsOk, OnOk, OnErr, IfOk, IfErr, IsErrOf, IsTrue};
 ghost use Rattle.std.specs.Iterator.{Yields, Drains, IsFinite, UpTo, size};
 ghost use Rattle.rkyv_btree_base.specs.Archives.{SerialisedIsAccepted, EmptyIsAccepted};
-ghost use Rattle.rkyv_btree_base.specs.Image.{padding, leaf_image, root_bytes, root_reaches, root_image};
-ghost use Rattle.rkyv_btree_base.specs.Layout.{shape, are_fitting, align, leaf_size};
+ghost use Rattle.rkyv_btree_base.specs.Image.{root_bytes, root_reaches, root_image};
+ghost use Rattle.rkyv_btree_base.specs.Layout.{are_fitting};
+ghost use Rattle.rkyv_btree_base.specs.Logarithm.{ilog};
 ghost use Rattle.rkyv_btree_base.specs.Rounding.{round_up};
-ghost use Rattle.rkyv_btree_base.specs.Serialising.{own_of, Serialised, Refusal, RootRefusal};
-ghost use Rattle.rkyv_btree_base.specs.Writing.{position, Appended, Wrote, Refused, Stopped, last_end};
+ghost use Rattle.rkyv_btree_base.specs.Serialising.{Serialised, Refusal, RootRefusal};
+ghost use Rattle.rkyv_btree_base.specs.Writing.{position, Wrote, last_end};
 
 use crate::check::{InPlace, Portable};
 use crate::fault::{Fault, IteratorLengthMismatch, ResolveFault};
 use crate::layout;
 use crate::map::ArchivedBTreeMap;
-use crate::tree::push;
-use crate::writes::{LAST_END, pad, put, write_leaf};
 use crate::place::{Place, Writer, write_offset};
+use crate::tree::{push, write_child};
+use crate::writes::{LAST_END, pad, put};
 use std::alloc::{AllocError, Allocator};
 use std::marker::Model;
 
@@ -28,6 +29,16 @@ impl Model for BTreeMapResolver {
     ghost Value = { ℕ };
 
     ghost view = { λ r. r.root };
+}
+
+/// How many entries wait at most, on all levels together, until their nodes' children are written.
+fn waiting<K: Portable, V: Portable, const E: usize>(len: usize) -> usize
+    requires fitting { IsTrue (are_fitting K.kind V.kind E) }
+    requires some { 0 < len }
+    requires small { len ≤ 4294967295 }
+    ensures { result ≡ E * ilog (E + 1) len }
+{
+    E * (layout::entries_to_height::<E>(len as u64) as usize - 1)
 }
 
 /// Takes items until there are `count`, and answers whether the iterator gave that many.
@@ -57,8 +68,8 @@ fn take_items<'x, M, N, A: Allocator, I: Iterator<Item = (&'x M, &'x N)>>(
     true
 }
 
-/// Writes the leaf of an iterator's items, which are claimed to be `len`, and answers where it stands.
-fn build_leaf<'x, K, V, W, A, I, const E: usize>(
+/// Writes the tree of an iterator's items, which are claimed to be `len`, and answers where its root node stands.
+fn build_some<'x, K, V, W, A, I, const E: usize>(
     alloc: A,
     len: usize,
     mut iter: I,
@@ -74,13 +85,20 @@ where
     V::Native: 'x,
     requires fitting { IsTrue (are_fitting K.kind V.kind E) }
     requires some { 0 < len }
-    requires one_leaf { len ≤ E }
+    requires small { len ≤ 4294967295 }
     requires can { I.can_next iter }
     requires ends { UpTo (I.remaining iter) 18446744073709551615 }
     ensures ok { IfOk result (λ resolver. Serialised K.kind V.kind E K.own V.own I.next_gives iter len (W.state writer.old) resolver (W.state writer.new)) }
     ensures err { IfErr result (λ fault. Refusal K.kind V.kind E K.own V.own I.next_gives iter len (W.state writer.old) fault (W.state writer.new)) }
 {
-    let Ok(mut node) = Vec::with_capacity(alloc, layout::leaf_size::<K, V, E>() as usize) else {
+    let waiting = waiting::<K, V, E>(len);
+    let Ok(mut node) = Vec::with_capacity(alloc, layout::inner_size::<K, V, E>() as usize) else {
+        return Err(Fault::Memory(AllocError));
+    };
+    let Ok(mut entries) = Vec::with_capacity(alloc, waiting) else {
+        return Err(Fault::Memory(AllocError));
+    };
+    let Ok(mut children) = Vec::with_capacity(alloc, waiting) else {
         return Err(Fault::Memory(AllocError));
     };
     let Ok(mut items) = Vec::with_capacity(alloc, len) else {
@@ -92,10 +110,13 @@ where
             actual: items.len(),
         }));
     }
-    let root = match write_leaf::<K, V, W, A, E>(&mut node, &items, writer) {
-        Ok(root) => root,
-        Err(fault) => return Err(fault),
-    };
+    let root = write_child::<K, V, W, A, E>(
+        &mut node,
+        &mut entries,
+        &mut children,
+        &items,
+        writer,
+    )?;
     let more = iter.count();
     if more != 0 {
         return Err(Fault::Length(IteratorLengthMismatch {
@@ -103,7 +124,9 @@ where
             actual: len + more,
         }));
     }
-    Ok(BTreeMapResolver { root })
+    Ok(BTreeMapResolver {
+        root: root.unwrap_or(0),
+    })
 }
 
 impl<K: InPlace, V: InPlace, const E: usize> ArchivedBTreeMap<K, V, E> {
@@ -127,7 +150,6 @@ impl<K: InPlace, V: InPlace, const E: usize> ArchivedBTreeMap<K, V, E> {
         K::Native: 'x,
         V::Native: 'x,
         requires fitting { IsTrue (are_fitting K.kind V.kind E) }
-        requires one_leaf { len ≤ 4294967295 → len ≤ E }
         requires can { I.can_next iter }
         requires ends { UpTo (I.remaining iter) 18446744073709551615 }
         ensures ok { IfOk result (λ resolver. Serialised K.kind V.kind E K.own V.own I.next_gives iter len (W.state writer.old) resolver (W.state writer.new)) }
@@ -146,7 +168,7 @@ impl<K: InPlace, V: InPlace, const E: usize> ArchivedBTreeMap<K, V, E> {
             }
             return Ok(BTreeMapResolver { root: 0 });
         }
-        build_leaf::<K, V, W, A, I, E>(alloc, len, iter, writer)
+        build_some::<K, V, W, A, I, E>(alloc, len, iter, writer)
     }
 }
 
