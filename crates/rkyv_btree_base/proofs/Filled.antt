@@ -1,4 +1,4 @@
-use Rattle.std.proofs.Common.{◌≡◌, ℕ, zero, suc, ◌+◌, ◌*◌, ◌-◌, ◌^◌, ◌≤◌, min, List, [], ◌∷◌, ◌++◌, length, arith, refl, ap, ◌∙◌}
+use Rattle.std.proofs.Common.{◌≡◌, ℕ, zero, suc, ◌+◌, ◌*◌, ◌-◌, ◌^◌, ◌≤◌, min, List, [], ◌∷◌, ◌++◌, length, arith, refl, ap, ◌∙◌, subst}
 use Rattle.std.proofs.Common.{⊎_elim}
 use Rattle.std.proofs.lemmas.Bool.{cases_lt}
 use Rattle.std.proofs.lemmas.List.{length-append}
@@ -85,7 +85,9 @@ row_below_is (step c x row) = simp length-append (omega (arith, row_below_is row
 
 row_tight : {X : Type 0} (E : ℕ) (F : ℕ → Child X → Type 0) (full : ℕ) → ((ll : ℕ) (c : Child X) → F ll c → Tight E full (child_nodes c) (length (child_list c)) ll) → (rest : ℕ) (row : Row X) → FilledRow F full rest row → Tight E ((length (row_entries row) + 1) * full) (row_nodes row) (row_below row) rest
 row_tight E F full tight rest (last c) f = let t = tight rest c f.1 in (t.0, t.1, λ h. t.2 (omega arith))
-row_tight E F full tight rest (step c x row) f = let t = tight_step E full (length (row_entries row)) _ _ _ _ rest (tight (min rest full) c f.0) (row_tight E F full tight (rest - full) row f.1) in (t.0, t.1, λ h. t.2 (omega arith))
+row_tight E F full tight rest (step c x row) f =
+    let t = tight_step E full (length (row_entries row)) _ _ _ _ rest (tight (min rest full) c f.0) (row_tight E F full tight (rest - full) row f.1) in
+    (t.0, t.1, λ h. t.2 (omega arith))
 
 pub tight : {X : Type 0} (E g ll : ℕ) → 1 ≤ E → (c : Child X) → Filled E g ll c → Tight E (E * (E + 1) ^ g) (child_nodes c) (length (child_list c)) ll
 tight E zero ll e absent f = (omega arith, λ h. omega arith, λ h. omega arith)
@@ -93,7 +95,10 @@ tight E zero ll e (child (leaf xs)) f = rw pow-zero (omega arith, λ h. omega ar
 tight E zero ll e (child (inner row)) f = absurd f
 tight E (suc g) ll e absent f = absurd f
 tight E (suc g) ll e (child (leaf xs)) f = (omega arith, λ h. omega arith, λ h. omega arith)
-tight E (suc g) ll e (child (inner row)) f = let t = rw f.1 at (row_tight E (Filled E g) (E * (E + 1) ^ g) (λ l d. tight E g l e d) ll row f.2) in let b = rw f.1 at (row_below_is row) in (omega (arith, b, t.0), λ h. omega (arith, b, t.1 h), λ h. omega (arith, b, t.2 (h ∙ full_up E g)))
+tight E (suc g) ll e (child (inner row)) f =
+    let t = subst (λ n. Tight E ((n + 1) * (E * (E + 1) ^ g)) (row_nodes row) (row_below row) ll) f.1 (row_tight E (Filled E g) (E * (E + 1) ^ g) (λ l d. tight E g l e d) ll row f.2) in
+    let b = row_below_is row ∙ ap (λ n. row_below row + n) f.1 in
+    (omega (arith, b, t.0), λ h. omega (arith, b, t.1 h), λ h. omega (arith, b, t.2 (h ∙ full_up E g)))
 
 -- Only one inner node lacks children, and none where the last level is empty or full. Here q children hang.
 abbrev pub Hung : ℕ → ℕ → ℕ → ℕ → ℕ → ℕ → Type 0
@@ -117,13 +122,21 @@ child_over E full ll e (child (inner row)) f = absurd f
 
 row_over : {X : Type 0} (E full : ℕ) → 1 ≤ full → (rest : ℕ) (row : Row X) → FilledRow (FilledLeaf E) full rest row → OverLeaves full (length (row_entries row) + 1) (row_inners row) (row_nodes row) rest
 row_over E full e rest (last c) f = child_over E full rest e c f.1
-row_over E full e rest (step c x row) f = let s = child_over E full (min rest full) e c f.0 in let t = row_over E full e (rest - full) row f.1 in (omega (arith, s.0, t.0), λ h. omega (arith, s.1 (omega arith)), λ h. omega (arith, s.2 (omega arith), t.2 (omega arith)))
+row_over E full e rest (step c x row) f =
+    let s = child_over E full (min rest full) e c f.0 in
+    let t = row_over E full e (rest - full) row f.1 in
+    (omega (arith, s.0, t.0), λ h. omega (arith, s.1 (omega arith)), λ h. omega (arith, s.2 (omega arith), t.2 (omega arith)))
 
 pub hung : {X : Type 0} (E g ll : ℕ) → 1 ≤ E → (c : Child X) → Filled E (suc g) ll c → Hung E (E * (E + 1) ^ suc g) 1 (child_inners c) (child_nodes c) ll
 hung E g ll e absent f = absurd f
 hung E g ll e (child (leaf xs)) f = (omega arith, λ h. omega arith, λ h. omega arith)
-hung E zero ll e (child (inner row)) f = let t = rw f.1 at (row_over E (E * (E + 1) ^ 0) (rw pow-zero (omega arith)) ll row f.2) in let z : (E + 1) * row_inners row ≡ 0 = rw t.0 (omega arith) in (omega (arith, z, t.1 (omega (arith, f.0))), λ h. omega (arith, f.0), λ h. omega (arith, z, t.2 (omega (arith, h, full_up E 0))))
-hung E (suc g) ll e (child (inner row)) f = let t = rw f.1 at (row_hung E (Filled E (suc g)) (E * (E + 1) ^ suc g) (λ l d. hung E g l e d) ll row f.2) in (omega (arith, t.0), λ h. omega (arith, t.1 h), λ h. omega (arith, t.2 (omega (arith, h, full_up E (suc g)))))
+hung E zero ll e (child (inner row)) f =
+    let t = subst (λ n. OverLeaves (E * (E + 1) ^ 0) (n + 1) (row_inners row) (row_nodes row) ll) f.1 (row_over E (E * (E + 1) ^ 0) (rw pow-zero (omega arith)) ll row f.2) in
+    let z : (E + 1) * row_inners row ≡ 0 = rw t.0 (omega arith) in
+    (omega (arith, z, t.1 (omega (arith, f.0))), λ h. omega (arith, f.0), λ h. omega (arith, z, t.2 (omega (arith, h, full_up E 0))))
+hung E (suc g) ll e (child (inner row)) f =
+    let t = subst (λ n. Hung E (E * (E + 1) ^ suc g) (n + 1) (row_inners row) (row_nodes row) ll) f.1 (row_hung E (Filled E (suc g)) (E * (E + 1) ^ suc g) (λ l d. hung E g l e d) ll row f.2) in
+    (omega (arith, t.0), λ h. omega (arith, t.1 h), λ h. omega (arith, t.2 (omega (arith, h, full_up E (suc g)))))
 
 pub hung_loosely : {X : Type 0} (E g ll : ℕ) → 1 ≤ E → (c : Child X) → Filled E g ll c → (E + 1) * child_inners c + 1 ≤ child_nodes c + E
 hung_loosely E zero ll e absent f = omega arith
@@ -143,7 +156,11 @@ row_same : {X : Type 0} (F : ℕ → Child X → Type 0) (p full : ℕ) → ((ll
 row_same F p full count same rest (last c) (last d) f g l e = ap last (same rest c d f.1 g.1 e)
 row_same F p full count same rest (last c) (step d y s) f g l e = absurd (omega arith)
 row_same F p full count same rest (step c x r) (last d) f g l e = absurd (omega arith)
-row_same F p full count same rest (step c x r) (step d y s) f g l e = let t = split_append (child_list c) (child_list d) (x ∷ row_list r) (y ∷ row_list s) (omega (arith, count (min rest full) c f.0, count (min rest full) d g.0)) e in let a = same (min rest full) c d f.0 g.0 t.0 in let b = row_same F p full count same (rest - full) r s f.1 g.1 (omega arith) (cc t.1) in cc (a, b, t.1)
+row_same F p full count same rest (step c x r) (step d y s) f g l e =
+    let t = split_append (child_list c) (child_list d) (x ∷ row_list r) (y ∷ row_list s) (omega (arith, count (min rest full) c f.0, count (min rest full) d g.0)) e in
+    let a = same (min rest full) c d f.0 g.0 t.0 in
+    let b = row_same F p full count same (rest - full) r s f.1 g.1 (omega arith) (cc t.1) in
+    cc (a, b, t.1)
 
 pub same : {X : Type 0} (E g ll : ℕ) (c d : Child X) → Filled E g ll c → Filled E g ll d → child_list c ≡ child_list d → c ≡ d
 same E zero ll absent absent f g e = refl
@@ -157,4 +174,4 @@ same E (suc k) ll c absent f g e = absurd g
 same E (suc k) ll (child (leaf xs)) (child (leaf ys)) f g e = cc
 same E (suc k) ll (child (leaf xs)) (child (inner s)) f g e = absurd (omega arith)
 same E (suc k) ll (child (inner r)) (child (leaf ys)) f g e = absurd (omega arith)
-same E (suc k) ll (child (inner r)) (child (inner s)) f g e = let h = row_same (Filled E k) ((E + 1) ^ k) (E * (E + 1) ^ k) (count E k) (same E k) ll r s f.2 g.2 (omega (arith, f.1, g.1)) e in cc h
+same E (suc k) ll (child (inner r)) (child (inner s)) f g e = ap (λ row. child (inner row)) (row_same (Filled E k) ((E + 1) ^ k) (E * (E + 1) ^ k) (count E k) (same E k) ll r s f.2 g.2 (omega (arith, f.1, g.1)) e)

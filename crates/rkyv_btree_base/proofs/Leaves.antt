@@ -51,10 +51,10 @@ module _ (a keys values : List ℕ) (k v : ℕ) (first : length a ≤ k) (room :
       )
 
 module _ (a tail : List ℕ) (n size : ℕ) (first : length a ≤ n) (room : n + length tail ≤ size) where
-  tail_length : length (filled (filled a n ++ tail) size) ≡ size
+  pub tail_length : length (filled (filled a n ++ tail) size) ≡ size
   tail_length = length-filled (filled a n ++ tail) size (omega (arith, length-append (filled a n) tail, length-filled a n first))
 
-  tail_held : (b : List ℕ) (p : ℕ) → Holds b p (filled (filled a n ++ tail) size) → Holds b p a × Holds b (p + n) tail
+  pub tail_held : (b : List ℕ) (p : ℕ) → Holds b p (filled (filled a n ++ tail) size) → Holds b p a × Holds b (p + n) tail
   tail_held b p h =
       let both = Holds-front b p (filled a n ++ tail) (zeros (size - length (filled a n ++ tail))) h in (
         Holds-front b p a (zeros (n - length a)) (Holds-front b p (filled a n) tail both),

@@ -1,9 +1,9 @@
 -- Trees with each entry replaced by its image. The plan of the images is the image of the plan.
-use Rattle.std.proofs.Common.{◌≡◌, ℕ, zero, suc, ◌+◌, ◌*◌, ◌-◌, ◌^◌, ◌<◌, ◌≤◌, min, List, [], ◌∷◌, length, map, take, drop, refl, ap, ◌∙◌}
+use Rattle.std.proofs.Common.{◌≡◌, ℕ, zero, suc, ◌+◌, ◌*◌, ◌-◌, ◌^◌, ◌<◌, ◌≤◌, min, max, List, [], ◌∷◌, ◌++◌, length, map, take, drop, refl, ap, sym, ◌∙◌}
 use Rattle.std.proofs.Common.{⊎_elim}
 use Rattle.std.proofs.lemmas.Bool.{cases_lt}
-use Rattle.std.proofs.lemmas.List.{drop-map, take-map, length-map}
-use Rattle.rkyv_btree_base.specs.Tree.{Tree, leaf, inner, Row, last, step, Child, absent, child}
+use Rattle.std.proofs.lemmas.List.{drop-map, take-map, length-map, map-append}
+use Rattle.rkyv_btree_base.specs.Tree.{Tree, leaf, inner, Row, last, step, Child, absent, child, list, row_list, child_list, row_entries, height, row_height, child_height}
 use Rattle.rkyv_btree_base.specs.Logarithm.{ilog}
 use Rattle.rkyv_btree_base.specs.Plan.{leaf_plan, row_plan, child_plan, plan, tree_of}
 use Rattle.rkyv_btree_base.proofs.PlanLaws.{row_plan_step, row_plan_short, row_plan_last, child_plan_zero, child_plan_few, child_plan_many}
@@ -51,3 +51,35 @@ tree_of_mapped f (child t) = refl
 pub plan_mapped : {X Y : Type 0} (f : X → Y) (E : ℕ) (xs : List X) → plan E (map f xs) ≡ map_tree f (plan E xs)
 unfolding plan
 plan_mapped f E xs = rw (length-map xs f, child_plan_mapped f E (ilog (E + 1) (length xs)) xs) (tree_of_mapped f (child_plan E (ilog (E + 1) (length xs)) xs))
+
+-- what the image has of the tree
+mutual
+  pub list_mapped : {X Y : Type 0} (f : X → Y) (t : Tree X) → list (map_tree f t) ≡ map f (list t)
+  list_mapped f (leaf xs) = refl
+  list_mapped f (inner row) = row_list_mapped f row
+
+  pub row_list_mapped : {X Y : Type 0} (f : X → Y) (row : Row X) → row_list (map_row f row) ≡ map f (row_list row)
+  row_list_mapped f (last c) = child_list_mapped f c
+  row_list_mapped f (step c x row) =
+      ap (λ z. z ++ f x ∷ row_list (map_row f row)) (child_list_mapped f c) ∙ ap (λ z. map f (child_list c) ++ f x ∷ z) (row_list_mapped f row) ∙ sym (map-append f (child_list c) (x ∷ row_list row))
+
+  pub child_list_mapped : {X Y : Type 0} (f : X → Y) (c : Child X) → child_list (map_child f c) ≡ map f (child_list c)
+  child_list_mapped f absent = refl
+  child_list_mapped f (child t) = list_mapped f t
+
+pub entries_mapped : {X Y : Type 0} (f : X → Y) (row : Row X) → row_entries (map_row f row) ≡ map f (row_entries row)
+entries_mapped f (last c) = refl
+entries_mapped f (step c x row) = ap (λ z. f x ∷ z) (entries_mapped f row)
+
+mutual
+  pub height_mapped : {X Y : Type 0} (f : X → Y) (t : Tree X) → height (map_tree f t) ≡ height t
+  height_mapped f (leaf xs) = refl
+  height_mapped f (inner row) = ap (λ n. 1 + n) (row_height_mapped f row)
+
+  pub row_height_mapped : {X Y : Type 0} (f : X → Y) (row : Row X) → row_height (map_row f row) ≡ row_height row
+  row_height_mapped f (last c) = child_height_mapped f c
+  row_height_mapped f (step c x row) = ap (λ n. max n (row_height (map_row f row))) (child_height_mapped f c) ∙ ap (max (child_height c)) (row_height_mapped f row)
+
+  pub child_height_mapped : {X Y : Type 0} (f : X → Y) (c : Child X) → child_height (map_child f c) ≡ child_height c
+  child_height_mapped f absent = refl
+  child_height_mapped f (child t) = height_mapped f t

@@ -82,8 +82,8 @@ left_complete_is_smallest X E e t c = let f = levels_complete E t e c in smalles
 -- ---- the planned tree
 
 -- what is known of the size of a list of entries
-pub fits : (E n : ℕ) → 1 ≤ E → 0 < n → (l : ℕ) × (1 ≤ l) × (n + 1 ≡ (E + 1) ^ ilog (E + 1) n + l) × (l ≤ E * (E + 1) ^ ilog (E + 1) n)
-fits E n e h = let b = ilog_bounds E n e h in (n + 1 - (E + 1) ^ ilog (E + 1) n, omega (arith, b.0), omega (arith, b.0), omega (arith, b.1, pow_up E (ilog (E + 1) n)))
+pub last_level_size : (E n : ℕ) → 1 ≤ E → 0 < n → (l : ℕ) × (1 ≤ l) × (n + 1 ≡ (E + 1) ^ ilog (E + 1) n + l) × (l ≤ E * (E + 1) ^ ilog (E + 1) n)
+last_level_size E n e h = let b = ilog_bounds E n e h in (n + 1 - (E + 1) ^ ilog (E + 1) n, omega (arith, b.0), omega (arith, b.0), omega (arith, b.1, pow_up E (ilog (E + 1) n)))
 
 pub there_is : {X : Type 0} (c : Child X) → 1 ≤ length (child_list c) → c ≡ child (tree_of c)
 there_is absent h = absurd (omega arith)
@@ -100,7 +100,7 @@ plan_complete E g l xs e h n m z =
     rw (plan_is E g xs z) (complete E g l (tree_of (child_plan E g xs)) h (subst (Filled E g l) q p.0), ap child_list (sym q) ∙ p.1)
 
 pub plan_is_left_complete : (X : Type 0) (E : ℕ) → 1 ≤ E → PlanIsLeftComplete X E
-plan_is_left_complete X E e xs h = let f = fits E (length xs) e h in let p = plan_complete E (ilog (E + 1) (length xs)) f.0 xs e f.1 f.2 f.3 refl in (complete_levels E (ilog (E + 1) (length xs)) f.0 (plan E xs) e p.0, p.1)
+plan_is_left_complete X E e xs h = let f = last_level_size E (length xs) e h in let p = plan_complete E (ilog (E + 1) (length xs)) f.0 xs e f.1 f.2 f.3 refl in (complete_levels E (ilog (E + 1) (length xs)) f.0 (plan E xs) e p.0, p.1)
 
 pub one_left_complete : (X : Type 0) (E : ℕ) → 1 ≤ E → OneLeftComplete X E
 one_left_complete X E e t c =

@@ -5,6 +5,12 @@ pub mod Kind
 pub mod Plain
 pub mod Layout
 pub mod Tree
+pub mod Weight
+pub mod Logarithm
+pub mod Plan
+pub mod LeftComplete
+pub mod Smallest
+pub mod Worked
 pub mod Spells
 pub mod Read
 pub mod Map
@@ -16,9 +22,3 @@ pub mod Writing
 pub mod Image
 pub mod Serialising
 pub mod Archives
-pub mod Weight
-pub mod Logarithm
-pub mod Plan
-pub mod LeftComplete
-pub mod Smallest
-pub mod Worked

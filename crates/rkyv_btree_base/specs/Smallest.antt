@@ -1,5 +1,7 @@
 use Rattle.std.specs.Prelude.{◌≡◌, ℕ, ◌+◌, ◌-◌, ◌*◌, ◌^◌, ◌≤◌, ◌<◌, List, length}
 use Rattle.std.specs.Int.{div_ceil}
+use Rattle.rkyv_btree_base.specs.Kind.{Kind}
+use Rattle.rkyv_btree_base.specs.Spells.{Spells}
 use Rattle.rkyv_btree_base.specs.Tree.{Tree, leaf, inner, HasShape, list, nodes, height}
 use Rattle.rkyv_btree_base.specs.Weight.{inners, weight}
 use Rattle.rkyv_btree_base.specs.Logarithm.{ilog}
@@ -34,6 +36,10 @@ pub record IsSmallest {X : Type 0} (E : ℕ) (t : Tree X) : Type 0 where
   pub fewest_inners : (s : Tree X) → IsCompetitor E (length (list t)) s → inners t ≤ inners s
   pub least_height : (s : Tree X) → IsCompetitor E (length (list t)) s → height t ≤ height s
   pub least_weight : (leaf_size inner_size : ℕ) → leaf_size ≤ inner_size → (s : Tree X) → IsCompetitor E (length (list t)) s → weight leaf_size inner_size t ≤ weight leaf_size inner_size s
+
+-- each tree that a buffer spells has the shape, so it competes with those of as many entries
+abbrev pub SpelledHasShape : Kind → Kind → ℕ → Type 0
+SpelledHasShape K V E = (b : List ℕ) (lo hi p : ℕ) (t : Tree (K.Value × V.Value)) → Spells K V E b lo hi p t → HasShape E t
 
 abbrev pub EachTreeNeedsRoom : Type 0 → ℕ → Type 0
 EachTreeNeedsRoom X E = (t : Tree X) → HasShape E t → NeedsRoom E t

@@ -2,13 +2,21 @@
 //! Each function is a law about the definitions, and does nothing.
 ghost use Rattle.std.specs.Prelude.{◌≤◌};
 ghost use Rattle.rkyv_btree_base.specs.Logarithm.{IsLogarithm};
-ghost use Rattle.rkyv_btree_base.specs.Smallest.{EachTreeNeedsRoom, LeftCompleteIsSmallest, PlanIsLeftComplete, OneLeftComplete, PlanIsRecursive};
+ghost use Rattle.rkyv_btree_base.specs.Smallest.{SpelledHasShape, EachTreeNeedsRoom, LeftCompleteIsSmallest, PlanIsLeftComplete, OneLeftComplete, PlanIsRecursive};
 ghost use Rattle.rkyv_btree_base.specs.Worked.{Seventeen, ThirtySix, Two, Three, Four, Counts, Chain, ThinLeaves, BareInner, EmptyLeaf};
+
+use crate::check::Portable;
 
 /// The logarithm of the definitions is the logarithm rounded down.
 pub fn logarithm<const E: usize>()
     requires { 1 ≤ E }
     ensures { IsLogarithm E }
+{}
+
+/// Every tree that a buffer spells has the shape of which the laws below speak.
+#[tactic(auto, using(crate::proofs::Shaped::spelled_has_shape))]
+pub fn spelled_trees_have_the_shape<K: Portable, V: Portable, const E: usize>()
+    ensures { SpelledHasShape K.kind V.kind E }
 {}
 
 /// Every tree needs at least so many nodes, inner nodes and levels for its entries.
