@@ -2,22 +2,23 @@
 use Rattle.std.proofs.Common.{◌≡◌, ◌≢◌, ℕ, ◌+◌, ◌<◌, ◌≤◌, ◌∙◌, Bool, IsTrue, List, [], ◌∷◌, ◌++◌, length, map, Bor, Option, refl, sym, subst, ap, arith}
 use Rattle.std.specs.Iterator.{Yields, Drains}
 use Rattle.std.proofs.lemmas.List.{length-append, append-nil, nil_from_length}
-use Rattle.rkyv_btree_base.specs.Bytes.{Holds}
-use Rattle.rkyv_btree_base.specs.Image.{padding, leaf_bytes, leaf_image, entries_image, entries_root, root_bytes, root_reaches}
+use Rattle.rkyv_btree_base.specs.Image.{padding, tree_image, child_image, child_end, root_bytes, root_reaches}
 use Rattle.rkyv_btree_base.specs.InPlace.{IsOwn, OwnBytes, AreOwn, entry_of}
 use Rattle.rkyv_btree_base.specs.Kind.{Kind, IsLawful}
-use Rattle.rkyv_btree_base.specs.Layout.{Shape, shape, are_fitting, align, leaf_size}
-use Rattle.rkyv_btree_base.specs.Rounding.{round_up, le-round_up, round_up-aligned, alignment_positive}
-use Rattle.rkyv_btree_base.specs.Serialising.{own_of, meaning_of, Spelled, Miscounted, Refusal, RootRefusal}
-use Rattle.rkyv_btree_base.specs.Standing.{IsAligned}
-use Rattle.rkyv_btree_base.specs.Tree.{leaf}
-use Rattle.rkyv_btree_base.specs.Writing.{Writing, position, Write, appended, Wrote, Refused, Stopped}
+use Rattle.rkyv_btree_base.specs.Layout.{shape, are_fitting}
+use Rattle.rkyv_btree_base.specs.Rounding.{round_up}
+use Rattle.rkyv_btree_base.specs.Serialising.{own_of, meaning_of, built, Built, Spelled, Miscounted, Refusal, RootRefusal}
+use Rattle.rkyv_btree_base.specs.Plan.{plan}
+use Rattle.rkyv_btree_base.specs.Spells.{Spells}
+use Rattle.rkyv_btree_base.specs.Tree.{list}
+use Rattle.rkyv_btree_base.specs.Writing.{Writing, position, Write, appended, Wrote, Refused, Stopped, last_end}
+use Rattle.rkyv_btree_base.specs.laws.Sizes.{room_of}
 use Rattle.rkyv_btree_base.specs.declared.fault.Fault.{Fault}
 use Rattle.rkyv_btree_base.specs.declared.fault.Fault.TheVariants.{Length, LengthOverflow, PositionOverflow, OffsetOverflow, Writer, Memory, Entry}
-use Rattle.rkyv_btree_base.proofs.Aligned.{alignment}
-use Rattle.rkyv_btree_base.proofs.Held.{Holds-front, Holds-back, Holds-at}
-use Rattle.rkyv_btree_base.proofs.Leaves.{length-padding, spelled_leaf}
-use Rattle.rkyv_btree_base.proofs.WriteRuns.{appended-append, stopped-behind, stopped-one}
+use Rattle.rkyv_btree_base.proofs.Mapped.{map_tree, list_mapped, height_mapped}
+use Rattle.rkyv_btree_base.proofs.Smallest.{plan_is_left_complete, left_complete_is_smallest}
+use Rattle.rkyv_btree_base.proofs.Spelling.{tree_spelled}
+use Rattle.rkyv_btree_base.proofs.WriteRuns.{stopped-behind, stopped-one}
 
 -- what was taken, and then the rest
 Drains-behind : {S A : Type 0} (steps : S → Option A → S → Type 0) (s : S) (xs : List A) (t : S) (ys : List A) → Yields steps s xs t → Drains steps t ys → Drains steps s (xs ++ ys)
@@ -30,11 +31,6 @@ Drains-behind steps s (x ∷ xs) t ys y d =
 pub drained : {S A : Type 0} (steps : S → Option A → S → Type 0) (s : S) (xs : List A) (t : S) (ys : List A) (n : ℕ) → Yields steps s xs t → Drains steps t ys → n ≡ length ys → n ≡ 0 → Drains steps s xs
 drained steps s xs t ys n y d is none =
     subst (Drains steps s) (ap (λ zs. xs ++ zs) (nil_from_length ys (sym is ∙ none)) ∙ append-nil xs) (Drains-behind steps s xs t ys y d)
-
--- some entries are a leaf
-pub leaf_is_tree : {M : Type 0} (s : Shape) (at : ℕ) (f : M → List ℕ × List ℕ) (xs : List M) → 0 < length xs → (entries_image s at (map f xs) ≡ leaf_image s at (map f xs)) × (entries_root s at (map f xs) ≡ round_up at (align s))
-leaf_is_tree s at f [] some = absurd (omega arith)
-leaf_is_tree s at f (x ∷ xs) some = (refl, refl)
 
 module _ {M N S : Type 0} (K V : Kind) (E : ℕ) (key : M → List ℕ) (value : N → List ℕ) (steps : S → Option (Bor M × Bor N) → S → Type 0) where
   pub miscounted_of : (iter : S) (claim more : ℕ) (s t : Writing) (writes : List Write) (xs : List (Bor M × Bor N)) (rest : S) (ys : List (Bor M × Bor N)) → 0 < claim →
@@ -51,7 +47,7 @@ module _ {M N S : Type 0} (K V : Kind) (E : ℕ) (key : M → List ℕ) (value :
 
   -- which faults stop the building, and how
   pub refused_of : {X : Type 0} (iter : S) (claim : ℕ) (s : Writing) (fault : Fault X) (t : Writing) (items : List (Bor M × Bor N)) (rest : S) →
-      Yields steps iter items rest → length items ≡ claim → Stopped s (entries_image (shape K V E) (position s) (map (own_of key value) items)) fault t → Refusal K V E key value steps iter claim s fault t
+      Yields steps iter items rest → length items ≡ claim → Stopped s (child_image (shape K V E) (position s) (built (shape K V E) (map (own_of key value) items))) fault t → Refusal K V E key value steps iter claim s fault t
   refused_of iter claim s PositionOverflow t items rest y n h = record { items = items; rest = rest; taken = y; count = n; stopped = h }
   refused_of iter claim s OffsetOverflow t items rest y n h = record { items = items; rest = rest; taken = y; count = n; stopped = h }
   refused_of iter claim s (Writer error) t items rest y n h = record { items = items; rest = rest; taken = y; count = n; stopped = h }
@@ -69,27 +65,27 @@ pub meaning_is : {M N : Type 0} (K V : Kind) (key : M → List ℕ) (value : N �
 meaning_is K V key value [] = refl
 meaning_is K V key value (x ∷ xs) = ap (λ m. meaning_of K V key value x ∷ m) (meaning_is K V key value xs)
 
--- every buffer that holds a leaf's writes spells the leaf
-pub spelled_of : (K V : Kind) (E : ℕ) → IsLawful K → IsLawful V → IsTrue (are_fitting K V E) → (s : Writing) (xs : List OwnBytes) (m : List (K.Value × V.Value)) (root : ℕ) (t : Writing) → AreOwn K V xs → map (entry_of K V) xs ≡ m → length xs ≤ E → Wrote s (leaf_image (shape K V E) (position s) xs) t → root ≡ round_up (position s) (align (shape K V E)) → position t ≡ root + leaf_size (shape K V E) → Spelled K V E s m root t
-spelled_of K V E k v fits s xs m root t own means few wrote root_is end =
+-- every buffer that holds the writes of a built tree spells it
+pub spelled_of : (K V : Kind) (E : ℕ) → IsLawful K → IsLawful V → IsTrue (are_fitting K V E) → (s : Writing) (xs : List OwnBytes) (m : List (K.Value × V.Value)) (root : ℕ) (t : Writing) → AreOwn K V xs → map (entry_of K V) xs ≡ m → 0 < length xs → length xs ≤ last_end → Built (shape K V E) s xs root t → position t ≡ child_end (shape K V E) (position s) (built (shape K V E) xs) → Spelled K V E s m root t
+spelled_of K V E k v fits s [] m root t own means some few b end = absurd (omega arith)
+spelled_of K V E k v fits s (x ∷ more) m root t own means some few b end =
+    let xs = x ∷ more in
     let nodes = shape K V E in
     let at = position s in
-    let bytes = leaf_bytes nodes xs in
-    let write : Write = record { bytes = bytes; reaches = _ } in
-    let pad = padding (align nodes) at in
-    let positive = alignment_positive (alignment K V E k v) in
+    let e = (room_of K V E k v fits).some in
+    let tree = plan E xs in
+    let complete = plan_is_left_complete OwnBytes E e xs some in
+    let smallest = left_complete_is_smallest OwnBytes E e tree complete.0 in
+    let count : length (list tree) ≡ length xs = ap length complete.1 in
     record {
-      tree = leaf (map (entry_of K V) xs);
-      entries = means;
-      levels = omega arith;
-      appended = appended (leaf_image nodes at xs);
-      contents = wrote.done.contents;
-      spelled = λ b short held inside.
-          let both : Holds b at (appended pad ++ (bytes ++ [])) = subst (Holds b at) (appended-append pad (write ∷ [])) held in
-          let behind : Holds b (at + length (appended pad)) (bytes ++ []) = Holds-back b at (appended pad) (bytes ++ []) both in
-          let there : Holds b root bytes = Holds-at b (at + length (appended pad)) root bytes (omega (arith, length-padding (align nodes) at positive)) (Holds-front b (at + length (appended pad)) bytes [] behind) in
-          spelled_leaf K V E k v fits b at (position t) root xs own short
-          (subst (IsAligned (align nodes)) (sym root_is) (round_up-aligned at (align nodes))) (omega (arith, le-round_up at (align nodes) positive)) (omega arith) inside few there;
+      tree = map_tree (entry_of K V) tree;
+      entries = list_mapped (entry_of K V) tree ∙ (ap (map (entry_of K V)) complete.1 ∙ means);
+      levels = omega (arith, height_mapped (entry_of K V) tree, smallest.height_fits (omega (arith, count, few)));
+      appended = appended (tree_image nodes at tree);
+      contents = b.wrote.done.contents;
+      spelled = λ bytes short held inside.
+          subst (λ p. Spells K V E bytes at (position t) p (map_tree (entry_of K V) tree)) (sym b.root_is)
+          (tree_spelled K V E k v fits bytes short at (position t) at tree complete.0.has_shape (subst (AreOwn K V) (sym complete.1) own) b.wrote.reach held (omega arith) (omega (arith, end)) inside);
     }
 
 abbrev root_write : ℕ → ℕ → ℕ → Write
