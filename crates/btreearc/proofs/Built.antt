@@ -1,21 +1,23 @@
 -- What is built for entries is their archive.
 use Rattle.std.proofs.Common.{◌≡◌, ℕ, ◌^◌, ◌≤◌, ◌<◌, IsTrue, IfSome, Option, Some, None, List, [], ◌∷◌, ◌++◌, length, map, Bor, refl, sym, ap, subst, ◌∙◌, arith}
-use Rattle.std.proofs.lemmas.List.{length-map}
+use Rattle.std.proofs.lemmas.List.{length-map, length-append, append-nil, nil_from_length}
 use Rattle.std.specs.Int.{w32, to_le_bytes}
 use Rattle.std.specs.Io.KnownBytes.{Appends}
-use Rattle.std.specs.Iterator.{Drains, YieldsFirstBy}
+use Rattle.std.specs.Iterator.{Yields, Drains, YieldsFirstBy}
 use Rattle.rkyv_btree_base.specs.Bytes.{from_le}
-use Rattle.rkyv_btree_base.specs.Image.{root_image}
+use Rattle.rkyv_btree_base.specs.Image.{child_image, root_image}
 use Rattle.rkyv_btree_base.specs.Layout.{shape, are_fitting, inner_size, len_at, node_size, values_at, keys_at, align, node_align}
 use Rattle.rkyv_btree_base.specs.Plain.{u32_kind, u32_laws}
 use Rattle.rkyv_btree_base.specs.Rounding.{round_up}
-use Rattle.rkyv_btree_base.specs.Serialising.{Built, Spelled, own_of, meaning_of}
+use Rattle.rkyv_btree_base.specs.Serialising.{built, Built, Spelled, own_of, meaning_of, StoppedBuilding, Refusal, RootRefusal}
 use Rattle.rkyv_btree_base.specs.Spells.{Accepted}
-use Rattle.rkyv_btree_base.specs.Writing.{Writing, position, Wrote, appended, last_end}
+use Rattle.rkyv_btree_base.specs.Writing.{Writing, position, Write, AllReach, Wrote, Stopped, appended, last_end}
+use Rattle.rkyv_btree_base.specs.declared.fault.Fault.{Fault}
+use Rattle.rkyv_btree_base.specs.declared.fault.Fault.TheVariants.{Length, LengthOverflow, PositionOverflow, OffsetOverflow, Writer, Memory, Entry}
 use Rattle.rkyv_btree_base.proofs.Accepting.{accepted_archive, archive_length}
-use Rattle.btreearc.specs.Archive.{own, tree_of, archive_of}
-use Rattle.btreearc.specs.Commands.{AreFew}
-use Rattle.btreearc.specs.Grammar.{AreShort, AreEntries}
+use Rattle.rkyv_btree_base.proofs.WriteRuns.{appended-append, stopped_past, stopped_stray}
+use Rattle.btreearc.specs.Archive.{own, five, tree_writes, root_writes, archive_of, IsUnbuilt}
+use Rattle.btreearc.specs.Grammar.{AreShort, AreEntries, IsLines}
 use Rattle.btreearc.specs.Leaf.{IsArchive, root_of}
 
 abbrev pub nothing_written : Writing
@@ -54,14 +56,79 @@ meant_pairs (x ∷ xs) h =
     ap (λ (n : ℕ). (n, from_le (to_le_bytes w32 x.1.now)) ∷ map (meaning_of u32_kind u32_kind (to_le_bytes w32) (to_le_bytes w32)) xs) key
     ∙ (ap (λ (n : ℕ). (x.0.now, n) ∷ map (meaning_of u32_kind u32_kind (to_le_bytes w32) (to_le_bytes w32)) xs) value ∙ ap (λ ys. pair x ∷ ys) (meant_pairs xs h.1))
 
+-- the map's writes behind the tree
+roots_are : (entries : List (ℕ × ℕ)) (root : ℕ) (s : Writing) → Built five nothing_written (map own entries) root s → root_image (position s) root (length entries) ≡ root_writes entries
+roots_are entries root s built =
+    let at : position s ≡ length (appended (tree_writes entries)) = omega (arith, ap length built.wrote.done.contents, built.wrote.done.base) in
+    ap (λ p. root_image p root (length entries)) at ∙ ap (λ r. root_image (length (appended (tree_writes entries))) r (length entries)) built.root_is
+
+reach_front : (xs ys : List Write) → AllReach (xs ++ ys) → AllReach xs
+reach_front [] ys h = tt
+reach_front (x ∷ xs) ys h = (h.0, reach_front xs ys h.1)
+
+reach_back : (xs ys : List Write) → AllReach (xs ++ ys) → AllReach ys
+reach_back [] ys h = h
+reach_back (x ∷ xs) ys h = reach_back xs ys h.1
+
 -- the tree and the map are the archive
-pub archive_written : (entries : List (ℕ × ℕ)) (root : ℕ) (s t : Writing) → Built (shape u32_kind u32_kind 5) nothing_written (map own entries) root s → Wrote s (root_image (position s) root (length entries)) t → t.contents ≡ archive_of entries
+pub archive_written : (entries : List (ℕ × ℕ)) (root : ℕ) (s t : Writing) → Built five nothing_written (map own entries) root s → Wrote s (root_image (position s) root (length entries)) t → t.contents ≡ archive_of entries
 archive_written entries root s t built wrote =
-    let tree : s.contents ≡ tree_of entries = built.wrote.done.contents in
-    let at : position s ≡ length (tree_of entries) = omega (arith, ap length tree, built.wrote.done.base) in
+    let tree : s.contents ≡ appended (tree_writes entries) = built.wrote.done.contents in
     wrote.done.contents ∙ (ap (λ z. z ++ appended (root_image (position s) root (length entries))) tree
-    ∙ (ap (λ p. tree_of entries ++ appended (root_image p root (length entries))) at
-    ∙ ap (λ r. tree_of entries ++ appended (root_image (length (tree_of entries)) r (length entries))) built.root_is))
+    ∙ (ap (λ ws. appended (tree_writes entries) ++ appended ws) (roots_are entries root s built) ∙ sym (appended-append (tree_writes entries) (root_writes entries))))
+
+-- all that an iterator has is what its state shows
+taken_pairs : {S : Type 0} (rest : S → List (ℕ × ℕ)) (s : S) (xs : List (Bor ℕ × Bor ℕ)) (t : S) → Yields (YieldsFirstBy pair rest) s xs t → map pair xs ++ rest t ≡ rest s
+taken_pairs rest s [] t y = ap rest (sym y)
+taken_pairs rest s (x ∷ xs) t y = ap (λ ys. pair x ∷ ys) (taken_pairs rest y.0 xs t y.2) ∙ sym y.1
+
+all_taken : (xs ys zs : List (ℕ × ℕ)) → xs ++ ys ≡ zs → length xs ≡ length zs → xs ≡ zs
+all_taken xs ys zs whole count = sym (append-nil xs) ∙ (ap (λ none. xs ++ none) (sym (nil_from_length ys (omega (arith, ap length whole, length-append xs ys, count)))) ∙ whole)
+
+module _ {S : Type 0} (rest : S → List (ℕ × ℕ)) (entries : List (ℕ × ℕ)) where
+  -- the writes of the entries' tree are those of the items'
+  stopped_tree : {X : Type 0} (iter : S) (fault : Fault X) (t : Writing) → rest iter ≡ entries → StoppedBuilding u32_kind u32_kind 5 (to_le_bytes w32) (to_le_bytes w32) (YieldsFirstBy pair rest) iter (length entries) nothing_written fault t → Stopped nothing_written (tree_writes entries) fault t
+  stopped_tree iter fault t is h =
+      let taken = taken_pairs rest iter h.items h.rest h.taken ∙ is in
+      let are : map pair h.items ≡ entries = all_taken (map pair h.items) (rest h.rest) entries taken (length-map h.items pair ∙ h.count) in
+      subst (λ ys. Stopped nothing_written (child_image five 0 (built five ys)) fault t) (own_pairs h.items ∙ ap (map own) are) h.stopped
+
+  unbuilt_past : {X : Type 0} (t : Writing) → Stopped {E = X} nothing_written (tree_writes entries) PositionOverflow t → last_end < length (archive_of entries)
+  unbuilt_past t h = omega (arith, stopped_past nothing_written (tree_writes entries) t h, ap length (appended-append (tree_writes entries) (root_writes entries)), length-append (appended (tree_writes entries)) (appended (root_writes entries)))
+
+  pub unbuilt : {X : Type 0} (iter : S) (from : Writing) (fault : Fault X) (t : Writing) → from ≡ nothing_written → rest iter ≡ entries → Refusal u32_kind u32_kind 5 (to_le_bytes w32) (to_le_bytes w32) (YieldsFirstBy pair rest) iter (length entries) from fault t → IsUnbuilt entries fault
+  unbuilt iter from LengthOverflow t start is h = h.0
+  unbuilt {X} iter from PositionOverflow t start is h = unbuilt_past t (stopped_tree {X = X} iter PositionOverflow t is (subst (λ s. StoppedBuilding u32_kind u32_kind 5 (to_le_bytes w32) (to_le_bytes w32) (YieldsFirstBy pair rest) {X = X} iter (length entries) s PositionOverflow t) start h))
+  unbuilt {X} iter from OffsetOverflow t start is h = λ all. stopped_stray nothing_written (tree_writes entries) t (stopped_tree {X = X} iter OffsetOverflow t is (subst (λ s. StoppedBuilding u32_kind u32_kind 5 (to_le_bytes w32) (to_le_bytes w32) (YieldsFirstBy pair rest) {X = X} iter (length entries) s OffsetOverflow t) start h)) (reach_front (tree_writes entries) (root_writes entries) all)
+  unbuilt iter from (Writer error) t start is h = tt
+  unbuilt iter from (Memory error) t start is h = tt
+  unbuilt iter from (Length mismatch) t start is h = absurd (h.differs (sym (length-map h.items pair) ∙ ap length (drained_pairs rest iter h.items h.all ∙ is)))
+  unbuilt iter from (Entry fault) t start is h = absurd h
+
+-- neither is the map written
+module _ (entries : List (ℕ × ℕ)) (root : ℕ) (s : Writing) (tree : Built five nothing_written (map own entries) root s) where
+  stopped_root : {X : Type 0} (fault : Fault X) (t : Writing) → Stopped s (root_image (position s) root (length entries)) fault t → Stopped s (root_writes entries) fault t
+  stopped_root fault t h = subst (λ ws. Stopped s ws fault t) (roots_are entries root s tree) h
+
+  unbuilt_root_past : {X : Type 0} (t : Writing) → Stopped {E = X} s (root_writes entries) PositionOverflow t → last_end < length (archive_of entries)
+  unbuilt_root_past t h =
+      omega (
+        arith,
+        stopped_past s (root_writes entries) t h,
+        ap length tree.wrote.done.contents,
+        tree.wrote.done.base,
+        ap length (appended-append (tree_writes entries) (root_writes entries)),
+        length-append (appended (tree_writes entries)) (appended (root_writes entries)),
+      )
+
+  pub unbuilt_root : {X : Type 0} (fault : Fault X) (t : Writing) → RootRefusal root (length entries) s fault t → IsUnbuilt entries fault
+  unbuilt_root LengthOverflow t h = h.0
+  unbuilt_root {X} PositionOverflow t h = unbuilt_root_past t (stopped_root {X = X} PositionOverflow t h)
+  unbuilt_root {X} OffsetOverflow t h = λ all. stopped_stray s (root_writes entries) t (stopped_root {X = X} OffsetOverflow t h) (reach_back (tree_writes entries) (root_writes entries) all)
+  unbuilt_root (Writer error) t h = tt
+  unbuilt_root (Memory error) t h = absurd h
+  unbuilt_root (Length mismatch) t h = absurd h
+  unbuilt_root (Entry fault) t h = absurd h
 
 -- what is built and written is accepted
 pub archive_accepted : (entries : List (ℕ × ℕ)) (items : List (Bor ℕ × Bor ℕ)) (root : ℕ) (from s t : Writing) → from.base ≡ 0 → s.base ≡ 0 → map pair items ≡ entries → AreShort entries → length items ≤ last_end →
@@ -80,12 +147,12 @@ unfolding are_fitting inner_size len_at node_size values_at keys_at align node_a
 numbers_fit = refl
 
 -- what was written of an input that is known
-pub output_built : (input old new : Option (List ℕ)) (text archive : List ℕ) (entries : List (ℕ × ℕ)) → IfSome input (λ bytes. text ≡ bytes) → AreFew text entries → IsArchive archive entries → archive ≡ archive_of entries → Appends old new archive →
-    IfSome input (λ bytes. (xs : List (ℕ × ℕ)) × AreFew bytes xs × IsArchive (archive_of xs) xs × Appends old new (archive_of xs))
+pub output_built : (input old new : Option (List ℕ)) (text archive : List ℕ) (entries : List (ℕ × ℕ)) → IfSome input (λ bytes. text ≡ bytes) → IsLines text entries → IsArchive archive entries → archive ≡ archive_of entries → Appends old new archive →
+    IfSome input (λ bytes. (xs : List (ℕ × ℕ)) × IsLines bytes xs × IsArchive (archive_of xs) xs × Appends old new (archive_of xs))
 output_built None old new text archive entries is few accepted made written = tt
 output_built (Some bytes) old new text archive entries is few accepted made written = (
   entries,
-  subst (λ (z : List ℕ). AreFew z entries) is few,
+  subst (λ (z : List ℕ). IsLines z entries) is few,
   subst (λ (z : List ℕ). IsArchive z entries) made accepted,
   subst (λ (z : List ℕ). Appends old new z) made written,
 )

@@ -1,12 +1,12 @@
 -- What each command does with known input, and when it fails.
-use Rattle.std.specs.Prelude.{◌≡◌, ℕ, ◌≤◌, ◌<◌, List, [], ◌∷◌, length, Option, IfSome, Result, Ok, Err, String, string_bytes}
+use Rattle.std.specs.Prelude.{◌≡◌, ℕ, List, [], ◌∷◌, Option, IfSome, Result, Ok, Err, String, string_bytes}
 use Rattle.std.specs.Global.{Global}
 use Rattle.std.specs.Io.KnownBytes.{Appends}
-use Rattle.btreearc.specs.Archive.{archive_of}
+use Rattle.btreearc.specs.Archive.{archive_of, IsUnbuilt}
 use Rattle.btreearc.specs.Grammar.{IsLines, BadLine, text_of}
 use Rattle.btreearc.specs.Leaf.{IsArchive, RefusesLeaf}
 use Rattle.btreearc.specs.declared.fault.ProgramFault.{ProgramFault}
-use Rattle.btreearc.specs.declared.fault.ProgramFault.TheVariants.{Usage, Line, Refused, NotBuilt, InputFailed, OutputFailed, Memory, TooMany}
+use Rattle.btreearc.specs.declared.fault.ProgramFault.TheVariants.{Usage, Line, Refused, NotBuilt, InputFailed, OutputFailed, Memory}
 
 -- one word, and this
 abbrev pub IsWord : List ℕ → List (String Global) → Type 0
@@ -14,27 +14,16 @@ IsWord text [] = ⊥
 IsWord text (word ∷ []) = string_bytes word ≡ text
 IsWord text (word ∷ other ∷ others) = ⊥
 
--- the input's lines are at most five entries
-pub record AreFew (bytes : List ℕ) (entries : List (ℕ × ℕ)) : Type 0 where
-  pub spelled : IsLines bytes entries
-  pub few : length entries ≤ 5
-
--- they are more
-pub record AreMany (bytes : List ℕ) (entries : List (ℕ × ℕ)) : Type 0 where
-  pub spelled : IsLines bytes entries
-  pub many : 5 < length entries
-
 -- `build` has written the archive of the input's lines, which is accepted and means them, or it names the fault and has written nothing, except where a
 -- write failed
 abbrev pub Builds : Option (List ℕ) → Option (List ℕ) → Option (List ℕ) → Result ℕ ProgramFault → Type 0
 Builds input old new (Ok status) =
-    (status ≡ 0) × IfSome input (λ bytes. (entries : List (ℕ × ℕ)) × AreFew bytes entries × IsArchive (archive_of entries) entries × Appends old new (archive_of entries))
+    (status ≡ 0) × IfSome input (λ bytes. (entries : List (ℕ × ℕ)) × IsLines bytes entries × IsArchive (archive_of entries) entries × Appends old new (archive_of entries))
 Builds input old new (Err (Line n)) = IfSome input (λ bytes. BadLine bytes n) × (new ≡ old)
-Builds input old new (Err TooMany) = IfSome input (λ bytes. (entries : List (ℕ × ℕ)) × AreMany bytes entries) × (new ≡ old)
-Builds input old new (Err (NotBuilt fault)) = IfSome input (λ bytes. (entries : List (ℕ × ℕ)) × AreFew bytes entries) × (new ≡ old)
+Builds input old new (Err (NotBuilt fault)) = IfSome input (λ bytes. (entries : List (ℕ × ℕ)) × IsLines bytes entries × IsUnbuilt entries fault) × (new ≡ old)
 Builds input old new (Err InputFailed) = new ≡ old
 Builds input old new (Err Memory) = new ≡ old
-Builds input old new (Err OutputFailed) = IfSome input (λ bytes. (entries : List (ℕ × ℕ)) × AreFew bytes entries)
+Builds input old new (Err OutputFailed) = IfSome input (λ bytes. (entries : List (ℕ × ℕ)) × IsLines bytes entries)
 Builds input old new (Err _) = ⊥
 
 -- `list` has written the lines of the input's archive, or it names the fault and has written nothing, except where a

@@ -1,8 +1,9 @@
 -- What the program's faults say, and where each comes from.
 use Rattle.std.specs.Prelude.{ℕ, List, ◌++◌, Option, Some, None, codes, decimal}
+use Rattle.btreearc.specs.Archive.{IsUnbuilt}
 use Rattle.btreearc.specs.Leaf.{RefusesLeaf}
 use Rattle.btreearc.specs.declared.fault.ProgramFault.{ProgramFault}
-use Rattle.btreearc.specs.declared.fault.ProgramFault.TheVariants.{Usage, Line, Refused, NotBuilt, InputFailed, OutputFailed, Memory, TooMany}
+use Rattle.btreearc.specs.declared.fault.ProgramFault.TheVariants.{Usage, Line, Refused, NotBuilt, InputFailed, OutputFailed, Memory}
 
 -- the line that is printed for a fault; of a refusal or a building's fault, whose texts say the rest, it isn't stated
 abbrev pub fault_text : ProgramFault → Option (List ℕ)
@@ -13,7 +14,6 @@ fault_text (NotBuilt fault) = None
 fault_text InputFailed = Some (codes "btreearc: input failed")
 fault_text OutputFailed = Some (codes "btreearc: output failed")
 fault_text Memory = Some (codes "btreearc: out of memory")
-fault_text TooMany = Some (codes "btreearc: not built: more than 5 entries")
 
 -- a fault of reading all input
 abbrev pub IsReadFault : ProgramFault → Type 0
@@ -27,10 +27,9 @@ IsWriteFault OutputFailed = Unit {0}
 IsWriteFault _ = ⊥
 
 -- a fault of building an archive
-abbrev pub IsBuildFault : ProgramFault → Type 0
-IsBuildFault (NotBuilt fault) = Unit {0}
-IsBuildFault Memory = Unit {0}
-IsBuildFault _ = ⊥
+abbrev pub IsBuildFault : List (ℕ × ℕ) → ProgramFault → Type 0
+IsBuildFault entries (NotBuilt fault) = IsUnbuilt entries fault
+IsBuildFault entries _ = ⊥
 
 -- a fault of listing an archive's entries: a refusal by its facts, or memory
 abbrev pub IsListFault : List ℕ → ProgramFault → Type 0

@@ -1,5 +1,5 @@
-//! Archives of at most five entries, which one leaf holds.
-ghost use Rattle.std.specs.Prelude.{◌≡◌, ℕ, ◌≤◌, List, length, IfOk, IfErr};
+//! Archives of entries.
+ghost use Rattle.std.specs.Prelude.{◌≡◌, IfOk, IfErr};
 ghost use Rattle.std.specs.Iterator.{YieldsFirstBy, item_count};
 ghost use Rattle.btreearc.specs.Archive.{archive_of};
 ghost use Rattle.btreearc.specs.Faults.{IsBuildFault};
@@ -11,9 +11,6 @@ use rkyv_btree_base::map::ArchivedBTreeMap;
 use rkyv_btree_base::numbers::ArchivedU32;
 use rkyv_btree_base::place::VecWriter;
 use std::alloc::Global;
-
-/// The most entries that an archive has.
-pub const MOST_ENTRIES: usize = 5;
 
 /// The maps that the program archives.
 type Numbers = ArchivedBTreeMap<ArchivedU32, ArchivedU32, 5>;
@@ -42,13 +39,13 @@ impl<'x> Iterator for Entries<'x> {
 ///
 /// # Errors
 ///
-/// `NotBuilt` where building is refused.
+/// `NotBuilt` where the entries are too many for 32 bits, the archive would end past position 4294967295, a pointer
+/// would reach over more than 2 GiB, or there is no memory.
 #[tactic(auto, using(crate::proofs::Built::numbers_fit))]
 pub fn archive(alloc: Global, entries: &[(u32, u32)]) -> Result<Vec<u8>, ProgramFault>
-    requires { length entries.now ≤ 5 }
     ensures ok { IfOk result (λ bytes. bytes.items ≡ archive_of entries.now) }
     ensures accepted { AreShort entries.now → IfOk result (λ bytes. IsArchive bytes.items entries.now) }
-    ensures err { IfErr result IsBuildFault }
+    ensures err { IfErr result (IsBuildFault entries.now) }
 {
     let mut writer = VecWriter::new(alloc);
     let count = entries.len();

@@ -24,8 +24,6 @@ pub enum ProgramFault {
     OutputFailed,
     /// There is no memory for the input or the output.
     Memory,
-    /// There are more entries than one leaf has room for.
-    TooMany,
 }
 
 impl fmt::Display for ProgramFault {
@@ -43,7 +41,6 @@ impl fmt::Display for ProgramFault {
             ProgramFault::InputFailed => write!(f, "btreearc: input failed"),
             ProgramFault::OutputFailed => write!(f, "btreearc: output failed"),
             ProgramFault::Memory => write!(f, "btreearc: out of memory"),
-            ProgramFault::TooMany => write!(f, "btreearc: not built: more than 5 entries"),
         }
     }
 }

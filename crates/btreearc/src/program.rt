@@ -3,7 +3,7 @@ ghost use Rattle.std.specs.Prelude.{codes, OnOk};
 ghost use Rattle.std.specs.Io.KnownBytes.{IsAtEnd};
 ghost use Rattle.btreearc.specs.Commands.{IsWord, Builds, Lists, IsMisused};
 
-use crate::build::{self, MOST_ENTRIES};
+use crate::build;
 use crate::fault::ProgramFault;
 use crate::leaf;
 use crate::lines::parse_lines;
@@ -47,7 +47,7 @@ pub fn run<R: Read, W: Write>(
 ///
 /// # Errors
 ///
-/// `Line` for the first bad line, `TooMany`, `NotBuilt`, and `InputFailed`, `OutputFailed` or `Memory`.
+/// `Line` for the first bad line, `NotBuilt`, and `InputFailed`, `OutputFailed` or `Memory`.
 fn build<R: Read, W: Write>(
     alloc: Global,
     input: &mut R,
@@ -58,9 +58,6 @@ fn build<R: Read, W: Write>(
 {
     let text = read_all(alloc, input)?;
     let entries = parse_lines(alloc, &text)?;
-    if entries.len() > MOST_ENTRIES {
-        return Err(ProgramFault::TooMany);
-    }
     let archive = build::archive(alloc, &entries)?;
     write_all(output, &archive)?;
     Ok(0)

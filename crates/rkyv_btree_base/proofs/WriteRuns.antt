@@ -3,10 +3,11 @@ use Rattle.std.proofs.Common.{◌≡◌, ℕ, ◌+◌, ◌-◌, ◌%◌, ◌<◌
 use Rattle.std.proofs.lemmas.List.{append_assoc, append-nil, length-append, take-replicate}
 use Rattle.std.proofs.lemmas.Bool.Decides.{nat_tests}
 use Rattle.rkyv_btree_base.specs.declared.fault.Fault.{Fault}
+use Rattle.rkyv_btree_base.specs.declared.fault.Fault.TheVariants.{PositionOverflow, OffsetOverflow}
 use Rattle.rkyv_btree_base.specs.Bytes.{zeros}
 use Rattle.rkyv_btree_base.specs.Image.{zeros_write, padding}
 use Rattle.rkyv_btree_base.specs.Rounding.{round_up}
-use Rattle.rkyv_btree_base.specs.Writing.{Writing, Appended, position, Write, appended, AllReach, Wrote, Refused, Stopped}
+use Rattle.rkyv_btree_base.specs.Writing.{Writing, Appended, position, Write, appended, AllReach, Wrote, Refused, Stopped, last_end}
 use Rattle.rkyv_btree_base.proofs.Rounds.{round_up-past, round_up-multiple}
 
 pub appended-append : (xs ys : List Write) → appended (xs ++ ys) ≡ appended xs ++ appended ys
@@ -63,6 +64,26 @@ stopped-behind s xs m ys fault t a h = record {
   wrote = wrote-both s xs m h.made h.mid a h.wrote;
   refused = h.refused;
 }
+
+-- a refused position lies behind what the writes append, and a refused offset is in one of them
+pub stopped_past : {E : Type 0} (s : Writing) (writes : List Write) (t : Writing) → Stopped {E = E} s writes PositionOverflow t → last_end < position s + length (appended writes)
+stopped_past s writes t h =
+    let split = ap appended h.parts ∙ appended-append h.made (h.next ∷ h.rest) in
+    omega (
+      arith,
+      h.refused.1,
+      appended-position s (appended h.made) h.mid h.wrote.done,
+      ap length split,
+      length-append (appended h.made) (h.next.bytes ++ appended h.rest),
+      length-append h.next.bytes (appended h.rest),
+    )
+
+reach_next : (made : List Write) (next : Write) (rest : List Write) → AllReach (made ++ next ∷ rest) → next.reaches ≡ true
+reach_next [] next rest h = h.0
+reach_next (x ∷ made) next rest h = reach_next made next rest h.1
+
+pub stopped_stray : {E : Type 0} (s : Writing) (writes : List Write) (t : Writing) → Stopped {E = E} s writes OffsetOverflow t → AllReach writes → ⊥
+stopped_stray s writes t h all = absurd (cc (h.refused.1, reach_next h.made h.next h.rest (subst AllReach h.parts all)))
 
 -- where no padding is needed, and where it is
 padding-none : (align w : ℕ) → round_up w align ≡ w → padding align w ≡ []

@@ -15,7 +15,7 @@ returns-clause-done g c =
     let accepted = c.in_ok-archive.ensures.accepted (subst AreShort (sym same) (lines_are_short _ entries lines)) in (
       refl,
       output_built (g.R.Read.remaining c.args.input.now) (g.W.Write.contents c.args.output.now) (g.W.Write.contents c.write_all.new.output) c.in_ok-text.text.items archive entries c.in_ok-text.ensures.all
-          (record { spelled = lines; few = omega arith })
+          lines
           (subst (IsArchive archive) same accepted) (c.in_ok-archive.ensures.ok ∙ ap archive_of same)
           (subst (λ (bytes : List ℕ). Appends (g.W.Write.contents c.args.output.now) (g.W.Write.contents c.write_all.new.output) bytes) c.deref-3.ensures.value c.in_ok-write_all.ensures.all),
     )
