@@ -1,3 +1,4 @@
+-- Bounds of every tree of the shape, by recursion over it.
 use Rattle.std.proofs.Common.{◌≡◌, ℕ, suc, ◌+◌, ◌*◌, ◌^◌, ◌≤◌, length, arith}
 use Rattle.std.proofs.lemmas.List.{length-append}
 use Rattle.std.proofs.Math.Nat.{pow-succ', pow-zero, pow-le-pow_right, le-max_left, le-max_right, mul-le-mul_left, add_comm}

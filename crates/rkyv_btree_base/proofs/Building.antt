@@ -1,7 +1,7 @@
 -- What building leaves, from what its parts leave.
-use Rattle.std.proofs.Common.{◌≡◌, ◌≢◌, ℕ, ◌+◌, ◌<◌, ◌≤◌, ◌∙◌, Bool, IsTrue, List, [], ◌∷◌, ◌++◌, length, map, Bor, Option, refl, sym, subst, ap, arith}
+use Rattle.std.proofs.Common.{◌≡◌, ◌≢◌, ℕ, ◌+◌, ◌<◌, ◌≤◌, ◌∙◌, Bool, IsTrue, List, [], ◌∷◌, ◌++◌, length, map, take, Bor, Option, refl, sym, subst, ap, arith}
 use Rattle.std.specs.Iterator.{Yields, Drains}
-use Rattle.std.proofs.lemmas.List.{length-append, append-nil, nil_from_length}
+use Rattle.std.proofs.lemmas.List.{length-append, append-nil, nil_from_length, take_at}
 use Rattle.rkyv_btree_base.specs.Image.{padding, tree_image, child_image, child_end, root_bytes, root_reaches}
 use Rattle.rkyv_btree_base.specs.InPlace.{IsOwn, OwnBytes, AreOwn, entry_of}
 use Rattle.rkyv_btree_base.specs.Kind.{Kind, IsLawful}
@@ -15,7 +15,7 @@ use Rattle.rkyv_btree_base.specs.Writing.{Writing, position, Write, appended, Wr
 use Rattle.rkyv_btree_base.specs.laws.Sizes.{room_of}
 use Rattle.rkyv_btree_base.specs.declared.fault.Fault.{Fault}
 use Rattle.rkyv_btree_base.specs.declared.fault.Fault.TheVariants.{Length, LengthOverflow, PositionOverflow, OffsetOverflow, Writer, Memory, Entry}
-use Rattle.rkyv_btree_base.proofs.Mapped.{map_tree, list_mapped, height_mapped}
+use Rattle.rkyv_btree_base.proofs.Mapped.{map_tree, plan_mapped, list_mapped, height_mapped}
 use Rattle.rkyv_btree_base.proofs.Smallest.{plan_is_left_complete, left_complete_is_smallest}
 use Rattle.rkyv_btree_base.proofs.Spelling.{tree_spelled}
 use Rattle.rkyv_btree_base.proofs.WriteRuns.{stopped-behind, stopped-one}
@@ -33,17 +33,20 @@ drained steps s xs t ys n y d is none =
     subst (Drains steps s) (ap (λ zs. xs ++ zs) (nil_from_length ys (sym is ∙ none)) ∙ append-nil xs) (Drains-behind steps s xs t ys y d)
 
 module _ {M N S : Type 0} (K V : Kind) (E : ℕ) (key : M → List ℕ) (value : N → List ℕ) (steps : S → Option (Bor M × Bor N) → S → Type 0) where
-  pub miscounted_of : (iter : S) (claim more : ℕ) (s t : Writing) (writes : List Write) (xs : List (Bor M × Bor N)) (rest : S) (ys : List (Bor M × Bor N)) → 0 < claim →
-      Yields steps iter xs rest → Drains steps rest ys → more ≡ length ys → more ≢ 0 → length xs ≡ claim → Wrote s writes t → Miscounted K V E key value steps iter claim claim (claim + more) s t
-  miscounted_of iter claim more s t writes xs rest ys some y d is many n wrote = record {
-    items = xs ++ ys;
-    all = Drains-behind steps iter xs rest ys y d;
-    differs = λ e. many (omega (arith, length-append xs ys, e));
-    claimed = refl;
-    counted = omega (arith, length-append xs ys);
-    kept = (appended writes, wrote.done.contents);
-    nothing = λ e. absurd (omega arith);
-  }
+  pub miscounted_of : (iter : S) (claim more : ℕ) (s t : Writing) (xs : List (Bor M × Bor N)) (rest : S) (ys : List (Bor M × Bor N)) →
+      Yields steps iter xs rest → Drains steps rest ys → more ≡ length ys → more ≢ 0 → length xs ≡ claim → Wrote s (child_image (shape K V E) (position s) (built (shape K V E) (map (own_of key value) xs))) t → Miscounted K V E key value steps iter claim claim (claim + more) s t
+  miscounted_of iter claim more s t xs rest ys y d is many n wrote =
+      let all = length-append xs ys in
+      let taken : take claim (xs ++ ys) ≡ xs = take_at xs ys claim n in
+      record {
+        items = xs ++ ys;
+        all = Drains-behind steps iter xs rest ys y d;
+        differs = λ e. many (omega (arith, all, e));
+        claimed = refl;
+        counted = omega (arith, all);
+        few = λ less. absurd (omega (arith, all));
+        many = λ more. subst (λ zs. Wrote s (child_image (shape K V E) (position s) (built (shape K V E) (map (own_of key value) zs))) t) (sym taken) wrote;
+      }
 
   -- which faults stop the building, and how
   pub refused_of : {X : Type 0} (iter : S) (claim : ℕ) (s : Writing) (fault : Fault X) (t : Writing) (items : List (Bor M × Bor N)) (rest : S) →
@@ -80,6 +83,7 @@ spelled_of K V E k v fits s (x ∷ more) m root t own means some few b end =
     record {
       tree = map_tree (entry_of K V) tree;
       entries = list_mapped (entry_of K V) tree ∙ (ap (map (entry_of K V)) complete.1 ∙ means);
+      planned = sym (plan_mapped (entry_of K V) E xs) ∙ ap (plan E) means;
       levels = omega (arith, height_mapped (entry_of K V) tree, smallest.height_fits (omega (arith, count, few)));
       appended = appended (tree_image nodes at tree);
       contents = b.wrote.done.contents;

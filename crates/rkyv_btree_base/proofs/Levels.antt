@@ -1,3 +1,4 @@
+-- Trees filled from the left and left-complete trees are the same.
 use Rattle.std.proofs.Common.{◌≡◌, ℕ, zero, suc, ◌+◌, ◌*◌, ◌-◌, ◌^◌, ◌<◌, ◌≤◌, min, List, [], ◌∷◌, ◌++◌, length, map, replicate, arith, refl, sym, ap, ◌∙◌}
 use Rattle.std.proofs.Common.{inl, ⊎_elim}
 use Rattle.std.specs.List.{All, flat_map}

@@ -1,3 +1,4 @@
+-- The plan fills the last level from the left.
 use Rattle.std.proofs.Common.{◌≡◌, ℕ, zero, suc, ◌+◌, ◌*◌, ◌-◌, ◌^◌, ◌<◌, ◌≤◌, min, List, [], ◌∷◌, ◌++◌, length, take, drop, arith, refl, sym, ap, ◌∙◌}
 use Rattle.std.proofs.Common.{⊎_elim}
 use Rattle.std.proofs.lemmas.Bool.{cases_lt}
@@ -60,7 +61,3 @@ many_entries E g ll xs each n m h =
 pub planned : {X : Type 0} (E : ℕ) → 1 ≤ E → (g ll : ℕ) (xs : List X) → length xs + 1 ≡ (E + 1) ^ g + ll → ll ≤ E * (E + 1) ^ g → ChildIs (Filled E g) ll xs (child_plan E g xs)
 planned E e zero ll xs n m = let p = pow-zero (E + 1) in let q = rw pow-zero at m in rw child_plan_zero (leaf_planned E ll xs (omega arith) (omega arith))
 planned E e (suc g) ll xs n m = ⊎_elim (λ h. many_entries E g ll xs (planned E e g) n m h) (λ h. rw (child_plan_few E g xs h) (leaf_above E g ll xs e (few_entries E g ll (length xs) e h n))) (cases_lt E (length xs))
-
--- a plan has the entries, where all levels above the last are full and the last has room
-pub planned_list : {X : Type 0} (E g : ℕ) (xs : List X) → 1 ≤ E → (E + 1) ^ g ≤ length xs + 1 → length xs < (E + 1) ^ suc g → child_list (child_plan E g xs) ≡ xs
-planned_list E g xs e n m = (planned E e g (length xs + 1 - (E + 1) ^ g) xs (omega arith) (omega (arith, pow_up E g))).1

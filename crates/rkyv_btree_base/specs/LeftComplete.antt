@@ -1,3 +1,4 @@
+-- Which trees are left-complete: every level but the last is full, and the last is filled from the left.
 use Rattle.std.specs.Prelude.{◌≡◌, ℕ, zero, suc, ◌+◌, ◌-◌, ◌≤◌, ◌<◌, ◌⊎◌, List, [], ◌∷◌, ◌++◌, length, map, replicate, All, flat_map}
 use Rattle.rkyv_btree_base.specs.Tree.{Tree, leaf, inner, Row, last, step, Child, absent, child, row_entries, row_children, HasShape, height}
 

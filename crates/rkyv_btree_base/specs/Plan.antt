@@ -1,8 +1,7 @@
+-- The tree that a plain recursion over subtree sizes makes of a list of entries, with B = E + 1.
 use Rattle.std.specs.Prelude.{ℕ, zero, suc, ◌+◌, ◌-◌, ◌*◌, ◌^◌, leb, true, false, min, List, [], ◌∷◌, length, take, drop}
 use Rattle.rkyv_btree_base.specs.Tree.{Tree, leaf, inner, Row, last, step, Child, absent, child}
 use Rattle.rkyv_btree_base.specs.Logarithm.{ilog}
-
--- The tree that a plain recursion over subtree sizes makes of a list of entries, with B = E + 1.
 
 -- one level: a leaf, and no leaf for no entries
 unfoldable pub leaf_plan : {X : Type 0} → List X → Child X

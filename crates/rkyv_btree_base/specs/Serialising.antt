@@ -1,5 +1,5 @@
 -- Serialising the items of an iterator, and the map itself.
-use Rattle.std.specs.Prelude.{◌≡◌, ◌≢◌, ℕ, ◌<◌, ◌≤◌, List, length, map, ◌++◌, Option, unwrap_or}
+use Rattle.std.specs.Prelude.{◌≡◌, ◌≢◌, ℕ, ◌<◌, ◌≤◌, List, length, map, take, ◌++◌, Option, unwrap_or}
 use Rattle.std.specs.Borrow.{Bor}
 use Rattle.std.specs.Iterator.{Yields, Drains}
 use Rattle.rkyv_btree_base.specs.Bytes.{Holds}
@@ -7,10 +7,10 @@ use Rattle.rkyv_btree_base.specs.Image.{child_image, child_root, child_end, root
 use Rattle.rkyv_btree_base.specs.InPlace.{OwnBytes, entry_of}
 use Rattle.rkyv_btree_base.specs.Kind.{Kind}
 use Rattle.rkyv_btree_base.specs.Layout.{Shape, shape}
-use Rattle.rkyv_btree_base.specs.Plan.{planned_alone}
+use Rattle.rkyv_btree_base.specs.Plan.{plan, planned_alone}
 use Rattle.rkyv_btree_base.specs.Spells.{Spells}
 use Rattle.rkyv_btree_base.specs.Tree.{Tree, Child, list, height}
-use Rattle.rkyv_btree_base.specs.Writing.{Writing, position, BeginsWith, Wrote, Stopped, last_end}
+use Rattle.rkyv_btree_base.specs.Writing.{Writing, position, Wrote, Stopped, last_end}
 use Rattle.rkyv_btree_base.specs.declared.fault.Fault.{Fault}
 use Rattle.rkyv_btree_base.specs.declared.fault.Fault.TheVariants.{Length, LengthOverflow, PositionOverflow, OffsetOverflow, Writer, Memory, Entry}
 
@@ -38,10 +38,11 @@ pub record Built (s : Shape) (from : Writing) (xs : List OwnBytes) (root : ℕ) 
   pub root_is : root ≡ unwrap_or (child_root s (position from) (built s xs)) 0
   pub ends : 0 < length xs → position t ≤ last_end
 
--- every buffer that holds what was appended between two states spells a tree with this list, whose node is at the root
+-- every buffer that holds what was appended between two states spells the tree of this list, whose node is at the root
 pub record Spelled (K V : Kind) (E : ℕ) (from : Writing) (m : List (K.Value × V.Value)) (root : ℕ) (t : Writing) : Type 0 where
   pub tree : Tree (K.Value × V.Value)
   pub entries : list tree ≡ m
+  pub planned : tree ≡ plan E m
   pub levels : height tree ≤ 32
   pub appended : List ℕ
   pub contents : t.contents ≡ from.contents ++ appended
@@ -71,8 +72,9 @@ module _ {M N S : Type 0} (K V : Kind) (E : ℕ) (key : M → List ℕ) (value :
     pub differs : length items ≢ claim
     pub claimed : expected ≡ claim
     pub counted : actual ≡ length items
-    pub kept : BeginsWith t from
-    pub nothing : claim ≡ 0 → t ≡ from
+    -- of too few nothing is written, and of too many the tree of as many as claimed
+    pub few : length items < claim → t ≡ from
+    pub many : claim < length items → Wrote from (child_image (shape K V E) (position from) (built (shape K V E) (map (own_of key value) (take claim items)))) t
 
   -- each fault's cause, and what it leaves
   abbrev pub Refusal : {X : Type 0} → S → ℕ → Writing → Fault X → Writing → Type 0

@@ -1,3 +1,4 @@
+-- How small trees can be, and which are the smallest.
 use Rattle.std.specs.Prelude.{◌≡◌, ℕ, ◌+◌, ◌-◌, ◌*◌, ◌^◌, ◌≤◌, ◌<◌, List, length}
 use Rattle.std.specs.Int.{div_ceil}
 use Rattle.rkyv_btree_base.specs.Kind.{Kind}
@@ -55,7 +56,7 @@ PlanIsLeftComplete X E = (xs : List X) → 0 < length xs → LeftComplete E (pla
 abbrev pub OneLeftComplete : Type 0 → ℕ → Type 0
 OneLeftComplete X E = (t : Tree X) → LeftComplete E t → t ≡ plan E (list t)
 
--- The recursion in its own words. With h levels, E entries stand in the root, and of the n - (B ^ (h - 1) - 1)
+-- The recursion in its own words, with B = E + 1. With h levels, E entries stand in the root, and of the n - (B ^ (h - 1) - 1)
 -- entries of the last level each child takes at most E * B ^ (h - 2), and it has B ^ (h - 2) - 1 entries more.
 abbrev pub PlanIsRecursive : Type 0 → ℕ → Type 0
 PlanIsRecursive X E = (xs : List X) (h : ℕ) → 0 < length xs → h ≡ 1 + ilog (E + 1) (length xs) → record {

@@ -1,7 +1,7 @@
+-- Trees in numbers: planned ones, and wasteful ones.
 use Rattle.std.specs.Prelude.{◌≡◌, ℕ, zero, suc, List, [], ◌∷◌}
-use Rattle.rkyv_btree_base.specs.Tree.{leaf, inner, last, step, Child, absent, child, height, nodes}
+use Rattle.rkyv_btree_base.specs.Tree.{Tree, leaf, inner, last, step, Child, absent, child, HasShape, height, nodes}
 use Rattle.rkyv_btree_base.specs.Weight.{inners}
-use Rattle.rkyv_btree_base.specs.Tree.{Tree, HasShape}
 use Rattle.rkyv_btree_base.specs.LeftComplete.{LeftComplete}
 use Rattle.rkyv_btree_base.specs.Plan.{plan}
 use Rattle.rkyv_btree_base.specs.Smallest.{IsSmallest}

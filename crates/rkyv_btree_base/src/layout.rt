@@ -204,15 +204,3 @@ pub fn entries_to_height<const E: usize>(entries: u64) -> u32
     }
     above + 1
 }
-
-/// How many of the entries stand on the last level of their built tree.
-pub(crate) fn last_level_entries<const E: usize>(entries: u64) -> u64
-    requires room { 1 ≤ E }
-    requires small { E < 2 ^ 32 }
-    requires some { 0 < entries }
-    ensures least { 1 ≤ result }
-    ensures above { result + (E + 1) ^ ilog (E + 1) entries ≡ entries + 1 }
-{
-    let above = entries_to_height::<E>(entries) - 1;
-    entries - ((E as u64 + 1).pow(above) - 1)
-}

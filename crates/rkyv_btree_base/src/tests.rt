@@ -6,7 +6,7 @@ use crate::build::BTreeMapResolver;
 use crate::bytes::{num32, target};
 use crate::check::Portable;
 use crate::fault::{Fault, IteratorLengthMismatch, ResolveFault};
-use crate::layout;
+use crate::layout::{self, entries_to_height};
 use crate::map::ArchivedBTreeMap;
 use crate::numbers::{ArchivedU32, ArchivedU64};
 use crate::place::{Place, RelPtr, VecWriter, Writer};
@@ -256,35 +256,22 @@ fn pointers_are_written_and_read(rt: HostRuntime) {
     assert_eq!(rt; target(&bytes, 4), None);
 }
 
-/// The height, the entries on the last level and the nodes of the built tree of so many entries.
-fn counts<const E: usize>(entries: u64) -> (u32, u64, u64)
-    requires room { 1 ≤ E }
-    requires small { E < 2 ^ 32 }
-    requires some { 0 < entries }
-{
-    (
-        layout::entries_to_height::<E>(entries),
-        layout::last_level_entries::<E>(entries),
-        entries.div_ceil(E as u64),
-    )
-}
-
 #[test]
-fn trees_have_their_heights_and_node_counts(rt: HostRuntime) {
-    assert_eq!(rt; counts::<5>(1), (1, 1, 1));
-    assert_eq!(rt; counts::<5>(5), (1, 5, 1));
-    assert_eq!(rt; counts::<5>(6), (2, 1, 2));
-    assert_eq!(rt; counts::<5>(9), (2, 4, 2));
-    assert_eq!(rt; counts::<5>(17), (2, 12, 4));
-    assert_eq!(rt; counts::<5>(35), (2, 30, 7));
-    assert_eq!(rt; counts::<5>(36), (3, 1, 8));
-    assert_eq!(rt; counts::<5>(112), (3, 77, 23));
-    assert_eq!(rt; counts::<5>(215), (3, 180, 43));
-    assert_eq!(rt; counts::<5>(100000), (7, 53345, 20000));
-    assert_eq!(rt; counts::<1>(2), (2, 1, 2));
-    assert_eq!(rt; counts::<1>(3), (2, 2, 3));
-    assert_eq!(rt; counts::<1>(4), (3, 1, 4));
-    assert_eq!(rt; counts::<1>(4294967295), (32, 2147483648, 4294967295));
+fn trees_have_their_heights(rt: HostRuntime) {
+    assert_eq!(rt; entries_to_height::<5>(1), 1);
+    assert_eq!(rt; entries_to_height::<5>(5), 1);
+    assert_eq!(rt; entries_to_height::<5>(6), 2);
+    assert_eq!(rt; entries_to_height::<5>(9), 2);
+    assert_eq!(rt; entries_to_height::<5>(17), 2);
+    assert_eq!(rt; entries_to_height::<5>(35), 2);
+    assert_eq!(rt; entries_to_height::<5>(36), 3);
+    assert_eq!(rt; entries_to_height::<5>(112), 3);
+    assert_eq!(rt; entries_to_height::<5>(215), 3);
+    assert_eq!(rt; entries_to_height::<5>(100000), 7);
+    assert_eq!(rt; entries_to_height::<1>(2), 2);
+    assert_eq!(rt; entries_to_height::<1>(3), 2);
+    assert_eq!(rt; entries_to_height::<1>(4), 3);
+    assert_eq!(rt; entries_to_height::<1>(4294967295), 32);
 }
 
 #[test]

@@ -22,7 +22,7 @@ returns-then-more-ne0-clause-err g c =
     let steps = g.I.Iterator.next_gives in
     let took = c.if-not-take_items.false in
     let ran = c.count-more.ensures.ran in
-    miscounted_of _ _ g.row.E g.K.InPlace.own g.V.InPlace.own steps c.args.iter c.args.len c.count-more.result _ _ _ c.deref.result.now c.take_items.new.iter ran.0 c.requires.some
+    miscounted_of _ _ g.row.E g.K.InPlace.own g.V.InPlace.own steps c.args.iter c.args.len c.count-more.result _ _ c.deref.result.now c.take_items.new.iter ran.0
     (subst (λ zs. Yields steps c.args.iter zs c.take_items.new.iter) (sym c.deref.ensures.value) (c.take_items.ensures.all took))
     ran.1 ran.2 c.if-more-ne0.true
     (ap length c.deref.ensures.value ∙ c.take_items.ensures.len took)
