@@ -28,10 +28,6 @@ pub record Failed (s : Writing) (bytes : List ℕ) (t : Writing) : Type 0 where
   pub contents : t.contents ≡ s.contents ++ front
   pub failures : t.failures ≡ (s.failures + 1) % 2 ^ 64
 
--- the contents of t begin with those of s
-abbrev pub BeginsWith : Writing → Writing → Type 0
-BeginsWith t s = (more : List ℕ) × (t.contents ≡ s.contents ++ more)
-
 -- no write ends past this position
 abbrev pub last_end : ℕ
 last_end = 4294967295
