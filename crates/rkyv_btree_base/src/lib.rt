@@ -11,5 +11,7 @@ mod node;
 pub mod numbers;
 pub mod place;
 pub mod refusal;
+pub mod steps;
 #[cfg(test)]
 mod tests;
+pub mod verify;
