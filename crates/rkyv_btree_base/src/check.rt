@@ -3,7 +3,7 @@ ghost use Rattle.std.specs.Prelude.{◌≡◌, ℕ, ◌≤◌, ◌<◌, IsTrue, 
 ghost use Rattle.rkyv_btree_base.specs.declared.refusal.Refusal.{Refusal};
 ghost use Rattle.rkyv_btree_base.specs.InPlace.{IsOwn};
 ghost use Rattle.rkyv_btree_base.specs.Kind.{Kind, IsLawful};
-ghost use Rattle.rkyv_btree_base.specs.Refusing.{HasPlace, Misplaced, AreRefusals};
+ghost use Rattle.rkyv_btree_base.specs.Refusing.{HasPlace, Misplaced, RefusesWhole, AreRefusals};
 
 use crate::refusal::Refusal;
 
@@ -76,6 +76,7 @@ pub(crate) fn check_place<T: Portable>(buf: &[u8], pos: u32) -> Result<(), Refus
     requires { IsTrue T.kind.is_fitting }
     ensures ok { IfOk result (λ _. HasPlace buf.now T.kind.size T.kind.align pos) }
     ensures err { IfErr result (λ refusal. Misplaced buf.now T.kind.size T.kind.align pos refusal) }
+    ensures whole { IfErr result (λ refusal. (lo hi : ℕ) → RefusesWhole T.kind buf.now lo hi pos refusal) }
 {
     if buf.len() > 4294967295 {
         return Err(Refusal::TooLong);

@@ -11,6 +11,7 @@ mod node;
 pub mod numbers;
 pub mod place;
 pub mod refusal;
+pub mod signed;
 pub mod steps;
 #[cfg(test)]
 mod tests;
