@@ -1,5 +1,7 @@
 //! Archived maps, read in place.
-ghost use Rattle.std.specs.Prelude.{◌≡◌, ◌≤◌, ◌+◌, ℕ, IsTrue, List, length, ◌↔◌, []};
+ghost use Rattle.std.specs.Prelude.{◌≡◌, ◌≤◌, ◌+◌, ℕ, IsTrue, IsOk, IfOk, IfErr, Err, List, length, ◌↔◌, []};
+ghost use Rattle.rkyv_btree_base.specs.declared.refusal.Refusal.{Refusal};
+ghost use Rattle.rkyv_btree_base.specs.Faults.{Stands};
 ghost use Rattle.rkyv_btree_base.specs.Layout.{shape, are_fitting, key_at, value_at, len_at, leaf_size, pointer_at, inner_size};
 ghost use Rattle.rkyv_btree_base.specs.Map.{map_kind};
 ghost use Rattle.rkyv_btree_base.specs.Spells.{Accepted};
@@ -7,9 +9,10 @@ ghost use Rattle.rkyv_btree_base.specs.Views.{stands};
 
 use crate::view::View;
 use rkyv_btree_base::bytes::num32;
-use rkyv_btree_base::check::Portable;
+use rkyv_btree_base::check::{CheckBytes, Portable};
 use rkyv_btree_base::layout;
 use rkyv_btree_base::map::ArchivedBTreeMap;
+use rkyv_btree_base::refusal::Refusal;
 use std::marker::PhantomData;
 
 /// A type of archived maps: what its keys and values are, and where they stand in a node. The calls on a view of a map
@@ -88,8 +91,25 @@ impl<K: Portable, V: Portable, const E: usize> ArchivedMap for ArchivedBTreeMap<
     }
 }
 
+/// The view of the map at position `pos` of `buf`, whoever wrote it, if the bytes mean some list of entries in the window
+/// of all that stands before it. The list that the view reads is that one.
+pub fn access<'a, K: CheckBytes, V: CheckBytes, const E: usize>(
+    buf: &'a [u8],
+    pos: u32,
+) -> Result<View<'a, ArchivedBTreeMap<K, V, E>>, Refusal>
+    requires { IsTrue (are_fitting K.kind V.kind E) }
+    ensures buffer { IfOk result (λ map. map.buf.now ≡ buf.now) }
+    ensures position { IfOk result (λ map. map.pos ≡ pos) }
+    ensures accepted { IfOk result (λ _. (left : ℕ) × Accepted K.kind V.kind E buf.now 0 pos pos left ((map_kind K.kind V.kind E).read buf.now pos)) }
+    ensures all_accepted { (left : ℕ) (m : List (K.kind.Value × V.kind.Value)) → Accepted K.kind V.kind E buf.now 0 pos pos left m → IsOk result }
+    ensures refused { IfErr result (λ refusal. Stands K.kind V.kind E buf.now 0 pos pos refusal) }
+    ensures all_refused { (refusal : Refusal) → Stands K.kind V.kind E buf.now 0 pos pos refusal → result ≡ Err refusal }
+{
+    View::<ArchivedBTreeMap<K, V, E>>::check(buf, pos)
+}
+
 /// The view of the map at position `pos` of `buf`, whose bytes mean some list of entries in the window of all that
-/// stands before them. The list that the view reads is that one. Nothing is looked at.
+/// stands before them: `access` is the test for that. The list that the view reads is that one. Nothing is looked at.
 pub fn access_valid<'a, K: Portable, V: Portable, const E: usize>(
     buf: &'a [u8],
     pos: u32,

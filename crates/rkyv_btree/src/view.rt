@@ -1,15 +1,17 @@
 //! Values in a buffer.
-ghost use Rattle.std.specs.Prelude.{◌≡◌, ℕ, IsTrue, List, ⊤};
-ghost use Rattle.rkyv_btree_base.specs.Views.{stands};
+ghost use Rattle.std.specs.Prelude.{◌≡◌, ℕ, IsTrue, IsOk, IfOk, IfErr, Err, List, ⊤};
+ghost use Rattle.rkyv_btree_base.specs.Views.{stands, MeansAt};
+ghost use Rattle.rkyv_btree_base.specs.declared.refusal.Refusal.{Refusal};
 
 use rkyv_btree_base::bytes::num32;
-use rkyv_btree_base::check::Portable;
+use rkyv_btree_base::check::{CheckBytes, Portable, Window};
 use rkyv_btree_base::numbers::{ArchivedU32, ArchivedU64};
+use rkyv_btree_base::refusal::Refusal;
 use std::alloc::AllocError;
 use std::marker::PhantomData;
 
 /// The value of `T` at position `pos` of `buf`, where the bytes mean one. All calls read in place: nothing is copied,
-/// and no memory is taken. A view is made by `access_valid`, or by a call on another view.
+/// and no memory is taken. A view is made by `View::check`, `access` or `access_valid`, or by a call on another view.
 pub struct View<'a, T: Portable> {
     pub buf: &'a [u8],
     pub pos: u32,
@@ -27,6 +29,25 @@ impl<'a, T: Portable> Clone for View<'a, T> {
 
     fn clone(&self) -> Result<View<'a, T>, AllocError> {
         Ok(*self)
+    }
+}
+
+impl<'a, T: CheckBytes> View<'a, T> {
+    /// The view of the value at position `pos` of `buf`, whoever wrote it, if the bytes mean one in the window of all
+    /// that stands before it.
+    pub fn check(buf: &'a [u8], pos: u32) -> Result<View<'a, T>, Refusal>
+        requires { IsTrue T.kind.is_fitting }
+        ensures buffer { IfOk result (λ view. view.buf.now ≡ buf.now) }
+        ensures position { IfOk result (λ view. view.pos ≡ pos) }
+        ensures accepted { IfOk result (λ _. MeansAt T.kind buf.now pos (T.kind.read buf.now pos)) }
+        ensures all_accepted { (v : T.kind.Value) → MeansAt T.kind buf.now pos v → IsOk result }
+        ensures refused { IfErr result (λ refusal. T.Refuses buf.now 0 pos pos refusal) }
+        ensures all_refused { (refusal : Refusal) → T.Refuses buf.now 0 pos pos refusal → result ≡ Err refusal }
+    {
+        match T::check(buf, pos, Window { lo: 0, hi: pos }) {
+            Ok(_) => Ok(View::<T>::at(buf, pos)),
+            Err(refusal) => Err(refusal),
+        }
     }
 }
 

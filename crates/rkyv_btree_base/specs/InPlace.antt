@@ -1,12 +1,12 @@
 -- Types whose values lie in their own bytes alone, as they are written from native values.
-use Rattle.std.specs.Prelude.{◌≡◌, ℕ, ◌+◌, ◌≤◌, IsTrue, List, [], ◌∷◌, length}
+use Rattle.std.specs.Prelude.{◌≡◌, ℕ, ℤ, ◌+◌, ◌≤◌, Bool, true, false, IsTrue, List, [], ◌∷◌, length}
 use Rattle.std.specs.Hash as fed
-use Rattle.std.specs.Int.{w8, w32, w64, to_le_bytes}
+use Rattle.std.specs.Int.{Width, w8, w16, w32, w64, to_le_bytes, cast_unsigned}
 use Rattle.std.proofs.Common.{refl, sym, ap, subst, ◌∙◌, arith}
 use Rattle.std.proofs.lemmas.List.{take_all}
 use Rattle.rkyv_btree_base.specs.Bytes.{bytes_at}
 use Rattle.rkyv_btree_base.specs.Kind.{Kind}
-use Rattle.rkyv_btree_base.specs.Plain.{Plain, plain_kind, number, u8_kind, u32_kind, u64_kind}
+use Rattle.rkyv_btree_base.specs.Plain.{Plain, plain_kind, number, signed, boolean, u8_kind, u16_kind, u32_kind, u64_kind, i8_kind, i16_kind, i32_kind, i64_kind, bool_kind}
 use Rattle.rkyv_btree_base.specs.Standing.{IsAligned}
 
 -- what own bytes mean by themselves
@@ -29,6 +29,14 @@ abbrev pub AreOwn : Kind → Kind → List OwnBytes → Type 0
 AreOwn K V [] = Unit {0}
 AreOwn K V (x ∷ xs) = IsOwn K x.0 × IsOwn V x.1 × AreOwn K V xs
 
+-- the own bytes of a number in two's complement
+abbrev pub own_signed : Width → ℤ → List ℕ
+own_signed width n = to_le_bytes width (cast_unsigned width n)
+
+abbrev pub own_bool : Bool → List ℕ
+own_bool true = 1 ∷ []
+own_bool false = 0 ∷ []
+
 pub plain_own : (plain : Plain) (own : List ℕ) → length own ≡ plain.size → IsTrue (plain.is_value own) → IsOwn (plain_kind plain) own
 plain_own plain own size valid = record {
   size = size;
@@ -45,8 +53,27 @@ plain_own plain own size valid = record {
 pub u8_own : (n : ℕ) → IsOwn u8_kind (to_le_bytes w8 n)
 u8_own n = plain_own (number 1 fed.u8) (to_le_bytes w8 n) refl refl
 
+pub u16_own : (n : ℕ) → IsOwn u16_kind (to_le_bytes w16 n)
+u16_own n = plain_own (number 2 fed.u16) (to_le_bytes w16 n) refl refl
+
 pub u32_own : (n : ℕ) → IsOwn u32_kind (to_le_bytes w32 n)
 u32_own n = plain_own (number 4 fed.u32) (to_le_bytes w32 n) refl refl
 
 pub u64_own : (n : ℕ) → IsOwn u64_kind (to_le_bytes w64 n)
 u64_own n = plain_own (number 8 fed.u64) (to_le_bytes w64 n) refl refl
+
+pub i8_own : (n : ℤ) → IsOwn i8_kind (own_signed w8 n)
+i8_own n = plain_own (signed w8 fed.i8) (own_signed w8 n) refl refl
+
+pub i16_own : (n : ℤ) → IsOwn i16_kind (own_signed w16 n)
+i16_own n = plain_own (signed w16 fed.i16) (own_signed w16 n) refl refl
+
+pub i32_own : (n : ℤ) → IsOwn i32_kind (own_signed w32 n)
+i32_own n = plain_own (signed w32 fed.i32) (own_signed w32 n) refl refl
+
+pub i64_own : (n : ℤ) → IsOwn i64_kind (own_signed w64 n)
+i64_own n = plain_own (signed w64 fed.i64) (own_signed w64 n) refl refl
+
+pub bool_own : (n : Bool) → IsOwn bool_kind (own_bool n)
+bool_own true = plain_own boolean (own_bool true) refl refl
+bool_own false = plain_own boolean (own_bool false) refl refl

@@ -22,3 +22,6 @@ pub mod Writing
 pub mod Image
 pub mod Serialising
 pub mod Archives
+pub mod Refusing
+pub mod Faults
+pub mod Claims

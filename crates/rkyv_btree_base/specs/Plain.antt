@@ -1,15 +1,16 @@
 -- Values whose meaning lies in their own bytes.
 use Rattle.std.specs.Prelude.{◌≡◌, ℕ, ℤ, ◌+◌, ◌%◌, ◌≤◌, ◌<◌, ◌^◌, Bool, true, false, IsTrue, List, length, Some, None, nat_eq, nat_lt, if◌then◌else◌}
-use Rattle.std.specs.Int.{w32, cast_signed}
-use Rattle.std.specs.Ordering.{nat_cmp, int_eq, int_cmp}
+use Rattle.std.specs.Int.{Width, w8, w16, w32, w64, byte_len, cast_signed}
+use Rattle.std.specs.Ordering.{nat_cmp, int_eq, int_cmp, bool_cmp}
 use Rattle.std.specs.Hash as fed
 use Rattle.std.specs.declared.cmp.Ordering.{Ordering}
 use Rattle.std.proofs.Common.{arith, refl, sym, ap, subst, ◌∙◌, ◌⊎◌, inl, inr}
+use Rattle.std.proofs.Math.Bool.{beq}
 use Rattle.std.proofs.lemmas.Bool.{eqb-true, ltb-false, eq-eqb, le-ltb}
 use Rattle.std.proofs.lemmas.List.{ext_get_or, length-take, length-drop, get_or-take, get_or-drop}
 use Rattle.rkyv_btree_base.specs.Bytes.{from_le, bytes_at}
 use Rattle.rkyv_btree_base.specs.Kind.{Kind, Leaves, IsLawful}
-use Rattle.rkyv_btree_base.specs.Rounding.{IsAlignment, one, four, eight}
+use Rattle.rkyv_btree_base.specs.Rounding.{IsAlignment, one, two, four, eight}
 use Rattle.rkyv_btree_base.specs.Standing.{IsAligned, Lies, SameBytes}
 
 -- a type whose values lie in their own bytes: what these bytes mean, and which of them are a value
@@ -63,30 +64,58 @@ number size hash_input = record {
   hash_input = hash_input;
 }
 
--- a relative pointer's offset: a number of four bytes in two's complement
-abbrev pub offset : Plain
-offset = record {
+-- such a number in two's complement
+abbrev pub signed : Width → (ℤ → List (List ℕ)) → Plain
+signed width hash_input = record {
   Value = ℤ;
-  size = 4;
-  align = 4;
+  size = byte_len width;
+  align = byte_len width;
   is_value = λ bytes. true;
-  value = λ bytes. cast_signed w32 (from_le bytes);
+  value = λ bytes. cast_signed width (from_le bytes);
   same = int_eq;
   order = int_cmp;
-  hash_input = fed.i32;
+  hash_input = hash_input;
 }
 
-abbrev pub offset_kind : Kind
-offset_kind = plain_kind offset
+-- one byte, which is 0 or 1
+abbrev pub boolean : Plain
+boolean = record {
+  Value = Bool;
+  size = 1;
+  align = 1;
+  is_value = λ bytes. nat_lt (from_le bytes) 2;
+  value = λ bytes. nat_eq (from_le bytes) 1;
+  same = beq;
+  order = bool_cmp;
+  hash_input = fed.bool;
+}
 
 abbrev pub u8_kind : Kind
 u8_kind = plain_kind (number 1 fed.u8)
+
+abbrev pub u16_kind : Kind
+u16_kind = plain_kind (number 2 fed.u16)
 
 abbrev pub u32_kind : Kind
 u32_kind = plain_kind (number 4 fed.u32)
 
 abbrev pub u64_kind : Kind
 u64_kind = plain_kind (number 8 fed.u64)
+
+abbrev pub i8_kind : Kind
+i8_kind = plain_kind (signed w8 fed.i8)
+
+abbrev pub i16_kind : Kind
+i16_kind = plain_kind (signed w16 fed.i16)
+
+abbrev pub i32_kind : Kind
+i32_kind = plain_kind (signed w32 fed.i32)
+
+abbrev pub i64_kind : Kind
+i64_kind = plain_kind (signed w64 fed.i64)
+
+abbrev pub bool_kind : Kind
+bool_kind = plain_kind boolean
 
 -- the same bytes at each place are the same list of bytes
 pub same_bytes_at : (buf other : List ℕ) (at size : ℕ) → at + size ≤ length buf → SameBytes buf other at (at + size) → bytes_at buf at size ≡ bytes_at other at size
@@ -149,11 +178,26 @@ module _ (plain : Plain) where
 pub u8_laws : IsLawful u8_kind
 u8_laws = plain_laws (number 1 fed.u8) one refl (omega arith)
 
+pub u16_laws : IsLawful u16_kind
+u16_laws = plain_laws (number 2 fed.u16) two refl (omega arith)
+
 pub u32_laws : IsLawful u32_kind
 u32_laws = plain_laws (number 4 fed.u32) four refl (omega arith)
 
 pub u64_laws : IsLawful u64_kind
 u64_laws = plain_laws (number 8 fed.u64) eight refl (omega arith)
 
-pub offset_laws : IsLawful offset_kind
-offset_laws = plain_laws offset four refl (omega arith)
+pub i8_laws : IsLawful i8_kind
+i8_laws = plain_laws (signed w8 fed.i8) one refl (omega arith)
+
+pub i16_laws : IsLawful i16_kind
+i16_laws = plain_laws (signed w16 fed.i16) two refl (omega arith)
+
+pub i32_laws : IsLawful i32_kind
+i32_laws = plain_laws (signed w32 fed.i32) four refl (omega arith)
+
+pub i64_laws : IsLawful i64_kind
+i64_laws = plain_laws (signed w64 fed.i64) eight refl (omega arith)
+
+pub bool_laws : IsLawful bool_kind
+bool_laws = plain_laws boolean one refl (omega arith)

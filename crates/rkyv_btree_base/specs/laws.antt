@@ -10,3 +10,7 @@ pub mod Sizes
 pub mod Sound
 pub mod Unique
 pub mod Widen
+pub mod Counted
+pub mod Faulty
+pub mod Refused
+pub mod Refusing

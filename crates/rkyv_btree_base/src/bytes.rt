@@ -12,14 +12,23 @@ pub fn num32(buf: &[u8], pos: u32) -> u32
     u32::from_le_bytes([buf[at], buf[at + 1], buf[at + 2], buf[at + 3]])
 }
 
+/// Where the relative pointer at `pos` leads, whatever its offset.
+#[tactic(auto, unfolding(crate::specs::Bytes::place_at))]
+pub(crate) fn place(buf: &[u8], pos: u32) -> i64
+    requires { pos + 4 ≤ length buf.now }
+    ensures { result ≡ place_at buf.now pos }
+{
+    i64::from(pos) + i64::from(num32(buf, pos).cast_signed())
+}
+
 /// Where the relative pointer at `pos` leads, or `None` where its offset is 1.
-#[tactic(auto, unfolding(crate::specs::Bytes::target_at, crate::specs::Bytes::place_at))]
+#[tactic(auto, unfolding(crate::specs::Bytes::target_at))]
 pub fn target(buf: &[u8], pos: u32) -> Option<i64>
     requires { pos + 4 ≤ length buf.now }
     ensures { result ≡ target_at buf.now pos }
 {
     match num32(buf, pos) {
         1 => None,
-        offset => Some(i64::from(pos) + i64::from(offset.cast_signed())),
+        _ => Some(place(buf, pos)),
     }
 }

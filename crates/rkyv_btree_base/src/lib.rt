@@ -12,7 +12,10 @@ pub mod numbers;
 pub mod place;
 pub mod refusal;
 pub mod shape;
+pub mod signed;
+pub mod steps;
 #[cfg(test)]
 mod tests;
 mod tree;
+pub mod verify;
 mod writes;

@@ -1,9 +1,12 @@
 //! The archived map.
 ghost use Rattle.rkyv_btree_base.specs.Map.{map_kind};
-ghost use Rattle.rkyv_btree_base.specs.laws.MapLaws.{map_laws};
+ghost use Rattle.rkyv_btree_base.specs.Faults.{Stands};
+ghost use Rattle.rkyv_btree_base.specs.laws.MapLaws.{map_laws, map_refusals};
 
-use crate::check::Portable;
+use crate::check::{CheckBytes, Portable, Window};
 use crate::layout;
+use crate::refusal::Refusal;
+use crate::verify::verify;
 use std::marker::PhantomData;
 
 /// A map in eight bytes: a relative pointer to its root node, and the number of its entries.
@@ -28,4 +31,14 @@ impl<K: Portable, V: Portable, const E: usize> Portable for ArchivedBTreeMap<K, 
     }
 
     ghost laws = { map_laws K.kind V.kind E K.laws V.laws };
+}
+
+impl<K: CheckBytes, V: CheckBytes, const E: usize> CheckBytes for ArchivedBTreeMap<K, V, E> {
+    ghost Refuses = { Stands K.kind V.kind E };
+
+    fn check(buf: &[u8], pos: u32, window: Window) -> Result<Window, Refusal> {
+        verify::<K, V, E>(buf, pos, window)
+    }
+
+    ghost refusals = { map_refusals K.kind V.kind E K.laws V.laws };
 }

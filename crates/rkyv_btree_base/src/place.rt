@@ -1,7 +1,7 @@
 //! Writers, places for archived values, and relative pointers.
 ghost use Rattle.std.specs.Prelude.{◌≡◌, ◌≢◌, ◌+◌, ◌≤◌, ◌<◌, ◌^◌, ◌↔◌, [], length, replicate, IsOk, OnOk, OnErr, IfErr, IsTrue};
 ghost use Rattle.rkyv_btree_base.specs.Pointers.{FitsOffset, pointer, no_pointer};
-ghost use Rattle.rkyv_btree_base.specs.Plain.{offset_kind, offset_laws};
+ghost use Rattle.rkyv_btree_base.specs.Plain.{i32_kind, i32_laws};
 ghost use Rattle.rkyv_btree_base.specs.Writing.{Writing, position, Appended, Failed};
 
 use crate::check::Portable;
@@ -147,7 +147,7 @@ impl<'p, T: Portable> Place<'p, T> {
 pub struct RelPtr;
 
 impl Portable for RelPtr {
-    ghost kind = { offset_kind };
+    ghost kind = { i32_kind };
 
     fn size() -> u32 {
         4
@@ -161,7 +161,7 @@ impl Portable for RelPtr {
         true
     }
 
-    ghost laws = { offset_laws };
+    ghost laws = { i32_laws };
 }
 
 impl RelPtr {

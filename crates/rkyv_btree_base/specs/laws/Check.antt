@@ -1,17 +1,13 @@
 use Rattle.std.specs.Prelude.{ℕ, zero, suc, ◌+◌, ◌%◌, ◌||◌, List, length, Option, Some, None, Result, Ok, Err, ℤ, pos, negsuc, slice_index, nat_eq, nat_lt, if◌then◌else◌}
 use Rattle.rkyv_btree_base.specs.declared.refusal.Refusal.{Refusal}
 use Rattle.rkyv_btree_base.specs.declared.refusal.Refusal.TheVariants.{OutOfRange, Misaligned, BadKind, InvalidLength, BadEntry, TooDeep, EntriesLengthMismatch, TooLong}
+use Rattle.rkyv_btree_base.specs.declared.verify.Checked.{Checked}
 use Rattle.rkyv_btree_base.specs.Bytes.{number_at, target_at, place_at}
 use Rattle.rkyv_btree_base.specs.Kind.{Leaves}
 use Rattle.rkyv_btree_base.specs.Layout.{Shape, key_at, value_at, len_at, leaf_size, inner_size, pointer_at, align}
 
 -- What the check of a map answers, as a function of its bytes: it decides the relations of `Spells`, which is what the
 -- laws of maps need of it.
-
--- what the check of nodes leaves: the window's start, and the entries so far
-pub record Checked : Type 0 where
-  pub lo : ℕ
-  pub entries : ℕ
 
 infixl 10 ◌>>=◌
 abbrev pub ◌>>=◌ : {A B : Type 0} → Result A Refusal → (A → Result B Refusal) → Result B Refusal

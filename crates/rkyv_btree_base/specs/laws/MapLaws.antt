@@ -2,10 +2,14 @@
 use Rattle.std.specs.Prelude.{◌≡◌, ℕ, ◌+◌, ◌≤◌, IsTrue, List, length}
 use Rattle.std.proofs.Common.{refl, sym, ap, ◌∙◌, arith, inl, inr}
 use Rattle.rkyv_btree_base.specs.Bytes.{number_at}
+use Rattle.rkyv_btree_base.specs.Faults.{Stands}
 use Rattle.rkyv_btree_base.specs.Kind.{Kind, IsLawful, Leaving}
+use Rattle.rkyv_btree_base.specs.Refusing.{AreRefusals}
 use Rattle.rkyv_btree_base.specs.Rounding.{four}
 use Rattle.rkyv_btree_base.specs.Standing.{Lies}
+use Rattle.rkyv_btree_base.specs.laws.Faulty.{no_map, one_refusal}
 use Rattle.rkyv_btree_base.specs.laws.Local.{map_local}
+use Rattle.rkyv_btree_base.specs.Layout.{are_fitting}
 use Rattle.rkyv_btree_base.specs.Map.{map_kind}
 use Rattle.rkyv_btree_base.specs.laws.Readings.{map_is_read}
 use Rattle.rkyv_btree_base.specs.laws.Root.{map_decides, map_within}
@@ -41,6 +45,15 @@ module _ (K V : Kind) (E : ℕ) (k : IsLawful K) (v : IsLawful V) where
         let f = fitting_parts K V E fits in
         map_decides K V E K.leaves V.leaves (k.decides f.key) (v.decides f.value) (sound_of K V E k v fits);
   }
+
+  pub map_refusals : IsTrue (are_fitting K V E) → AreRefusals (map_kind K V E) (Stands K V E)
+  map_refusals fits =
+      let f = fitting_parts K V E fits in
+      let sound = sound_of K V E k v fits in
+      record {
+        no_meaning = λ b lo hi at e stands left m a. no_map K V E K.leaves V.leaves b (k.decides f.key) (v.decides f.value) sound lo hi at left m e stands a;
+        one_refusal = λ b lo hi at e d p q. one_refusal K V E K.leaves V.leaves b (k.decides f.key) (v.decides f.value) sound lo hi at e d p q;
+      }
 
   -- the length of the list that is read is the number that the map says
   pub map_length : (b : List ℕ) (pos : ℕ) → IsTrue (stands (map_kind K V E) b pos) → length (read_map K V E b pos) ≡ number_at b (pos + 4) 4

@@ -3,8 +3,9 @@ use Rattle.std.proofs.Common.{◌≡◌, inl, inr, ℕ, zero, suc, ◌+◌, ◌%
 use Rattle.std.proofs.lemmas.Bool.{eqb-true, ltb-false}
 use Rattle.rkyv_btree_base.specs.declared.refusal.Refusal.{Refusal}
 use Rattle.rkyv_btree_base.specs.declared.refusal.Refusal.TheVariants.{OutOfRange, Misaligned}
+use Rattle.rkyv_btree_base.specs.declared.verify.Checked.{Checked}
 use Rattle.rkyv_btree_base.specs.Bytes.{number_at, target_at}
-use Rattle.rkyv_btree_base.specs.laws.Check.{Checked, ◌>>=◌, or_bad, node_place, check_entry, check_entries, check_leaf, check_target, check_pointer, check_pointers, check_inner, check_placed, check_node}
+use Rattle.rkyv_btree_base.specs.laws.Check.{◌>>=◌, or_bad, node_place, check_entry, check_entries, check_leaf, check_target, check_pointer, check_pointers, check_inner, check_placed, check_node}
 use Rattle.rkyv_btree_base.specs.Kind.{Kind, Leaves, Decides}
 use Rattle.rkyv_btree_base.specs.Layout.{Shape, shape, key_at, value_at, align, len_at, leaf_size, inner_size, pointer_at}
 use Rattle.rkyv_btree_base.specs.Plain.{chosen}

@@ -1,0 +1,419 @@
+//! The check of foreign bytes for a map: the order of checking is part of what the calls promise.
+ghost use Rattle.std.specs.Prelude.{◌≡◌, ◌≤◌, ◌<◌, ◌+◌, ◌-◌, ◌*◌, ◌/◌, ◌%◌, ◌^◌, ℕ, List, length, IfOk, IfErr, Ok, Err, pos, IsTrue};
+ghost use Rattle.rkyv_btree_base.specs.declared.refusal.Refusal.{Refusal};
+ghost use Rattle.rkyv_btree_base.specs.Claims.{PairwiseApart, claimed};
+ghost use Rattle.rkyv_btree_base.specs.Faults.{NodeFault, Stands};
+ghost use Rattle.rkyv_btree_base.specs.Layout.{shape, are_fitting, leaf_size, inner_size};
+ghost use Rattle.rkyv_btree_base.specs.Spells.{Accepted, Spells, accepted_nodes};
+ghost use Rattle.rkyv_btree_base.specs.Tree.{Tree, height, nodes};
+ghost use Rattle.rkyv_btree_base.specs.laws.Check.{or_bad, node_place, check_entry, check_entries, check_leaf, check_pointer, check_pointers, check_inner, check_placed, check_node, check_tree, check_root, check_map};
+ghost use Rattle.rkyv_btree_base.specs.laws.Counted.{Within, node_steps, pointer_steps, pointers_steps, placed_steps, tree_steps, root_steps, map_steps};
+
+use crate::bytes::{num32, place, target};
+use crate::check::{CheckBytes, Window, check_place};
+use crate::layout;
+use crate::map::ArchivedBTreeMap;
+use crate::refusal::{EntriesLengthMismatch, InvalidLength, Refusal};
+use crate::steps::StepCounter;
+
+// What the check of nodes leaves: the window's start, and the entries so far.
+#[derive(Clone, Copy)]
+struct Checked {
+    lo: u32,
+    entries: u64,
+}
+
+// A key or value at a position in the node at `node`: the window's start that it leaves.
+fn check_part<T: CheckBytes>(buf: &[u8], node: u32, at: u32, lo: u32) -> Result<u32, Refusal>
+    requires fitting { IsTrue T.kind.is_fitting }
+    requires window { lo ≤ node }
+    requires place { node ≤ at }
+    ensures gives { result ≡ or_bad at (T.kind.leaves buf.now lo node at) }
+    ensures within { IfOk result (λ left. (lo ≤ left) × (left ≤ node)) }
+{
+    match T::check(buf, at, Window { lo, hi: node }) {
+        Ok(left) => Ok(left.lo),
+        Err(_) => Err(Refusal::BadEntry { pos: at }),
+    }
+}
+
+// Entry `i` of the node at `node`.
+#[tactic(auto, unfolding(crate::specs::laws::Check::check_entry))]
+fn check_entry<K: CheckBytes, V: CheckBytes, const E: usize>(
+    buf: &[u8],
+    node: u32,
+    i: usize,
+    lo: u32,
+) -> Result<u32, Refusal>
+    requires fitting { IsTrue (are_fitting K.kind V.kind E) }
+    requires index { i < E }
+    requires window { lo ≤ node }
+    requires room { node + leaf_size (shape K.kind V.kind E) < 2 ^ 32 }
+    ensures gives { result ≡ check_entry (shape K.kind V.kind E) K.kind.leaves V.kind.leaves buf.now node i lo }
+    ensures within { IfOk result (λ left. (lo ≤ left) × (left ≤ node)) }
+{
+    let mid = check_part::<K>(buf, node, node + layout::key_at::<K, V, E>(i), lo)?;
+    check_part::<V>(buf, node, node + layout::value_at::<K, V, E>(i), mid)
+}
+
+// The first `n` entries of the node at `node`.
+fn check_entries<K: CheckBytes, V: CheckBytes, const E: usize>(
+    buf: &[u8],
+    node: u32,
+    n: usize,
+    lo: u32,
+) -> Result<u32, Refusal>
+    requires fitting { IsTrue (are_fitting K.kind V.kind E) }
+    requires count { n ≤ E }
+    requires window { lo ≤ node }
+    requires room { node + leaf_size (shape K.kind V.kind E) < 2 ^ 32 }
+    ensures gives { result ≡ check_entries (shape K.kind V.kind E) K.kind.leaves V.kind.leaves buf.now node n 0 lo }
+    ensures within { IfOk result (λ left. (lo ≤ left) × (left ≤ node)) }
+{
+    let mut left = lo;
+    for i in 0..n {
+        left = check_entry::<K, V, E>(buf, node, i, left)?;
+    }
+    Ok(left)
+}
+
+// Where the node that a pointer leads to stands, if there is room for a leaf and it is aligned.
+fn node_place<K: CheckBytes, V: CheckBytes, const E: usize>(
+    p: i64,
+    window: Window,
+) -> Result<u32, Refusal>
+    requires fitting { IsTrue (are_fitting K.kind V.kind E) }
+    ensures gives { result ≡ node_place (shape K.kind V.kind E) p window.lo window.hi }
+    ensures within { IfOk result (λ start. (window.lo ≤ start) × (start + leaf_size (shape K.kind V.kind E) ≤ window.hi)) }
+{
+    if p < i64::from(window.lo) || p > i64::from(window.hi) {
+        return Err(Refusal::OutOfRange { pos: p });
+    }
+    let start = p as u32;
+    if window.hi - start < layout::leaf_size::<K, V, E>() {
+        return Err(Refusal::OutOfRange { pos: p });
+    }
+    if start % layout::align::<K, V, E>() == 0 {
+        Ok(start)
+    } else {
+        Err(Refusal::Misaligned { pos: start })
+    }
+}
+
+// A leaf at a place with room for it.
+#[tactic(auto, unfolding(crate::specs::laws::Check::check_leaf))]
+fn check_leaf<K: CheckBytes, V: CheckBytes, const E: usize>(
+    buf: &[u8],
+    node: u32,
+    lo: u32,
+) -> Result<Checked, Refusal>
+    requires fitting { IsTrue (are_fitting K.kind V.kind E) }
+    requires window { lo ≤ node }
+    requires inside { node + leaf_size (shape K.kind V.kind E) ≤ length buf.now }
+    requires room { node + leaf_size (shape K.kind V.kind E) < 2 ^ 32 }
+    ensures gives { result ≡ check_leaf (shape K.kind V.kind E) K.kind.leaves V.kind.leaves buf.now node lo }
+    ensures within { IfOk result (λ c. (c.lo ≡ node + leaf_size (shape K.kind V.kind E)) × (c.entries ≤ E)) }
+{
+    let n = num32(buf, node + layout::len_at::<K, V, E>());
+    if n as usize > E {
+        return Err(Refusal::InvalidLength(InvalidLength {
+            len: u64::from(n),
+            maximum: E as u64,
+        }));
+    }
+    check_entries::<K, V, E>(buf, node, n as usize, lo)?;
+    Ok(Checked {
+        lo: node + layout::leaf_size::<K, V, E>(),
+        entries: u64::from(n),
+    })
+}
+
+// The node that a pointer leads to, with so many levels left for it and those below.
+#[cycle(nodes)]
+fn check_node<K: CheckBytes, V: CheckBytes, const E: usize>(
+    buf: &[u8],
+    p: i64,
+    window: Window,
+    levels: u32,
+    steps: &mut StepCounter,
+) -> Result<Checked, Refusal>
+    requires fitting { IsTrue (are_fitting K.kind V.kind E) }
+    requires inside { window.hi ≤ length buf.now }
+    requires count { steps.old + (window.hi - window.lo) + levels + 1 < 2 ^ 64 }
+    ensures gives { result ≡ check_node (shape K.kind V.kind E) K.kind.leaves V.kind.leaves buf.now levels p window.lo window.hi }
+    ensures within { IfOk result (Within window.lo window.hi) }
+    ensures counts { steps.new ≡ steps.old + node_steps (shape K.kind V.kind E) K.kind.leaves V.kind.leaves buf.now levels p window.lo window.hi }
+    ensures paced { IfOk result (λ c. steps.new + window.lo ≤ steps.old + c.lo) }
+{
+    steps.step();
+    if levels == 0 {
+        return Err(Refusal::TooDeep { pos: p });
+    }
+    let node = node_place::<K, V, E>(p, window)?;
+    check_placed::<K, V, E>(buf, node, window, levels - 1, steps)
+}
+
+// A node at a place with room for a leaf, with so many levels left below it.
+#[cycle(nodes)]
+#[tactic(auto, unfolding(crate::specs::laws::Check::check_placed, crate::specs::laws::Counted::placed_steps))]
+fn check_placed<K: CheckBytes, V: CheckBytes, const E: usize>(
+    buf: &[u8],
+    node: u32,
+    window: Window,
+    levels: u32,
+    steps: &mut StepCounter,
+) -> Result<Checked, Refusal>
+    requires fitting { IsTrue (are_fitting K.kind V.kind E) }
+    requires start { window.lo ≤ node }
+    requires room { node + leaf_size (shape K.kind V.kind E) ≤ window.hi }
+    requires inside { window.hi ≤ length buf.now }
+    requires count { steps.old + (window.hi - window.lo) + levels + 1 < 2 ^ 64 }
+    ensures gives { result ≡ check_placed (shape K.kind V.kind E) K.kind.leaves V.kind.leaves buf.now (check_node (shape K.kind V.kind E) K.kind.leaves V.kind.leaves buf.now levels) node window.lo window.hi }
+    ensures within { IfOk result (Within window.lo window.hi) }
+    ensures counts { steps.new ≡ steps.old + placed_steps (shape K.kind V.kind E) K.kind.leaves V.kind.leaves buf.now (check_node (shape K.kind V.kind E) K.kind.leaves V.kind.leaves buf.now levels) (node_steps (shape K.kind V.kind E) K.kind.leaves V.kind.leaves buf.now levels) node window.lo window.hi }
+    ensures paced { IfOk result (λ c. steps.new + window.lo + 1 ≤ steps.old + c.lo) }
+{
+    let kind = buf[node as usize];
+    if kind == 0 {
+        return check_leaf::<K, V, E>(buf, node, window.lo);
+    }
+    if kind != 1 {
+        return Err(Refusal::BadKind {
+            pos: node,
+            byte: kind,
+        });
+    }
+    if window.hi - node < layout::inner_size::<K, V, E>() {
+        return Err(Refusal::OutOfRange {
+            pos: i64::from(node),
+        });
+    }
+    check_inner::<K, V, E>(buf, node, window.lo, levels, steps)
+}
+
+// An inner node at a place with room for it: its children, then its entries.
+#[cycle(nodes)]
+#[tactic(auto, unfolding(crate::specs::laws::Check::check_inner))]
+fn check_inner<K: CheckBytes, V: CheckBytes, const E: usize>(
+    buf: &[u8],
+    node: u32,
+    lo: u32,
+    levels: u32,
+    steps: &mut StepCounter,
+) -> Result<Checked, Refusal>
+    requires fitting { IsTrue (are_fitting K.kind V.kind E) }
+    requires start { lo ≤ node }
+    requires room { node + inner_size (shape K.kind V.kind E) < 2 ^ 32 }
+    requires inside { node + inner_size (shape K.kind V.kind E) ≤ length buf.now }
+    requires count { steps.old + (node - lo) + levels + 1 < 2 ^ 64 }
+    ensures gives { result ≡ check_inner (shape K.kind V.kind E) K.kind.leaves V.kind.leaves buf.now (check_node (shape K.kind V.kind E) K.kind.leaves V.kind.leaves buf.now levels) node lo }
+    ensures within { IfOk result (Within lo (node + inner_size (shape K.kind V.kind E))) }
+    ensures counts { steps.new ≡ steps.old + pointers_steps (shape K.kind V.kind E) K.kind.leaves V.kind.leaves buf.now (check_node (shape K.kind V.kind E) K.kind.leaves V.kind.leaves buf.now levels) (node_steps (shape K.kind V.kind E) K.kind.leaves V.kind.leaves buf.now levels) node (E + 1) 0 (record { lo = lo; entries = 0 }) }
+    ensures paced { IfOk result (λ c. steps.new + lo + 1 ≤ steps.old + c.lo) }
+{
+    let children = check_pointers::<K, V, E>(buf, node, lo, levels, steps)?;
+    check_entries::<K, V, E>(buf, node, E, children.lo)?;
+    Ok(Checked {
+        lo: node + layout::inner_size::<K, V, E>(),
+        entries: children.entries + E as u64,
+    })
+}
+
+// What the pointers of an inner node lead to, each in the window that the one before it left.
+#[cycle(nodes)]
+fn check_pointers<K: CheckBytes, V: CheckBytes, const E: usize>(
+    buf: &[u8],
+    node: u32,
+    lo: u32,
+    levels: u32,
+    steps: &mut StepCounter,
+) -> Result<Checked, Refusal>
+    requires fitting { IsTrue (are_fitting K.kind V.kind E) }
+    requires start { lo ≤ node }
+    requires room { node + inner_size (shape K.kind V.kind E) < 2 ^ 32 }
+    requires inside { node + inner_size (shape K.kind V.kind E) ≤ length buf.now }
+    requires count { steps.old + (node - lo) + levels + 1 < 2 ^ 64 }
+    ensures gives { result ≡ check_pointers (shape K.kind V.kind E) K.kind.leaves V.kind.leaves buf.now (check_node (shape K.kind V.kind E) K.kind.leaves V.kind.leaves buf.now levels) node (E + 1) 0 (record { lo = lo; entries = 0 }) }
+    ensures within { IfOk result (Within lo node) }
+    ensures counts { steps.new ≡ steps.old + pointers_steps (shape K.kind V.kind E) K.kind.leaves V.kind.leaves buf.now (check_node (shape K.kind V.kind E) K.kind.leaves V.kind.leaves buf.now levels) (node_steps (shape K.kind V.kind E) K.kind.leaves V.kind.leaves buf.now levels) node (E + 1) 0 (record { lo = lo; entries = 0 }) }
+    ensures paced { IfOk result (λ c. steps.new + lo ≤ steps.old + c.lo) }
+{
+    let mut so_far = Checked { lo, entries: 0 };
+    for i in 0..E + 1 {
+        so_far = check_pointer::<K, V, E>(buf, node, i, so_far, levels, steps)?;
+    }
+    Ok(so_far)
+}
+
+// What pointer `i` of an inner node leads to, if it leads to a node.
+#[cycle(nodes)]
+#[tactic(auto, unfolding(crate::specs::laws::Check::check_pointer, crate::specs::laws::Counted::pointer_steps))]
+fn check_pointer<K: CheckBytes, V: CheckBytes, const E: usize>(
+    buf: &[u8],
+    node: u32,
+    i: usize,
+    so_far: Checked,
+    levels: u32,
+    steps: &mut StepCounter,
+) -> Result<Checked, Refusal>
+    requires fitting { IsTrue (are_fitting K.kind V.kind E) }
+    requires index { i ≤ E }
+    requires start { so_far.lo ≤ node }
+    requires entries { so_far.entries ≤ 2 ^ 30 * so_far.lo }
+    requires count { steps.old + (node - so_far.lo) + levels + 1 < 2 ^ 64 }
+    requires room { node + inner_size (shape K.kind V.kind E) < 2 ^ 32 }
+    requires inside { node + inner_size (shape K.kind V.kind E) ≤ length buf.now }
+    ensures gives { result ≡ check_pointer (shape K.kind V.kind E) K.kind.leaves V.kind.leaves buf.now (check_node (shape K.kind V.kind E) K.kind.leaves V.kind.leaves buf.now levels) node i so_far }
+    ensures within { IfOk result (λ c. (so_far.lo ≤ c.lo) × (c.lo ≤ node) × (c.entries + 2 ^ 30 * so_far.lo ≤ so_far.entries + 2 ^ 30 * c.lo)) }
+    ensures counts { steps.new ≡ steps.old + pointer_steps (shape K.kind V.kind E) K.kind.leaves V.kind.leaves buf.now (check_node (shape K.kind V.kind E) K.kind.leaves V.kind.leaves buf.now levels) (node_steps (shape K.kind V.kind E) K.kind.leaves V.kind.leaves buf.now levels) node i so_far }
+    ensures paced { IfOk result (λ c. steps.new + so_far.lo ≤ steps.old + c.lo) }
+{
+    match target(buf, node + layout::lesser_at::<K, V, E>(i)) {
+        None => Ok(so_far),
+        Some(p) => {
+            let child = check_node::<K, V, E>(
+                buf,
+                p,
+                Window {
+                    lo: so_far.lo,
+                    hi: node,
+                },
+                levels,
+                steps,
+            )?;
+            Ok(Checked {
+                lo: child.lo,
+                entries: so_far.entries + child.entries,
+            })
+        }
+    }
+}
+
+// The tree that a pointer leads to, of at most 32 levels.
+#[tactic(auto, unfolding(crate::specs::laws::Check::check_tree, crate::specs::laws::Counted::tree_steps))]
+fn check_tree<K: CheckBytes, V: CheckBytes, const E: usize>(
+    buf: &[u8],
+    p: i64,
+    window: Window,
+    steps: &mut StepCounter,
+) -> Result<Checked, Refusal>
+    requires fitting { IsTrue (are_fitting K.kind V.kind E) }
+    requires inside { window.hi ≤ length buf.now }
+    requires count { steps.old < 2 ^ 63 }
+    ensures gives { result ≡ check_tree (shape K.kind V.kind E) K.kind.leaves V.kind.leaves buf.now p window.lo window.hi }
+    ensures counts { steps.new ≡ steps.old + tree_steps (shape K.kind V.kind E) K.kind.leaves V.kind.leaves buf.now p window.lo window.hi }
+{
+    check_node::<K, V, E>(buf, p, window, 32, steps)
+}
+
+// What the root at a place with room for it leaves of the window.
+#[tactic(auto, unfolding(crate::specs::laws::Check::check_root, crate::specs::laws::Counted::root_steps))]
+fn check_root<K: CheckBytes, V: CheckBytes, const E: usize>(
+    buf: &[u8],
+    pos: u32,
+    window: Window,
+    steps: &mut StepCounter,
+) -> Result<u32, Refusal>
+    requires fitting { IsTrue (are_fitting K.kind V.kind E) }
+    requires inside { pos + 8 ≤ length buf.now }
+    requires short { length buf.now < 2 ^ 32 }
+    requires before { window.hi ≤ pos }
+    requires count { steps.old < 2 ^ 63 }
+    ensures gives { result ≡ check_root (shape K.kind V.kind E) K.kind.leaves V.kind.leaves buf.now pos window.lo window.hi }
+    ensures counts { steps.new ≡ steps.old + root_steps (shape K.kind V.kind E) K.kind.leaves V.kind.leaves buf.now pos window.lo window.hi }
+{
+    let len = num32(buf, pos + 4);
+    if len == 0 {
+        return Ok(window.lo);
+    }
+    let found = check_tree::<K, V, E>(buf, place(buf, pos), window, steps)?;
+    if found.entries == u64::from(len) {
+        Ok(found.lo)
+    } else {
+        Err(Refusal::EntriesLengthMismatch(EntriesLengthMismatch {
+            entries: found.entries,
+            len: u64::from(len),
+        }))
+    }
+}
+
+#[tactic(auto, unfolding(crate::specs::laws::Check::check_map, crate::specs::laws::Counted::map_steps))]
+fn check_map<K: CheckBytes, V: CheckBytes, const E: usize>(
+    buf: &[u8],
+    pos: u32,
+    window: Window,
+    steps: &mut StepCounter,
+) -> Result<u32, Refusal>
+    requires fitting { IsTrue (are_fitting K.kind V.kind E) }
+    requires before { window.hi ≤ pos }
+    requires count { steps.old < 2 ^ 63 }
+    ensures gives { result ≡ check_map (shape K.kind V.kind E) K.kind.leaves V.kind.leaves buf.now pos window.lo window.hi }
+    ensures counts { steps.new ≡ steps.old + map_steps (shape K.kind V.kind E) K.kind.leaves V.kind.leaves buf.now pos window.lo window.hi }
+{
+    check_place::<ArchivedBTreeMap<K, V, E>>(buf, pos)?;
+    check_root::<K, V, E>(buf, pos, window, steps)
+}
+
+/// Checks the map at position `pos` in foreign bytes, with all of its tree and its entries, whose bytes may lie in
+/// `window`. It answers the window that is left: its `lo` is the end of the root node, or as it was where the map is
+/// empty. Each node is looked at once where the bytes are accepted. The check takes no memory, and goes at most 32 levels
+/// down.
+pub fn verify<K: CheckBytes, V: CheckBytes, const E: usize>(
+    buf: &[u8],
+    pos: u32,
+    window: Window,
+) -> Result<Window, Refusal>
+    requires fitting { IsTrue (are_fitting K.kind V.kind E) }
+    requires ordered { window.lo ≤ window.hi }
+    requires before { window.hi ≤ pos }
+    // What is accepted is a map, which leaves this window.
+    ensures accepted { IfOk result (λ left. (left.hi ≡ window.hi) × ((m : List (K.kind.Value × V.kind.Value)) × Accepted K.kind V.kind E buf.now window.lo window.hi pos left.lo m)) }
+    // Each map is accepted.
+    ensures all_accepted { (left : ℕ) (m : List (K.kind.Value × V.kind.Value)) → Accepted K.kind V.kind E buf.now window.lo window.hi pos left m → result ≡ Ok (record { lo = left; hi = window.hi }) }
+    // What is refused has the fault that the refusal names.
+    ensures refused { IfErr result (λ refusal. Stands K.kind V.kind E buf.now window.lo window.hi pos refusal) }
+    // Each fault is refused.
+    ensures all_refused { (refusal : Refusal) → Stands K.kind V.kind E buf.now window.lo window.hi pos refusal → result ≡ Err refusal }
+{
+    let mut steps = StepCounter::new();
+    verify_counted::<K, V, E>(buf, pos, window, &mut steps)
+}
+
+/// The same, and counts the checks of nodes that are begun.
+pub fn verify_counted<K: CheckBytes, V: CheckBytes, const E: usize>(
+    buf: &[u8],
+    pos: u32,
+    window: Window,
+    steps: &mut StepCounter,
+) -> Result<Window, Refusal>
+    requires fitting { IsTrue (are_fitting K.kind V.kind E) }
+    requires ordered { window.lo ≤ window.hi }
+    requires before { window.hi ≤ pos }
+    requires count { steps.old ≤ 9223372036854775807 }
+    ensures accepted { IfOk result (λ left. (left.hi ≡ window.hi) × ((m : List (K.kind.Value × V.kind.Value)) × Accepted K.kind V.kind E buf.now window.lo window.hi pos left.lo m)) }
+    ensures all_accepted { (left : ℕ) (m : List (K.kind.Value × V.kind.Value)) → Accepted K.kind V.kind E buf.now window.lo window.hi pos left m → result ≡ Ok (record { lo = left; hi = window.hi }) }
+    ensures refused { IfErr result (λ refusal. Stands K.kind V.kind E buf.now window.lo window.hi pos refusal) }
+    ensures all_refused { (refusal : Refusal) → Stands K.kind V.kind E buf.now window.lo window.hi pos refusal → result ≡ Err refusal }
+    // On what is accepted it counts the nodes.
+    ensures nodes { (left : ℕ) (m : List (K.kind.Value × V.kind.Value)) (a : Accepted K.kind V.kind E buf.now window.lo window.hi pos left m) → steps.new ≡ steps.old + accepted_nodes K.kind V.kind E buf.now window.lo window.hi pos left m a }
+    // On all bytes it counts few.
+    ensures few { steps.new ≤ steps.old + (window.hi - window.lo) / leaf_size (shape K.kind V.kind E) + 1 }
+{
+    let lo = check_map::<K, V, E>(buf, pos, window, steps)?;
+    Ok(Window { lo, hi: window.hi })
+}
+
+/// What the nodes, keys and values of a tree in foreign bytes take of them is apart, so a buffer has few nodes.
+pub fn claims_are_apart<K: CheckBytes, V: CheckBytes, const E: usize>()
+    requires { IsTrue (are_fitting K.kind V.kind E) }
+    ensures apart { (b : List ℕ) (lo hi start : ℕ) (t : Tree (K.kind.Value × V.kind.Value)) (h : Spells K.kind V.kind E b lo hi start t) → PairwiseApart (claimed K.kind V.kind E b lo hi start t h) }
+    ensures few { (b : List ℕ) (lo hi start : ℕ) (t : Tree (K.kind.Value × V.kind.Value)) → Spells K.kind V.kind E b lo hi start t → hi ≤ length b → nodes t * leaf_size (shape K.kind V.kind E) ≤ length b }
+{}
+
+/// A map has no fault, bytes have one fault at most, and a node with a fault spells no tree of the levels that are left.
+pub fn faults_are_exact<K: CheckBytes, V: CheckBytes, const E: usize>()
+    requires { IsTrue (are_fitting K.kind V.kind E) }
+    ensures no_map { (b : List ℕ) (lo hi at left : ℕ) (m : List (K.kind.Value × V.kind.Value)) (e : Refusal) → Stands K.kind V.kind E b lo hi at e → Accepted K.kind V.kind E b lo hi at left m → ⊥ }
+    ensures one_refusal { (b : List ℕ) (lo hi at : ℕ) (e d : Refusal) → Stands K.kind V.kind E b lo hi at e → Stands K.kind V.kind E b lo hi at d → e ≡ d }
+    ensures no_tree { (b : List ℕ) (levels lo hi start : ℕ) (e : Refusal) (t : Tree (K.kind.Value × V.kind.Value)) → NodeFault K.kind V.kind E b levels (pos start) lo hi e → Spells K.kind V.kind E b lo hi start t → height t ≤ levels → ⊥ }
+{}
