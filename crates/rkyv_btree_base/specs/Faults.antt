@@ -1,28 +1,24 @@
 -- What is wrong with bytes that are no map. The cases stand in the order of checking, and each has what the ones before
 -- it found right.
-use Rattle.std.specs.Prelude.{◌≡◌, ◌≢◌, ℕ, zero, suc, ◌+◌, ◌%◌, ◌≤◌, ◌<◌, List, [], ◌∷◌, length, Some, ℤ, pos, ◌+ℤ◌, ◌<ℤ◌, slice_index}
+use Rattle.std.specs.Prelude.{◌≡◌, ◌≢◌, ℕ, zero, suc, ◌+◌, ◌%◌, ◌≤◌, ◌<◌, List, [], ◌∷◌, length, Some, ℤ, pos, ◌+ℤ◌, ◌<ℤ◌}
 use Rattle.rkyv_btree_base.specs.declared.refusal.Refusal.{Refusal}
 use Rattle.rkyv_btree_base.specs.declared.refusal.Refusal.TheVariants.{OutOfRange, Misaligned, BadKind, InvalidLength, BadEntry, TooDeep, EntriesLengthMismatch}
 use Rattle.rkyv_btree_base.specs.Bytes.{number_at, target_at, place_at}
 use Rattle.rkyv_btree_base.specs.Kind.{Kind}
-use Rattle.rkyv_btree_base.specs.Layout.{Shape, shape, key_at, value_at, len_at, leaf_size, inner_size, pointer_at, align}
+use Rattle.rkyv_btree_base.specs.Layout.{shape, key_at, value_at, len_at, leaf_size, inner_size, pointer_at, align}
 use Rattle.rkyv_btree_base.specs.Refusing.{HasPlace, Misplaced, MeansNothing}
-use Rattle.rkyv_btree_base.specs.Spells.{SpellsChild, Spells}
+use Rattle.rkyv_btree_base.specs.Spells.{IsNodeAt, Spells, SpellsChild}
 use Rattle.rkyv_btree_base.specs.Tree.{Tree, Child, list, height, child_height}
 
--- there is room for a leaf at a place in the window from lo to hi
-pub record HasRoom (s : Shape) (lo hi start : ℕ) : Type 0 where
-  pub after : lo ≤ start
-  pub room : start + leaf_size s ≤ hi
-
--- a node's first byte stands in the window at an aligned place, and is this
-pub record HasKind (s : Shape) (b : List ℕ) (lo hi start kind : ℕ) : Type 0 where
-  pub after : lo ≤ start
-  pub room : start + leaf_size s ≤ hi
-  pub aligned : start % align s ≡ 0
-  pub kind_byte : slice_index b start ≡ kind
-
 module _ (K V : Kind) (E : ℕ) (b : List ℕ) where
+  -- a node's first byte is this, at a place in the window from lo to hi with room for a leaf
+  abbrev pub HasKind : ℕ → ℕ → ℕ → ℕ → Type 0
+  HasKind lo hi start kind = IsNodeAt (shape K V E) b lo hi start kind (leaf_size (shape K V E))
+
+  -- the first byte of an inner node, at a place with room for it
+  abbrev pub IsInner : ℕ → ℕ → ℕ → Type 0
+  IsInner lo hi start = IsNodeAt (shape K V E) b lo hi start 1 (inner_size (shape K V E))
+
   -- of so many entries of the node at p, from number i on in a window from lo on, the first key or value that means
   -- nothing stands at a position
   pub data EntriesFault (p : ℕ) : ℕ → ℕ → ℕ → ℕ → Type 0 where
@@ -41,13 +37,13 @@ module _ (K V : Kind) (E : ℕ) (b : List ℕ) where
       too_deep : {p : ℤ} {lo hi : ℕ} → NodeFault zero p lo hi (TooDeep p)
       starts_before : {levels : ℕ} {p : ℤ} {lo hi : ℕ} → p <ℤ pos lo → NodeFault (suc levels) p lo hi (OutOfRange p)
       ends_past : {levels : ℕ} {p : ℤ} {lo hi : ℕ} → pos hi <ℤ (p +ℤ pos (leaf_size (shape K V E))) → NodeFault (suc levels) p lo hi (OutOfRange p)
-      misaligned : {levels lo hi start : ℕ} → HasRoom (shape K V E) lo hi start → start % align (shape K V E) ≢ 0 → NodeFault (suc levels) (pos start) lo hi (Misaligned start)
-      bad_kind : {levels lo hi start kind : ℕ} → HasKind (shape K V E) b lo hi start kind → kind ≢ 0 → kind ≢ 1 → NodeFault (suc levels) (pos start) lo hi (BadKind start kind)
-      inner_past : {levels lo hi start : ℕ} → HasKind (shape K V E) b lo hi start 1 → hi < start + inner_size (shape K V E) → NodeFault (suc levels) (pos start) lo hi (OutOfRange (pos start))
-      leaf_length : {levels lo hi start : ℕ} → HasKind (shape K V E) b lo hi start 0 → E < number_at b (start + len_at (shape K V E)) 4 → NodeFault (suc levels) (pos start) lo hi (InvalidLength (record { len = number_at b (start + len_at (shape K V E)) 4; maximum = E }))
-      leaf_entry : {levels lo hi start at : ℕ} → HasKind (shape K V E) b lo hi start 0 → number_at b (start + len_at (shape K V E)) 4 ≤ E → EntriesFault start (number_at b (start + len_at (shape K V E)) 4) 0 lo at → NodeFault (suc levels) (pos start) lo hi (BadEntry at)
-      in_child : {levels lo hi start : ℕ} {e : Refusal} → HasKind (shape K V E) b lo hi start 1 → start + inner_size (shape K V E) ≤ hi → PointersFault levels start (suc E) 0 lo e → NodeFault (suc levels) (pos start) lo hi e
-      inner_entry : {levels lo hi start mid at : ℕ} → HasKind (shape K V E) b lo hi start 1 → start + inner_size (shape K V E) ≤ hi → (children : List (Child (K.Value × V.Value))) → length children ≡ suc E → Children levels start 0 lo mid children → EntriesFault start E 0 mid at → NodeFault (suc levels) (pos start) lo hi (BadEntry at)
+      misaligned : {levels lo hi start : ℕ} → lo ≤ start → start + leaf_size (shape K V E) ≤ hi → start % align (shape K V E) ≢ 0 → NodeFault (suc levels) (pos start) lo hi (Misaligned start)
+      bad_kind : {levels lo hi start kind : ℕ} → HasKind lo hi start kind → kind ≢ 0 → kind ≢ 1 → NodeFault (suc levels) (pos start) lo hi (BadKind start kind)
+      inner_past : {levels lo hi start : ℕ} → HasKind lo hi start 1 → hi < start + inner_size (shape K V E) → NodeFault (suc levels) (pos start) lo hi (OutOfRange (pos start))
+      leaf_length : {levels lo hi start : ℕ} → HasKind lo hi start 0 → E < number_at b (start + len_at (shape K V E)) 4 → NodeFault (suc levels) (pos start) lo hi (InvalidLength (record { len = number_at b (start + len_at (shape K V E)) 4; maximum = E }))
+      leaf_entry : {levels lo hi start at : ℕ} → HasKind lo hi start 0 → number_at b (start + len_at (shape K V E)) 4 ≤ E → EntriesFault start (number_at b (start + len_at (shape K V E)) 4) 0 lo at → NodeFault (suc levels) (pos start) lo hi (BadEntry at)
+      in_child : {levels lo hi start : ℕ} {e : Refusal} → IsInner lo hi start → PointersFault levels start (suc E) 0 lo e → NodeFault (suc levels) (pos start) lo hi e
+      inner_entry : {levels lo hi start mid at : ℕ} → IsInner lo hi start → (children : List (Child (K.Value × V.Value))) → length children ≡ suc E → Children levels start 0 lo mid children → EntriesFault start E 0 mid at → NodeFault (suc levels) (pos start) lo hi (BadEntry at)
 
     -- of so many pointers of the node at p, from number i on in a window from lo on, the refusal of the first that
     -- spells no child of at most so many levels

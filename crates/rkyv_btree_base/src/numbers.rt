@@ -8,6 +8,9 @@ ghost use Rattle.rkyv_btree_base.specs.laws.Refusing.{whole_refusals};
 use crate::check::{CheckBytes, InPlace, Portable, Window, check_place};
 use crate::refusal::Refusal;
 
+/// The byte of `true`. That of `false` is 0, and no other byte is a `bool`.
+const TRUE: u8 = 1;
+
 impl Portable for u8 {
     ghost kind = { u8_kind };
 
@@ -224,7 +227,7 @@ impl CheckBytes for bool {
 
     fn check(buf: &[u8], pos: u32, window: Window) -> Result<Window, Refusal> {
         check_place::<bool>(buf, pos)?;
-        if buf[pos as usize] > 1 {
+        if buf[pos as usize] > TRUE {
             return Err(Refusal::BadEntry { pos });
         }
         Ok(window)

@@ -10,11 +10,11 @@ use Rattle.rkyv_btree_base.specs.Kind.{Kind, Leaves, Decides}
 use Rattle.rkyv_btree_base.specs.Layout.{Shape, shape, key_at, value_at, align, len_at, leaf_size, inner_size}
 use Rattle.rkyv_btree_base.specs.Spells.{Spells, SpellsChild}
 use Rattle.rkyv_btree_base.specs.Tree.{Tree, leaf, inner, Child, absent, child, list, height, child_list}
-use Rattle.rkyv_btree_base.specs.Faults.{HasRoom, HasKind, EntriesFault, in_key, in_value, in_later, Children, NodeFault, too_deep, starts_before, ends_past, misaligned, bad_kind, inner_past, leaf_length, leaf_entry, in_child, inner_entry, PointersFault, here, later, Stands, misplaced, in_tree, other_total}
+use Rattle.rkyv_btree_base.specs.Faults.{HasKind, IsInner, EntriesFault, in_key, in_value, in_later, Children, NodeFault, too_deep, starts_before, ends_past, misaligned, bad_kind, inner_past, leaf_length, leaf_entry, in_child, inner_entry, PointersFault, here, later, Stands, misplaced, in_tree, other_total}
 use Rattle.rkyv_btree_base.specs.Spells.{Accepted}
 use Rattle.rkyv_btree_base.specs.laws.Root.{map_complete}
 use Rattle.rkyv_btree_base.specs.Refusing.{HasPlace, Misplaced, too_long, no_room, unaligned}
-use Rattle.rkyv_btree_base.specs.laws.Sizes.{IsSound}
+use Rattle.rkyv_btree_base.specs.laws.Sizes.{IsSound, follow}
 use Rattle.rkyv_btree_base.specs.laws.Results.{none_of}
 use Rattle.rkyv_btree_base.specs.laws.Complete.{place_complete, child_complete, tree_complete}
 
@@ -31,11 +31,8 @@ out_past s (pos p) lo hi h =
       | inr l ↦ rw (le-ltb p lo l, past) refl
     ]
 
-not_aligned : (s : Shape) (lo hi p : ℕ) → HasRoom s lo hi p → p % align s ≢ 0 → node_place s (pos p) lo hi ≡ Err (Misaligned p)
-not_aligned s lo hi p at h = rw (le-ltb p lo at.after, le-ltb hi (p + leaf_size s) at.room, ne_eqb (p % align s) 0 h) refl
-
-has_place : (s : Shape) (b : List ℕ) (lo hi p kind : ℕ) → HasKind s b lo hi p kind → node_place s (pos p) lo hi ≡ Ok p
-has_place s b lo hi p kind at = place_complete s lo hi p at.after at.room at.aligned
+not_aligned : (s : Shape) (lo hi p : ℕ) → lo ≤ p → p + leaf_size s ≤ hi → p % align s ≢ 0 → node_place s (pos p) lo hi ≡ Err (Misaligned p)
+not_aligned s lo hi p after room h = rw (le-ltb p lo after, le-ltb hi (p + leaf_size s) room, ne_eqb (p % align s) 0 h) refl
 
 pub misplaced_faulty : (s : Shape) (keys values : Leaves) (b : List ℕ) (at lo hi : ℕ) {e : Refusal} → Misplaced b 8 4 at e → check_map s keys values b at lo hi ≡ Err e
 unfolding check_map
@@ -77,40 +74,41 @@ module _ (K V : Kind) (E : ℕ) (keys values : Leaves) (b : List ℕ) (ks : Deci
       child_within (child (leaf m)) p i lo next before h = omega (arith, h.3, h.2.0.room)
       child_within (child (inner row)) p i lo next before h = omega (arith, h.3, h.2.0.room)
 
-  leaf_faulty : (levels lo hi start at : ℕ) → HasKind (shape K V E) b lo hi start 0 → number_at b (start + len_at (shape K V E)) 4 ≤ E → EntriesFault K V E b start (number_at b (start + len_at (shape K V E)) 4) 0 lo at → check_node (shape K V E) keys values b (suc levels) (pos start) lo hi ≡ Err (BadEntry at)
+  leaf_faulty : (levels lo hi start at : ℕ) → HasKind K V E b lo hi start 0 → number_at b (start + len_at (shape K V E)) 4 ≤ E → EntriesFault K V E b start (number_at b (start + len_at (shape K V E)) 4) 0 lo at → check_node (shape K V E) keys values b (suc levels) (pos start) lo hi ≡ Err (BadEntry at)
   unfolding check_placed check_leaf
   leaf_faulty levels lo hi start at is le fault =
       let s = shape K V E in
-      rw (has_place s b lo hi start 0 is)
-      (rw (eq-eqb (slice_index b start) 0 is.kind_byte, le-ltb E (number_at b (start + len_at s) 4) le, entries_faulty is.after fault) refl)
+      rw (place_complete s lo hi start is.start is.room is.aligned)
+      (rw (eq-eqb (slice_index b start) 0 is.kind_byte, le-ltb E (number_at b (start + len_at s) 4) le, entries_faulty is.start fault) refl)
 
-  length_faulty : (levels lo hi start : ℕ) → HasKind (shape K V E) b lo hi start 0 → E < number_at b (start + len_at (shape K V E)) 4 → check_node (shape K V E) keys values b (suc levels) (pos start) lo hi ≡ Err (InvalidLength (record { len = number_at b (start + len_at (shape K V E)) 4; maximum = E }))
+  length_faulty : (levels lo hi start : ℕ) → HasKind K V E b lo hi start 0 → E < number_at b (start + len_at (shape K V E)) 4 → check_node (shape K V E) keys values b (suc levels) (pos start) lo hi ≡ Err (InvalidLength (record { len = number_at b (start + len_at (shape K V E)) 4; maximum = E }))
   unfolding check_placed check_leaf
   length_faulty levels lo hi start is lt =
       let s = shape K V E in
-      rw (has_place s b lo hi start 0 is)
+      rw (place_complete s lo hi start is.start is.room is.aligned)
       (rw (eq-eqb (slice_index b start) 0 is.kind_byte, lt-ltb E (number_at b (start + len_at s) 4) lt) refl)
 
-  kind_faulty : (levels lo hi start kind : ℕ) → HasKind (shape K V E) b lo hi start kind → kind ≢ 0 → kind ≢ 1 → check_node (shape K V E) keys values b (suc levels) (pos start) lo hi ≡ Err (BadKind start kind)
+  kind_faulty : (levels lo hi start kind : ℕ) → HasKind K V E b lo hi start kind → kind ≢ 0 → kind ≢ 1 → check_node (shape K V E) keys values b (suc levels) (pos start) lo hi ≡ Err (BadKind start kind)
   unfolding check_placed
   kind_faulty levels lo hi start kind is not_leaf not_inner =
       let s = shape K V E in
-      rw (has_place s b lo hi start kind is)
+      rw (place_complete s lo hi start is.start is.room is.aligned)
       (rw (ne_eqb (slice_index b start) 0 (λ e. not_leaf (sym is.kind_byte ∙ e)), ne_eqb (slice_index b start) 1 (λ e. not_inner (sym is.kind_byte ∙ e)), is.kind_byte) refl)
 
-  room_faulty : (levels lo hi start : ℕ) → HasKind (shape K V E) b lo hi start 1 → hi < start + inner_size (shape K V E) → check_node (shape K V E) keys values b (suc levels) (pos start) lo hi ≡ Err (OutOfRange (pos start))
+  room_faulty : (levels lo hi start : ℕ) → HasKind K V E b lo hi start 1 → hi < start + inner_size (shape K V E) → check_node (shape K V E) keys values b (suc levels) (pos start) lo hi ≡ Err (OutOfRange (pos start))
   unfolding check_placed
   room_faulty levels lo hi start is past =
       let s = shape K V E in
-      rw (has_place s b lo hi start 1 is)
+      rw (place_complete s lo hi start is.start is.room is.aligned)
       (rw (ne_eqb (slice_index b start) 0 (λ e. absurd (omega (arith, is.kind_byte))), eq-eqb (slice_index b start) 1 is.kind_byte, lt-ltb hi (start + inner_size s) past) refl)
 
-  inner_is : (levels lo hi start : ℕ) → HasKind (shape K V E) b lo hi start 1 → start + inner_size (shape K V E) ≤ hi → check_node (shape K V E) keys values b (suc levels) (pos start) lo hi ≡ check_inner (shape K V E) keys values b (check_node (shape K V E) keys values b levels) start lo
+  inner_is : (levels lo hi start : ℕ) → IsInner K V E b lo hi start → check_node (shape K V E) keys values b (suc levels) (pos start) lo hi ≡ check_inner (shape K V E) keys values b (check_node (shape K V E) keys values b levels) start lo
   unfolding check_placed
-  inner_is levels lo hi start is room =
+  inner_is levels lo hi start is =
       let s = shape K V E in
-      rw (has_place s b lo hi start 1 is)
-      (rw (ne_eqb (slice_index b start) 0 (λ e. absurd (omega (arith, is.kind_byte))), eq-eqb (slice_index b start) 1 is.kind_byte, le-ltb hi (start + inner_size s) room) refl)
+      let room = (follow s fits).leaf in
+      rw (place_complete s lo hi start is.start (omega (arith, is.room)) is.aligned)
+      (rw (ne_eqb (slice_index b start) 0 (λ e. absurd (omega (arith, is.kind_byte))), eq-eqb (slice_index b start) 1 is.kind_byte, le-ltb hi (start + inner_size s) is.room) refl)
 
   child_faulty : (levels lo start : ℕ) (e : Refusal) → check_pointers (shape K V E) keys values b (check_node (shape K V E) keys values b levels) start (suc E) 0 (record { lo = lo; entries = 0 }) ≡ Err e → check_inner (shape K V E) keys values b (check_node (shape K V E) keys values b levels) start lo ≡ Err e
   unfolding check_inner
@@ -136,13 +134,13 @@ module _ (K V : Kind) (E : ℕ) (keys values : Leaves) (b : List ℕ) (ks : Deci
     node_faulty too_deep = refl
     node_faulty (starts_before {p = p} {lo = lo} {hi = hi} h) = rw (out_before (shape K V E) p lo hi h) refl
     node_faulty (ends_past {p = p} {lo = lo} {hi = hi} h) = rw (out_past (shape K V E) p lo hi h) refl
-    node_faulty (misaligned {lo = lo} {hi = hi} {start = start} at h) = rw (not_aligned (shape K V E) lo hi start at h) refl
+    node_faulty (misaligned {lo = lo} {hi = hi} {start = start} after room h) = rw (not_aligned (shape K V E) lo hi start after room h) refl
     node_faulty (bad_kind is not_leaf not_inner) = kind_faulty _ _ _ _ _ is not_leaf not_inner
     node_faulty (inner_past is past) = room_faulty _ _ _ _ is past
     node_faulty (leaf_length is lt) = length_faulty _ _ _ _ is lt
     node_faulty (leaf_entry is le fault) = leaf_faulty _ _ _ _ _ is le fault
-    node_faulty (in_child is room fault) = inner_is _ _ _ _ is room ∙ child_faulty _ _ _ _ (pointers_faulty 0 fault)
-    node_faulty (inner_entry is room children count spelled fault) = inner_is _ _ _ _ is room ∙ entry_faulty _ _ _ _ _ children is.after count spelled fault
+    node_faulty (in_child is fault) = inner_is _ _ _ _ is ∙ child_faulty _ _ _ _ (pointers_faulty 0 fault)
+    node_faulty (inner_entry is children count spelled fault) = inner_is _ _ _ _ is ∙ entry_faulty _ _ _ _ _ children is.start count spelled fault
 
     pub pointers_faulty : {levels p n i lo : ℕ} {e : Refusal} (so_far : ℕ) → PointersFault K V E b levels p n i lo e → check_pointers (shape K V E) keys values b (check_node (shape K V E) keys values b levels) p n i (record { lo = lo; entries = so_far }) ≡ Err e
     pointers_faulty so_far (here leads fault) = rw (leads, node_faulty fault) refl

@@ -10,7 +10,7 @@ use Rattle.rkyv_btree_base.specs.laws.Check.{◌>>=◌, or_bad, node_place, chec
 use Rattle.rkyv_btree_base.specs.Kind.{Kind, Leaves, Decides}
 use Rattle.rkyv_btree_base.specs.Layout.{shape, key_at, value_at, align, len_at, leaf_size, inner_size, pointer_at}
 use Rattle.rkyv_btree_base.specs.Tree.{Child, list}
-use Rattle.rkyv_btree_base.specs.Faults.{HasKind, EntriesFault, in_key, in_value, in_later, Children, NodeFault, too_deep, starts_before, ends_past, misaligned, bad_kind, inner_past, leaf_length, leaf_entry, in_child, inner_entry, PointersFault, here, later, Stands, misplaced, in_tree, other_total}
+use Rattle.rkyv_btree_base.specs.Faults.{HasKind, IsInner, EntriesFault, in_key, in_value, in_later, Children, NodeFault, too_deep, starts_before, ends_past, misaligned, bad_kind, inner_past, leaf_length, leaf_entry, in_child, inner_entry, PointersFault, here, later, Stands, misplaced, in_tree, other_total}
 use Rattle.rkyv_btree_base.specs.Plain.{chosen}
 use Rattle.rkyv_btree_base.specs.Refusing.{HasPlace, MeansNothing, too_long, no_room, unaligned}
 use Rattle.rkyv_btree_base.specs.laws.Results.{bind_ok, bind_err, or_bad_ok, or_bad_err}
@@ -72,11 +72,11 @@ module _ (K V : Kind) (E : ℕ) (keys values : Leaves) (b : List ℕ) (ks : Deci
             let tests = or_false (nat_lt p lo) (nat_lt hi (p + leaf_size s)) k.0 in
             elim (chosen (nat_eq (p % align s) 0) _ _ (Err e) k.1) [
               | inl t ↦ absurd (cc t.1)
-              | inr t ↦ named _ _ _ _ (Misaligned p) e (cc t.1) (misaligned (record { after = ltb-false p lo tests.0; room = ltb-false hi (p + leaf_size s) tests.1 }) (eqb-false (p % align s) 0 t.0))
+              | inr t ↦ named _ _ _ _ (Misaligned p) e (cc t.1) (misaligned (ltb-false p lo tests.0) (ltb-false hi (p + leaf_size s) tests.1) (eqb-false (p % align s) 0 t.0))
             ]
       ]
 
-  leaf_refused : (levels p lo hi : ℕ) (e : Refusal) → HasKind (shape K V E) b lo hi p 0 → check_leaf (shape K V E) keys values b p lo ≡ Err e → NodeFault K V E b (suc levels) (pos p) lo hi e
+  leaf_refused : (levels p lo hi : ℕ) (e : Refusal) → HasKind K V E b lo hi p 0 → check_leaf (shape K V E) keys values b p lo ≡ Err e → NodeFault K V E b (suc levels) (pos p) lo hi e
   unfolding check_leaf
   leaf_refused levels p lo hi e at h =
       let s = shape K V E in
@@ -84,7 +84,7 @@ module _ (K V : Kind) (E : ℕ) (keys values : Leaves) (b : List ℕ) (ks : Deci
       elim (chosen (nat_lt E n) _ _ (Err e) h) [
         | inl k ↦ named _ _ _ _ (InvalidLength (record { len = n; maximum = E })) e (cc k.1) (leaf_length at (ltb-true E n k.0))
         | inr k ↦ elim (bind_err (check_entries s keys values b p n 0 lo) (λ _. Ok (record { lo = p + leaf_size s; entries = n })) e k.1) [
-          | inl f ↦ let bad = entries_refused p n 0 lo e at.after f in named _ _ _ _ (BadEntry bad.at) e bad.named (leaf_entry at (ltb-false E n k.0) bad.fault)
+          | inl f ↦ let bad = entries_refused p n 0 lo e at.start f in named _ _ _ _ (BadEntry bad.at) e bad.named (leaf_entry at (ltb-false E n k.0) bad.fault)
           | inr f ↦ absurd (cc f.2)
         ]
       ]
@@ -133,19 +133,19 @@ module _ (K V : Kind) (E : ℕ) (keys values : Leaves) (b : List ℕ) (ks : Deci
         let rest = children_sound p n (i + 1) one.0 c one.2 in
         record { children = found.child ∷ rest.children; count = ap suc rest.count; spelled = (one.0.lo, found.spelled, found.depth, rest.spelled) }
 
-    inner_refused : (p lo hi : ℕ) (e : Refusal) → HasKind (shape K V E) b lo hi p 1 → p + inner_size (shape K V E) ≤ hi → check_inner (shape K V E) keys values b node p lo ≡ Err e → NodeFault K V E b (suc levels) (pos p) lo hi e
+    inner_refused : (p lo hi : ℕ) (e : Refusal) → IsInner K V E b lo hi p → check_inner (shape K V E) keys values b node p lo ≡ Err e → NodeFault K V E b (suc levels) (pos p) lo hi e
     unfolding check_inner
-    inner_refused p lo hi e at room h =
+    inner_refused p lo hi e at h =
         let s = shape K V E in
         let start : Checked = record { lo = lo; entries = 0 } in
         let all : check_pointers s keys values b node p (E + 1) 0 start ≡ check_pointers s keys values b node p (suc E) 0 start = ap (λ (k : ℕ). check_pointers s keys values b node p k 0 start) (add-one E) in
         elim (bind_err (check_pointers s keys values b node p (E + 1) 0 start) (λ k. check_entries s keys values b p E 0 k.lo >>= λ _. Ok (record { lo = p + inner_size s; entries = k.entries + E })) e h) [
-          | inl f ↦ in_child at room (pointers_refused p (suc E) 0 start e (sym all ∙ f))
+          | inl f ↦ in_child at (pointers_refused p (suc E) 0 start e (sym all ∙ f))
           | inr f ↦ elim (bind_err (check_entries s keys values b p E 0 f.0.lo) (λ _. Ok (record { lo = p + inner_size s; entries = f.0.entries + E })) e f.2) [
             | inl k ↦
-                let bad = entries_refused p E 0 f.0.lo e (pointers_inside K V E keys values b ks vs node levels sound p (E + 1) 0 start f.0 at.after f.1) k in
+                let bad = entries_refused p E 0 f.0.lo e (pointers_inside K V E keys values b ks vs node levels sound p (E + 1) 0 start f.0 at.start f.1) k in
                 let found = children_sound p (suc E) 0 start f.0 (sym all ∙ f.1) in
-                named _ _ _ _ (BadEntry bad.at) e bad.named (inner_entry at room found.children found.count found.spelled bad.fault)
+                named _ _ _ _ (BadEntry bad.at) e bad.named (inner_entry at found.children found.count found.spelled bad.fault)
             | inr k ↦ absurd (cc k.2)
           ]
         ]
@@ -156,15 +156,15 @@ module _ (K V : Kind) (E : ℕ) (keys values : Leaves) (b : List ℕ) (ks : Deci
         let s = shape K V E in
         let kind = slice_index b p in
         elim (chosen (nat_eq kind 0) _ _ (Err e) h) [
-          | inl k ↦ leaf_refused levels p lo hi e (record { after = placed.after; room = placed.room; aligned = placed.aligned; kind_byte = eqb-true kind 0 k.0 }) k.1
+          | inl k ↦ leaf_refused levels p lo hi e (record { start = placed.after; room = placed.room; aligned = placed.aligned; kind_byte = eqb-true kind 0 k.0 }) k.1
           | inr k ↦ elim (chosen (nat_eq kind 1) _ _ (Err e) k.1) [
             | inl l ↦
-                let at : HasKind s b lo hi p 1 = record { after = placed.after; room = placed.room; aligned = placed.aligned; kind_byte = eqb-true kind 1 l.0 } in
+                let at : HasKind K V E b lo hi p 1 = record { start = placed.after; room = placed.room; aligned = placed.aligned; kind_byte = eqb-true kind 1 l.0 } in
                 elim (chosen (nat_lt hi (p + inner_size s)) _ _ (Err e) l.1) [
                   | inl o ↦ named _ _ _ _ (OutOfRange (pos p)) e (cc o.1) (inner_past at (ltb-true hi (p + inner_size s) o.0))
-                  | inr o ↦ inner_refused p lo hi e at (ltb-false hi (p + inner_size s) o.0) o.1
+                  | inr o ↦ inner_refused p lo hi e (record { start = at.start; room = ltb-false hi (p + inner_size s) o.0; aligned = at.aligned; kind_byte = at.kind_byte }) o.1
                 ]
-            | inr l ↦ named _ _ _ _ (BadKind p kind) e (cc l.1) (bad_kind (record { after = placed.after; room = placed.room; aligned = placed.aligned; kind_byte = refl }) (eqb-false kind 0 k.0) (eqb-false kind 1 l.0))
+            | inr l ↦ named _ _ _ _ (BadKind p kind) e (cc l.1) (bad_kind (record { start = placed.after; room = placed.room; aligned = placed.aligned; kind_byte = refl }) (eqb-false kind 0 k.0) (eqb-false kind 1 l.0))
           ]
         ]
 

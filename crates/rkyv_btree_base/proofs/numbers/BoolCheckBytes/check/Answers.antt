@@ -1,5 +1,5 @@
 -- A byte past 1 is no value.
-use Rattle.std.proofs.Common.{◌≡◌, ◌<◌, ℕ, zero, suc, List, [], ◌∷◌, slice_index, refl, arith}
+use Rattle.std.proofs.Common.{◌≡◌, ℕ, zero, suc, List, [], ◌∷◌, slice_index, refl, arith}
 use Rattle.std.proofs.lemmas.Bool.{ltb-true}
 use Rattle.rkyv_btree_base.specs.Bytes.{from_le, bytes_at}
 use Rattle.rkyv_btree_base.specs.Refusing.{bad_entry}
@@ -11,7 +11,7 @@ one_byte [] (suc at) = refl
 one_byte (x ∷ b) zero = omega arith
 one_byte (x ∷ b) (suc at) = one_byte b at
 
-pub returns-then-buf-pos-gt1-clause-err : goal.returns-then-buf-pos-gt1-clause-err
-returns-then-buf-pos-gt1-clause-err c = bad_entry c.in_ok-check_place.ensures.ok (λ left v m.
+pub returns-then-buf-pos-gt-TRUE-clause-err : goal.returns-then-buf-pos-gt-TRUE-clause-err
+returns-then-buf-pos-gt-TRUE-clause-err c = bad_entry c.in_ok-check_place.ensures.ok (λ left v m.
     let small = ltb-true (from_le (bytes_at c.args.buf.now c.args.pos 1)) 2 m.is_value in
     omega (arith, small, one_byte c.args.buf.now c.args.pos))
