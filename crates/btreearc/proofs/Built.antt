@@ -18,7 +18,7 @@ use Rattle.rkyv_btree_base.proofs.Accepting.{accepted_archive, archive_length}
 use Rattle.rkyv_btree_base.proofs.WriteRuns.{appended-append, stopped_past, stopped_stray}
 use Rattle.btreearc.specs.Archive.{own, five, tree_writes, root_writes, archive_of, IsUnbuilt}
 use Rattle.btreearc.specs.Grammar.{AreShort, AreEntries, IsLines}
-use Rattle.btreearc.specs.Leaf.{IsArchive, root_of}
+use Rattle.btreearc.specs.Opening.{IsArchive, root_of}
 
 abbrev pub nothing_written : Writing
 nothing_written = record { base = 0; contents = []; failures = 0 }

@@ -1,8 +1,7 @@
 pub mod Built
 pub mod Digits
-pub mod Leaves
+pub mod Listed
 pub mod Once
-pub mod Refused
 pub mod Spelling
 pub mod Splitting
 pub mod Written

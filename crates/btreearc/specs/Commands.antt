@@ -1,10 +1,10 @@
 -- What each command does with known input, and when it fails.
-use Rattle.std.specs.Prelude.{◌≡◌, ℕ, List, [], ◌∷◌, Option, IfSome, Result, Ok, Err, String, string_bytes}
+use Rattle.std.specs.Prelude.{◌≡◌, ℕ, List, [], ◌∷◌, ◌++◌, length, Option, IfSome, Result, Ok, Err, String, string_bytes, codes, decimal}
 use Rattle.std.specs.Global.{Global}
 use Rattle.std.specs.Io.KnownBytes.{Appends}
 use Rattle.btreearc.specs.Archive.{archive_of, IsUnbuilt}
 use Rattle.btreearc.specs.Grammar.{IsLines, BadLine, text_of}
-use Rattle.btreearc.specs.Leaf.{IsArchive, RefusesLeaf}
+use Rattle.btreearc.specs.Opening.{IsArchive, RefusesArchive}
 use Rattle.btreearc.specs.declared.fault.ProgramFault.{ProgramFault}
 use Rattle.btreearc.specs.declared.fault.ProgramFault.TheVariants.{Usage, Line, Refused, NotBuilt, InputFailed, OutputFailed, Memory}
 
@@ -31,11 +31,26 @@ Builds input old new (Err _) = ⊥
 abbrev pub Lists : Option (List ℕ) → Option (List ℕ) → Option (List ℕ) → Result ℕ ProgramFault → Type 0
 Lists input old new (Ok status) =
     (status ≡ 0) × IfSome input (λ bytes. (entries : List (ℕ × ℕ)) × IsArchive bytes entries × Appends old new (text_of entries))
-Lists input old new (Err (Refused refusal)) = IfSome input (λ bytes. RefusesLeaf bytes refusal) × (new ≡ old)
+Lists input old new (Err (Refused refusal)) = IfSome input (λ bytes. RefusesArchive bytes refusal) × (new ≡ old)
 Lists input old new (Err InputFailed) = new ≡ old
 Lists input old new (Err Memory) = new ≡ old
 Lists input old new (Err OutputFailed) = IfSome input (λ bytes. (entries : List (ℕ × ℕ)) × IsArchive bytes entries)
 Lists input old new (Err _) = ⊥
+
+-- the line of an archive of so many entries
+abbrev pub total : ℕ → List ℕ
+total count = codes "ok " ++ (decimal count ++ (codes " entries" ++ 10 ∷ []))
+
+-- `check` has written how many entries the input's archive has, or it names the fault and has written nothing, except
+-- where a write failed
+abbrev pub Checks : Option (List ℕ) → Option (List ℕ) → Option (List ℕ) → Result ℕ ProgramFault → Type 0
+Checks input old new (Ok status) =
+    (status ≡ 0) × IfSome input (λ bytes. (entries : List (ℕ × ℕ)) × IsArchive bytes entries × Appends old new (total (length entries)))
+Checks input old new (Err (Refused refusal)) = IfSome input (λ bytes. RefusesArchive bytes refusal) × (new ≡ old)
+Checks input old new (Err InputFailed) = new ≡ old
+Checks input old new (Err Memory) = new ≡ old
+Checks input old new (Err OutputFailed) = IfSome input (λ bytes. (entries : List (ℕ × ℕ)) × IsArchive bytes entries)
+Checks input old new (Err _) = ⊥
 
 -- a wrong use is told before anything is read or written
 pub record IsMisused (input input_left old new : Option (List ℕ)) (result : Result ℕ ProgramFault) : Type 0 where

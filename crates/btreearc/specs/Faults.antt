@@ -1,7 +1,6 @@
 -- What the program's faults say, and where each comes from.
 use Rattle.std.specs.Prelude.{ℕ, List, ◌++◌, Option, Some, None, codes, decimal}
 use Rattle.btreearc.specs.Archive.{IsUnbuilt}
-use Rattle.btreearc.specs.Leaf.{RefusesLeaf}
 use Rattle.btreearc.specs.declared.fault.ProgramFault.{ProgramFault}
 use Rattle.btreearc.specs.declared.fault.ProgramFault.TheVariants.{Usage, Line, Refused, NotBuilt, InputFailed, OutputFailed, Memory}
 
@@ -30,9 +29,3 @@ IsWriteFault _ = ⊥
 abbrev pub IsBuildFault : List (ℕ × ℕ) → ProgramFault → Type 0
 IsBuildFault entries (NotBuilt fault) = IsUnbuilt entries fault
 IsBuildFault entries _ = ⊥
-
--- a fault of listing an archive's entries: a refusal by its facts, or memory
-abbrev pub IsListFault : List ℕ → ProgramFault → Type 0
-IsListFault bytes (Refused refusal) = RefusesLeaf bytes refusal
-IsListFault bytes Memory = Unit {0}
-IsListFault bytes _ = ⊥

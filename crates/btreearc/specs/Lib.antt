@@ -2,5 +2,5 @@ pub mod Archive
 pub mod Commands
 pub mod Faults
 pub mod Grammar
-pub mod Leaf
+pub mod Opening
 pub mod Reading

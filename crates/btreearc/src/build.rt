@@ -4,16 +4,12 @@ ghost use Rattle.std.specs.Iterator.{YieldsFirstBy, item_count};
 ghost use Rattle.btreearc.specs.Archive.{archive_of};
 ghost use Rattle.btreearc.specs.Faults.{IsBuildFault};
 ghost use Rattle.btreearc.specs.Grammar.{AreShort};
-ghost use Rattle.btreearc.specs.Leaf.{IsArchive};
+ghost use Rattle.btreearc.specs.Opening.{IsArchive};
 
 use crate::fault::ProgramFault;
-use rkyv_btree_base::map::ArchivedBTreeMap;
-use rkyv_btree_base::numbers::ArchivedU32;
+use crate::opening::Numbers;
 use rkyv_btree_base::place::VecWriter;
 use std::alloc::Global;
-
-/// The maps that the program archives.
-type Numbers = ArchivedBTreeMap<ArchivedU32, ArchivedU32, 5>;
 
 /// Entries in their order, each as references to its key and its value.
 #[derive(Drop)]

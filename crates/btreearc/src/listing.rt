@@ -1,7 +1,11 @@
 //! The text of entries.
-ghost use Rattle.std.specs.Prelude.{◌≡◌, ◌++◌, List, ℕ, OnOk, ◌↔◌, string_bytes};
+ghost use Rattle.std.specs.Prelude.{◌≡◌, ◌++◌, List, ℕ, OnOk, ◌↔◌, map, string_bytes};
+ghost use Rattle.std.specs.Iterator.{Drains, IsFinite};
+ghost use Rattle.rkyv_btree_base.specs.Plain.{u32_kind};
 ghost use Rattle.btreearc.specs.Grammar.{text_of, line, AreShort, IsLines, IsSpelled};
 
+use rkyv_btree::view::View;
+use rkyv_btree_base::numbers::ArchivedU32;
 use std::alloc::AllocError;
 
 /// Writes an entry's line at the end.
@@ -20,11 +24,16 @@ fn write_entry(out: &mut String, key: u32, value: u32) -> Result<(), AllocError>
 /// # Errors
 ///
 /// Where a line finds no room. The lines before it may be written then.
-pub fn write_entries(out: &mut String, entries: &[(u32, u32)]) -> Result<(), AllocError>
-    ensures { OnOk result (string_bytes out.new ≡ string_bytes out.old ++ text_of entries.now) }
+pub fn write_entries<'a, I: Iterator<Item = (View<'a, ArchivedU32>, View<'a, ArchivedU32>)>>(
+    out: &mut String,
+    mut entries: I,
+) -> Result<(), AllocError>
+    requires can { I.can_next entries }
+    requires ends { IsFinite (I.remaining entries) }
+    ensures { OnOk result ((items : _) × Drains I.next_gives entries items × (string_bytes out.new ≡ string_bytes out.old ++ text_of (map (λ e. (u32_kind.read e.0.buf.now e.0.pos, u32_kind.read e.1.buf.now e.1.pos)) items))) }
 {
-    for (key, value) in entries {
-        write_entry(out, *key, *value)?;
+    while let Some((key, value)) = entries.next() {
+        write_entry(out, key.to_native(), value.to_native())?;
     }
     Ok(())
 }

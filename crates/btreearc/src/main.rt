@@ -1,11 +1,11 @@
-//! Archived maps of `u32` to `u32`, built from lines and listed again.
+//! Archived maps of `u32` to `u32`, built from lines, checked and listed again.
 #![tactic(auto)]
 
 mod build;
 mod fault;
-mod leaf;
 mod lines;
 mod listing;
+mod opening;
 mod program;
 mod streams;
 #[cfg(test)]

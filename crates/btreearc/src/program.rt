@@ -1,13 +1,13 @@
 //! The commands over a reader and a writer.
 ghost use Rattle.std.specs.Prelude.{codes, OnOk};
 ghost use Rattle.std.specs.Io.KnownBytes.{IsAtEnd};
-ghost use Rattle.btreearc.specs.Commands.{IsWord, Builds, Lists, IsMisused};
+ghost use Rattle.btreearc.specs.Commands.{IsWord, Builds, Lists, Checks, IsMisused};
 
 use crate::build;
 use crate::fault::ProgramFault;
-use crate::leaf;
 use crate::lines::parse_lines;
 use crate::listing::write_entries;
+use crate::opening::open;
 use crate::streams::{read_all, write_all};
 use std::alloc::Global;
 use std::io::{Read, Write};
@@ -27,7 +27,8 @@ pub fn run<R: Read, W: Write>(
 ) -> Result<u8, ProgramFault>
     ensures build { IsWord (codes "build") args.now → Builds (R.remaining input.old) (W.contents output.old) (W.contents output.new) result }
     ensures list { IsWord (codes "list") args.now → Lists (R.remaining input.old) (W.contents output.old) (W.contents output.new) result }
-    ensures usage { (IsWord (codes "build") args.now → ⊥) → (IsWord (codes "list") args.now → ⊥) → IsMisused (R.remaining input.old) (R.remaining input.new) (W.contents output.old) (W.contents output.new) result }
+    ensures check { IsWord (codes "check") args.now → Checks (R.remaining input.old) (W.contents output.old) (W.contents output.new) result }
+    ensures usage { (IsWord (codes "build") args.now → ⊥) → (IsWord (codes "list") args.now → ⊥) → (IsWord (codes "check") args.now → ⊥) → IsMisused (R.remaining input.old) (R.remaining input.new) (W.contents output.old) (W.contents output.new) result }
     ensures end { OnOk result (IsAtEnd (R.remaining input.new)) }
 {
     let [word] = args else {
@@ -38,6 +39,8 @@ pub fn run<R: Read, W: Write>(
         build(alloc, input, output)
     } else if word == "list" {
         list(alloc, input, output)
+    } else if word == "check" {
+        check(alloc, input, output)
     } else {
         Err(ProgramFault::Usage)
     }
@@ -73,9 +76,39 @@ fn list<R: Read, W: Write>(alloc: Global, input: &mut R, output: &mut W) -> Resu
     ensures end { OnOk result (IsAtEnd (R.remaining input.new)) }
 {
     let archive = read_all(alloc, input)?;
-    let entries = leaf::entries(alloc, &archive)?;
+    let map = match open(&archive) {
+        Ok(map) => map,
+        Err(refusal) => return Err(ProgramFault::Refused(refusal)),
+    };
     let mut text = String::new(alloc);
-    if write_entries(&mut text, &entries).is_err() {
+    match write_entries(&mut text, map.iter()) {
+        Ok(()) => {}
+        Err(_) => return Err(ProgramFault::Memory),
+    }
+    write_all(output, text.as_str().as_bytes())?;
+    Ok(0)
+}
+
+/// Writes how many entries the input's archive has.
+///
+/// # Errors
+///
+/// `Refused` for the first fact for which the input is no archive, and `InputFailed`, `OutputFailed` or `Memory`.
+fn check<R: Read, W: Write>(
+    alloc: Global,
+    input: &mut R,
+    output: &mut W,
+) -> Result<u8, ProgramFault>
+    ensures done { Checks (R.remaining input.old) (W.contents output.old) (W.contents output.new) result }
+    ensures end { OnOk result (IsAtEnd (R.remaining input.new)) }
+{
+    let archive = read_all(alloc, input)?;
+    let count = match open(&archive) {
+        Ok(map) => map.len(),
+        Err(refusal) => return Err(ProgramFault::Refused(refusal)),
+    };
+    let mut text = String::new(alloc);
+    if writeln!(text, "ok {count} entries").is_err() {
         return Err(ProgramFault::Memory);
     }
     write_all(output, text.as_str().as_bytes())?;

@@ -1,4 +1,5 @@
 pub mod Archives
+pub mod Drained
 pub mod Nodes
 pub mod Paths
 pub mod Props

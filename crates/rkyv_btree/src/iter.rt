@@ -1,5 +1,6 @@
 //! Iterators over the entries of a map.
-ghost use Rattle.std.specs.Prelude.{◌≡◌, ℕ, ◌+◌, ◌≤◌, List, length, IsTrue};
+ghost use Rattle.std.specs.Prelude.{◌≡◌, ℕ, ◌+◌, ◌≤◌, List, length, map, IsTrue};
+ghost use Rattle.std.specs.Iterator.{Drains, IsFinite};
 ghost use Rattle.rkyv_btree_base.specs.Layout.{shape, are_fitting};
 ghost use Rattle.rkyv_btree_base.specs.Map.{map_kind};
 ghost use Rattle.rkyv_btree.specs.Path.{path_rest, read_rest, IsPath};
@@ -13,7 +14,7 @@ use std::marker::PhantomData;
 
 /// The entries of a map, in order.
 #[derive(Drop)]
-pub(crate) struct Iter<'a, M: ArchivedMap> {
+pub struct Iter<'a, M: ArchivedMap> {
     buf: &'a [u8],
     path: Path,
     left: u32,
@@ -68,8 +69,16 @@ impl<'a, M: ArchivedMap> ExactSizeIterator for Iter<'a, M> {
 impl<'a, M: ArchivedMap> FusedIterator for Iter<'a, M> {}
 
 impl<'a, M: ArchivedMap> View<'a, M> {
-    /// The entries, in order.
-    pub(crate) fn iter(self) -> Iter<'a, M>
+    /// The entries, in order. Neither this call nor the iterator takes memory.
+    pub fn iter(self) -> Iter<'a, M>
+        ensures all { (items : _) → Drains ⟦<Iter<'a, M> as Iterator>⟧.next_gives result items → map (λ e. (M.Key.kind.read e.0.buf.now e.0.pos, M.Mapped.kind.read e.1.buf.now e.1.pos)) items ≡ (map_kind M.Key.kind M.Mapped.kind M.room).read self.entry.buf.now self.entry.pos }
+        ensures ends { IsFinite (⟦<Iter<'a, M> as Iterator>⟧.remaining result) }
+    {
+        self.walk()
+    }
+
+    /// The same, in the words of what is left of the walk.
+    pub(crate) fn walk(self) -> Iter<'a, M>
         ensures { read_rest M.Key.kind M.Mapped.kind M.room result.buf.now result.path.items ≡ (map_kind M.Key.kind M.Mapped.kind M.room).read self.entry.buf.now self.entry.pos }
     {
         M::opened(&self);

@@ -3,7 +3,7 @@
 
 pub use rkyv_btree_base as base;
 
-mod iter;
+pub mod iter;
 pub mod map;
 #[cfg(test)]
 mod tests;

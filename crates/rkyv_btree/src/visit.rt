@@ -43,6 +43,6 @@ impl<'a, M: ArchivedMap> View<'a, M> {
         requires { F.IsAlwaysCallable visit }
         ensures { (last : F) × Visits (λ f w x r g. F.step f w x r g) (λ w x. (M.Key.kind.read (W.bytes w) (W.place w), M.Mapped.kind.read (X.bytes x) (X.place x))) visit ((map_kind M.Key.kind M.Mapped.kind M.room).read self.entry.buf.now self.entry.pos) result last }
     {
-        visit_rest::<M, W, X, T, F>(self.iter(), visit)
+        visit_rest::<M, W, X, T, F>(self.walk(), visit)
     }
 }

@@ -3,7 +3,7 @@ use Rattle.std.specs.Int.{w32, to_le_bytes}
 use Rattle.rkyv_btree_base.specs.InPlace.{OwnBytes}
 use Rattle.rkyv_btree_base.specs.Serialising.{Built, own_of}
 use Rattle.btreearc.specs.Archive.{own, five}
-use Rattle.btreearc.specs.Leaf.{IsArchive}
+use Rattle.btreearc.specs.Opening.{IsArchive}
 use Rattle.btreearc.proofs.Built.{pair, nothing_written, drained_pairs, own_pairs, archive_written, archive_accepted, unbuilt, unbuilt_root}
 use Rattle.btreearc.proofs.build.archive.Goals as goal
 

@@ -2,7 +2,7 @@ use Rattle.std.proofs.Common.{ℕ, List, ◌∙◌, refl, sym, ap, subst, arith}
 use Rattle.std.specs.Io.KnownBytes.{Appends}
 use Rattle.btreearc.specs.Archive.{archive_of}
 use Rattle.btreearc.specs.Grammar.{IsLines, AreShort}
-use Rattle.btreearc.specs.Leaf.{IsArchive}
+use Rattle.btreearc.specs.Opening.{IsArchive}
 use Rattle.btreearc.proofs.Built.{lines_are_short, output_built}
 use Rattle.btreearc.proofs.program.build.Goals as goal
 

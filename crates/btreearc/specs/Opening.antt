@@ -1,0 +1,23 @@
+-- What an archive is, and why other bytes are refused.
+use Rattle.std.specs.Prelude.{ℕ, ◌-◌, List, length}
+use Rattle.rkyv_btree_base.specs.declared.refusal.Refusal.{Refusal}
+use Rattle.rkyv_btree_base.specs.Faults.{Stands}
+use Rattle.rkyv_btree_base.specs.Plain.{u32_kind}
+use Rattle.rkyv_btree_base.specs.Read.{read_map}
+use Rattle.rkyv_btree_base.specs.Spells.{Accepted}
+
+-- the position of the root: the last eight bytes, or position 0 where there are fewer
+abbrev pub root_of : List ℕ → ℕ
+root_of b = length b - 8
+
+-- the archive of a list of entries
+abbrev pub IsArchive : List ℕ → List (ℕ × ℕ) → Type 0
+IsArchive b entries = (left : ℕ) × Accepted u32_kind u32_kind 5 b 0 (root_of b) (root_of b) left entries
+
+-- the refusal of bytes that are no archive
+abbrev pub RefusesArchive : List ℕ → Refusal → Type 0
+RefusesArchive b refusal = Stands u32_kind u32_kind 5 b 0 (root_of b) (root_of b) refusal
+
+-- the entries that are read of the map at a position
+abbrev pub entries_read : List ℕ → ℕ → List (ℕ × ℕ)
+entries_read b at = read_map u32_kind u32_kind 5 b at

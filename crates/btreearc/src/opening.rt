@@ -1,0 +1,49 @@
+//! Opening archives that anybody wrote.
+ghost use Rattle.std.specs.Prelude.{◌≡◌, ℕ, List, IfOk, IfErr, IsOk, Err};
+ghost use Rattle.rkyv_btree_base.specs.declared.refusal.Refusal.{Refusal};
+ghost use Rattle.btreearc.specs.Opening.{IsArchive, RefusesArchive, entries_read};
+
+use rkyv_btree::map::access;
+use rkyv_btree::view::View;
+use rkyv_btree_base::map::ArchivedBTreeMap;
+use rkyv_btree_base::numbers::ArchivedU32;
+use rkyv_btree_base::refusal::Refusal;
+use rkyv_btree_base::verify::faults_are_exact;
+
+/// The maps that the program archives.
+pub type Numbers = ArchivedBTreeMap<ArchivedU32, ArchivedU32, 5>;
+
+/// The bytes of a root.
+const ROOT_SIZE: usize = 8;
+
+/// The map of an archive, whose root is the last eight bytes. Fewer bytes are opened at position 0.
+///
+/// # Errors
+///
+/// The first fact, in the order of checking, for which the bytes are no archive.
+#[tactic(auto, using(crate::proofs::Built::numbers_fit))]
+pub fn open(archive: &[u8]) -> Result<View<'_, Numbers>, Refusal>
+    ensures accepted { IfOk result (λ map. IsArchive archive.now (entries_read map.buf.now map.pos)) }
+    ensures all_accepted { (entries : List (ℕ × ℕ)) → IsArchive archive.now entries → IsOk result }
+    ensures refused { IfErr result (RefusesArchive archive.now) }
+    ensures all_refused { (refusal : Refusal) → RefusesArchive archive.now refusal → result ≡ Err refusal }
+{
+    let root = archive.len().saturating_sub(ROOT_SIZE);
+    let Ok(root) = u32::try_from(root) else {
+        return Err(Refusal::TooLong);
+    };
+    access::<ArchivedU32, ArchivedU32, 5>(archive, root)
+}
+
+/// What is refused is no archive of any list.
+#[tactic(auto, using(crate::proofs::Built::numbers_fit))]
+pub fn refused_is_no_archive()
+    ensures { (b : List ℕ) (refusal : Refusal) (entries : List (ℕ × ℕ)) → RefusesArchive b refusal → IsArchive b entries → ⊥ }
+{
+    faults_are_exact::<ArchivedU32, ArchivedU32, 5>();
+}
+
+/// Bytes are an archive of one list alone.
+pub fn one_list()
+    ensures { (b : List ℕ) (entries others : List (ℕ × ℕ)) → IsArchive b entries → IsArchive b others → entries ≡ others }
+{}
