@@ -4,12 +4,14 @@ ghost use Rattle.std.specs.Prelude.{◌≤◌, ◌<◌, ◌^◌};
 
 use crate::build::BTreeMapResolver;
 use crate::bytes::{num32, target};
-use crate::check::Portable;
+use crate::check::{CheckBytes, InPlace, Portable, Window};
 use crate::fault::{Fault, IteratorLengthMismatch, ResolveFault};
 use crate::layout::{self, entries_to_height};
 use crate::map::ArchivedBTreeMap;
-use crate::numbers::{ArchivedU32, ArchivedU64};
+use crate::numbers::{ArchivedU16, ArchivedU32, ArchivedU64};
 use crate::place::{Place, RelPtr, VecWriter, Writer};
+use crate::refusal::{EntriesLengthMismatch, InvalidLength, Refusal};
+use crate::signed::{ArchivedI16, ArchivedI32, ArchivedI64};
 use std::alloc::{AllocError, Global};
 use std::process::Abort;
 use std::test::Fail;
@@ -290,6 +292,77 @@ fn nodes_have_their_sizes(rt: HostRuntime) {
     assert!(rt; !layout::fits::<ArchivedU32, ArchivedU32, 357913941>());
     assert!(rt; !layout::fits::<ArchivedU32, ArchivedU32, 0>());
     assert!(rt; Numbers::fits());
+}
+
+#[test]
+fn numbers_are_written_in_place(rt: HostRuntime) {
+    let mut bytes = [9; 20];
+    bool::write(true, &mut bytes[0..1]);
+    i8::write(-2, &mut bytes[1..2]);
+    ArchivedI16::write(-3, &mut bytes[2..4]);
+    ArchivedI32::write(-4, &mut bytes[4..8]);
+    ArchivedI64::write(-5, &mut bytes[8..16]);
+    ArchivedU16::write(0x0102, &mut bytes[16..18]);
+    assert_eq!(rt;
+        bytes,
+        [
+            1, 254, 253, 255, 252, 255, 255, 255, 251, 255, 255, 255, 255, 255, 255, 255, 2, 1, 9,
+            9
+        ]
+    );
+}
+
+#[test]
+fn values_are_checked_by_themselves(rt: HostRuntime) {
+    let bytes = [0, 1, 2, 255, 255, 255, 255, 255];
+    let window = Window { lo: 0, hi: 0 };
+    assert_eq!(rt; bool::check(&bytes, 0, window), Ok(window));
+    assert_eq!(rt; bool::check(&bytes, 1, window), Ok(window));
+    let bad = Refusal::BadEntry { pos: 2 };
+    assert_eq!(rt; bool::check(&bytes, 2, window), Err(bad));
+    assert_eq!(rt; i8::check(&bytes, 2, window), Ok(window));
+    let odd = Refusal::Misaligned { pos: 1 };
+    assert_eq!(rt; ArchivedU16::check(&bytes, 1, window), Err(odd));
+    assert_eq!(rt; ArchivedI64::check(&bytes, 0, window), Ok(window));
+    let past = Refusal::OutOfRange { pos: 6 };
+    assert_eq!(rt; ArchivedI32::check(&bytes, 6, window), Err(past));
+    assert_eq!(rt; ArchivedI16::check(&bytes, 6, window), Ok(window));
+}
+
+#[test]
+fn refusals_are_told(rt: HostRuntime) -> Result<(), Fail> {
+    let length = InvalidLength { len: 6, maximum: 5 };
+    let total = EntriesLengthMismatch { entries: 0, len: 1 };
+    let rows = [
+        (
+            Refusal::OutOfRange { pos: -1 },
+            "position -1 is out of range",
+        ),
+        (Refusal::Misaligned { pos: 2 }, "position 2 is misaligned"),
+        (
+            Refusal::BadKind { pos: 0, byte: 2 },
+            "position 0 holds kind 2, which is no node",
+        ),
+        (
+            Refusal::InvalidLength(length),
+            "Invalid length in B-tree node: len 6 was greater than maximum 5",
+        ),
+        (Refusal::BadEntry { pos: 4 }, "entry at position 4 is bad"),
+        (
+            Refusal::TooDeep { pos: 0 },
+            "node at position 0 is deeper than 32 levels",
+        ),
+        (
+            Refusal::EntriesLengthMismatch(total),
+            "B-tree map claimed to have 1 entries, but actually had 0",
+        ),
+        (Refusal::TooLong, "buffer is longer than 4294967295 bytes"),
+    ];
+    for (refusal, text) in rows {
+        let told = format!(in rt.alloc(); "{refusal}")?;
+        assert_eq!(rt; told.as_str(), text);
+    }
+    Ok(())
 }
 
 /// A writer that keeps a beginning of what it is given, and fails then.

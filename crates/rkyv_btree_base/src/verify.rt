@@ -16,14 +16,14 @@ use crate::map::ArchivedBTreeMap;
 use crate::refusal::{EntriesLengthMismatch, InvalidLength, Refusal};
 use crate::steps::StepCounter;
 
-// What the check of nodes leaves: the window's start, and the entries so far.
+/// What the check of nodes leaves: the window's start, and the entries so far.
 #[derive(Clone, Copy)]
 struct Checked {
     lo: u32,
     entries: u64,
 }
 
-// A key or value at a position in the node at `node`: the window's start that it leaves.
+/// A key or value at a position in the node at `node`: the window's start that it leaves.
 fn check_part<T: CheckBytes>(buf: &[u8], node: u32, at: u32, lo: u32) -> Result<u32, Refusal>
     requires fitting { IsTrue T.kind.is_fitting }
     requires window { lo ≤ node }
@@ -37,7 +37,7 @@ fn check_part<T: CheckBytes>(buf: &[u8], node: u32, at: u32, lo: u32) -> Result<
     }
 }
 
-// Entry `i` of the node at `node`.
+/// Entry `i` of the node at `node`.
 #[tactic(auto, unfolding(crate::specs::laws::Check::check_entry))]
 fn check_entry<K: CheckBytes, V: CheckBytes, const E: usize>(
     buf: &[u8],
@@ -56,7 +56,7 @@ fn check_entry<K: CheckBytes, V: CheckBytes, const E: usize>(
     check_part::<V>(buf, node, node + layout::value_at::<K, V, E>(i), mid)
 }
 
-// The first `n` entries of the node at `node`.
+/// The first `n` entries of the node at `node`.
 fn check_entries<K: CheckBytes, V: CheckBytes, const E: usize>(
     buf: &[u8],
     node: u32,
@@ -77,7 +77,7 @@ fn check_entries<K: CheckBytes, V: CheckBytes, const E: usize>(
     Ok(left)
 }
 
-// Where the node that a pointer leads to stands, if there is room for a leaf and it is aligned.
+/// Where the node that a pointer leads to stands, if there is room for a leaf and it is aligned.
 fn node_place<K: CheckBytes, V: CheckBytes, const E: usize>(
     p: i64,
     window: Window,
@@ -100,7 +100,7 @@ fn node_place<K: CheckBytes, V: CheckBytes, const E: usize>(
     }
 }
 
-// A leaf at a place with room for it.
+/// A leaf at a place with room for it.
 #[tactic(auto, unfolding(crate::specs::laws::Check::check_leaf))]
 fn check_leaf<K: CheckBytes, V: CheckBytes, const E: usize>(
     buf: &[u8],
@@ -128,7 +128,7 @@ fn check_leaf<K: CheckBytes, V: CheckBytes, const E: usize>(
     })
 }
 
-// The node that a pointer leads to, with so many levels left for it and those below.
+/// The node that a pointer leads to, with so many levels left for it and those below.
 #[cycle(nodes)]
 fn check_node<K: CheckBytes, V: CheckBytes, const E: usize>(
     buf: &[u8],
@@ -153,7 +153,7 @@ fn check_node<K: CheckBytes, V: CheckBytes, const E: usize>(
     check_placed::<K, V, E>(buf, node, window, levels - 1, steps)
 }
 
-// A node at a place with room for a leaf, with so many levels left below it.
+/// A node at a place with room for a leaf, with so many levels left below it.
 #[cycle(nodes)]
 #[tactic(auto, unfolding(crate::specs::laws::Check::check_placed, crate::specs::laws::Counted::placed_steps))]
 fn check_placed<K: CheckBytes, V: CheckBytes, const E: usize>(
@@ -191,7 +191,7 @@ fn check_placed<K: CheckBytes, V: CheckBytes, const E: usize>(
     check_inner::<K, V, E>(buf, node, window.lo, levels, steps)
 }
 
-// An inner node at a place with room for it: its children, then its entries.
+/// An inner node at a place with room for it: its children, then its entries.
 #[cycle(nodes)]
 #[tactic(auto, unfolding(crate::specs::laws::Check::check_inner))]
 fn check_inner<K: CheckBytes, V: CheckBytes, const E: usize>(
@@ -219,7 +219,7 @@ fn check_inner<K: CheckBytes, V: CheckBytes, const E: usize>(
     })
 }
 
-// What the pointers of an inner node lead to, each in the window that the one before it left.
+/// What the pointers of an inner node lead to, each in the window that the one before it left.
 #[cycle(nodes)]
 fn check_pointers<K: CheckBytes, V: CheckBytes, const E: usize>(
     buf: &[u8],
@@ -245,7 +245,7 @@ fn check_pointers<K: CheckBytes, V: CheckBytes, const E: usize>(
     Ok(so_far)
 }
 
-// What pointer `i` of an inner node leads to, if it leads to a node.
+/// What pointer `i` of an inner node leads to, if it leads to a node.
 #[cycle(nodes)]
 #[tactic(auto, unfolding(crate::specs::laws::Check::check_pointer, crate::specs::laws::Counted::pointer_steps))]
 fn check_pointer<K: CheckBytes, V: CheckBytes, const E: usize>(
@@ -289,7 +289,7 @@ fn check_pointer<K: CheckBytes, V: CheckBytes, const E: usize>(
     }
 }
 
-// The tree that a pointer leads to, of at most 32 levels.
+/// The tree that a pointer leads to, of at most 32 levels.
 #[tactic(auto, unfolding(crate::specs::laws::Check::check_tree, crate::specs::laws::Counted::tree_steps))]
 fn check_tree<K: CheckBytes, V: CheckBytes, const E: usize>(
     buf: &[u8],
@@ -306,7 +306,7 @@ fn check_tree<K: CheckBytes, V: CheckBytes, const E: usize>(
     check_node::<K, V, E>(buf, p, window, 32, steps)
 }
 
-// What the root at a place with room for it leaves of the window.
+/// What the root at a place with room for it leaves of the window.
 #[tactic(auto, unfolding(crate::specs::laws::Check::check_root, crate::specs::laws::Counted::root_steps))]
 fn check_root<K: CheckBytes, V: CheckBytes, const E: usize>(
     buf: &[u8],
