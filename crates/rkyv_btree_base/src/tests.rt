@@ -19,22 +19,21 @@ use std::test::Fail;
 type Numbers = ArchivedBTreeMap<ArchivedU32, ArchivedU32, 5>;
 
 /// The archive of numbers behind what a writer holds already.
-fn archive(
+fn archive<const E: usize>(
     rt: &impl Abort,
     alloc: Global,
     claim: usize,
     entries: &[(u32, u32)],
     writer: &mut VecWriter,
 ) -> Result<u32, Fault<AllocError>> {
-    assert!(rt; layout::fits::<ArchivedU32, ArchivedU32, 5>());
-    assert!(rt; claim <= 5);
-    let root = Numbers::serialize_from_ordered_iter(
+    assert!(rt; layout::fits::<ArchivedU32, ArchivedU32, E>());
+    let root = ArchivedBTreeMap::<ArchivedU32, ArchivedU32, E>::serialize_from_ordered_iter(
         alloc,
         claim,
         entries.iter().map(|entry| (&entry.0, &entry.1)),
         writer,
     )?;
-    Numbers::write_root(claim, root, writer)
+    ArchivedBTreeMap::<ArchivedU32, ArchivedU32, E>::write_root(claim, root, writer)
 }
 
 /// The bytes of the map with the one entry 7 to 11, from a leaf at the first of them on.
@@ -54,7 +53,10 @@ fn one_entry() -> [u8; 56] {
 #[test]
 fn one_entry_is_a_leaf_and_a_root(rt: HostRuntime) -> Result<(), Fail> {
     let mut writer = VecWriter::new(rt.alloc());
-    assert_eq!(rt; archive(&rt, rt.alloc(), 1, &[(7, 11)], &mut writer)?, 48);
+    assert_eq!(rt;
+        archive::<5>(&rt, rt.alloc(), 1, &[(7, 11)], &mut writer)?,
+        48
+    );
     assert_eq!(rt; writer.bytes(), one_entry().as_slice());
     Ok(())
 }
@@ -62,7 +64,7 @@ fn one_entry_is_a_leaf_and_a_root(rt: HostRuntime) -> Result<(), Fail> {
 #[test]
 fn no_entry_is_a_root(rt: HostRuntime) -> Result<(), Fail> {
     let mut writer = VecWriter::new(rt.alloc());
-    assert_eq!(rt; archive(&rt, rt.alloc(), 0, &[], &mut writer)?, 0);
+    assert_eq!(rt; archive::<5>(&rt, rt.alloc(), 0, &[], &mut writer)?, 0);
     let bytes = writer.into_vec();
     assert_eq!(rt; bytes.as_slice(), [1, 0, 0, 0, 0, 0, 0, 0].as_slice());
     Ok(())
@@ -72,7 +74,10 @@ fn no_entry_is_a_root(rt: HostRuntime) -> Result<(), Fail> {
 fn a_leaf_starts_at_a_multiple_of_its_alignment(rt: HostRuntime) -> Result<(), Fail> {
     let start = [0xAA, 0xBB, 0xCC].to_vec(rt.alloc())?;
     let mut writer = VecWriter::from_vec(start);
-    assert_eq!(rt; archive(&rt, rt.alloc(), 1, &[(7, 11)], &mut writer)?, 52);
+    assert_eq!(rt;
+        archive::<5>(&rt, rt.alloc(), 1, &[(7, 11)], &mut writer)?,
+        52
+    );
     let bytes = writer.bytes();
     assert_eq!(rt; bytes.len(), 60);
     assert_eq!(rt; &bytes[..4], [0xAA, 0xBB, 0xCC, 0].as_slice());
@@ -103,6 +108,264 @@ fn the_length_stands_behind_the_padding_of_the_values(rt: HostRuntime) -> Result
     Ok(())
 }
 
+/// The keys 1 to `count`, each with ten times itself as its value.
+fn tens(alloc: Global, count: u32) -> Result<Vec<(u32, u32)>, AllocError> {
+    let mut entries = Vec::new(alloc);
+    for key in 0..count {
+        let key = key.wrapping_add(1);
+        entries.push((key, key.wrapping_mul(10)))?;
+    }
+    Ok(entries)
+}
+
+/// The archive of these entries in words of four bytes.
+fn words<const E: usize>(
+    rt: &impl Abort,
+    alloc: Global,
+    entries: &[(u32, u32)],
+) -> Result<Vec<u32>, Fail> {
+    let mut writer = VecWriter::new(alloc);
+    archive::<E>(rt, alloc, entries.len(), entries, &mut writer)?;
+    let (chunks, rest) = writer.bytes().as_chunks::<4>();
+    assert!(rt; rest.is_empty());
+    let mut words = Vec::new(alloc);
+    for chunk in chunks {
+        words.push(u32::from_le_bytes(*chunk))?;
+    }
+    Ok(words)
+}
+
+/// Archives have these words, by the number of their entries: those of each node, and of the root.
+fn have_nodes<const E: usize>(
+    rt: &impl Abort,
+    alloc: Global,
+    table: &[(u32, &[&[u32]])],
+) -> Result<(), Fail> {
+    for (count, nodes) in table {
+        let mut want = Vec::new(alloc);
+        for node in *nodes {
+            want.extend_from_slice(node)?;
+        }
+        let words = words::<E>(rt, alloc, &tens(alloc, *count)?)?;
+        assert_eq!(rt; words.as_slice(), want.as_slice(), "{count} entries");
+    }
+    Ok(())
+}
+
+#[test]
+fn trees_of_one_entry_a_node(rt: HostRuntime) -> Result<(), Fail> {
+    let two: [&[u32]; 3] = [&[0, 1, 10, 1], &[1, 2, 20, 0xFFFFFFE4, 1], &[0xFFFFFFEC, 2]];
+    let three: [&[u32]; 4] = [
+        &[0, 1, 10, 1],
+        &[0, 3, 30, 1],
+        &[1, 2, 20, 0xFFFFFFD4, 0xFFFFFFE0],
+        &[0xFFFFFFEC, 3],
+    ];
+    let four: [&[u32]; 5] = [
+        &[0, 1, 10, 1],
+        &[1, 2, 20, 0xFFFFFFE4, 1],
+        &[0, 4, 40, 1],
+        &[1, 3, 30, 0xFFFFFFD0, 0xFFFFFFE0],
+        &[0xFFFFFFEC, 4],
+    ];
+    let table = [
+        (2, two.as_slice()),
+        (3, three.as_slice()),
+        (4, four.as_slice()),
+    ];
+    have_nodes::<1>(&rt, rt.alloc(), &table)
+}
+
+#[test]
+fn trees_of_five_entries_a_node(rt: HostRuntime) -> Result<(), Fail> {
+    let six: [&[u32]; 3] = [
+        &[0, 1, 0, 0, 0, 0, 10, 0, 0, 0, 0, 1],
+        &[
+            1, 2, 3, 4, 5, 6, 20, 30, 40, 50, 60, 0xFFFFFFA4, 1, 1, 1, 1, 1,
+        ],
+        &[0xFFFFFFBC, 6],
+    ];
+    let seventeen: [&[u32]; 5] = [
+        &[0, 1, 2, 3, 4, 5, 10, 20, 30, 40, 50, 5],
+        &[0, 7, 8, 9, 10, 11, 70, 80, 90, 100, 110, 5],
+        &[0, 13, 14, 0, 0, 0, 130, 140, 0, 0, 0, 2],
+        &[
+            1, 6, 12, 15, 16, 17, 60, 120, 150, 160, 170, 0xFFFFFF44, 0xFFFFFF70, 0xFFFFFF9C, 1, 1,
+            1,
+        ],
+        &[0xFFFFFFBC, 17],
+    ];
+    let thirty_six: [&[u32]; 9] = [
+        &[0, 1, 0, 0, 0, 0, 10, 0, 0, 0, 0, 1],
+        &[
+            1, 2, 3, 4, 5, 6, 20, 30, 40, 50, 60, 0xFFFFFFA4, 1, 1, 1, 1, 1,
+        ],
+        &[0, 8, 9, 10, 11, 12, 80, 90, 100, 110, 120, 5],
+        &[0, 14, 15, 16, 17, 18, 140, 150, 160, 170, 180, 5],
+        &[0, 20, 21, 22, 23, 24, 200, 210, 220, 230, 240, 5],
+        &[0, 26, 27, 28, 29, 30, 260, 270, 280, 290, 300, 5],
+        &[0, 32, 33, 34, 35, 36, 320, 330, 340, 350, 360, 5],
+        &[
+            1, 7, 13, 19, 25, 31, 70, 130, 190, 250, 310, 0xFFFFFEA0, 0xFFFFFEE0, 0xFFFFFF0C,
+            0xFFFFFF38, 0xFFFFFF64, 0xFFFFFF90,
+        ],
+        &[0xFFFFFFBC, 36],
+    ];
+    let table = [
+        (6, six.as_slice()),
+        (17, seventeen.as_slice()),
+        (36, thirty_six.as_slice()),
+    ];
+    have_nodes::<5>(&rt, rt.alloc(), &table)
+}
+
+/// What is still to be read of a tree.
+#[derive(Drop)]
+enum Part {
+    Node { at: usize, level: u32 },
+    Entry(u32, u32),
+}
+
+/// What stands in a tree: its entries in their order, and how many nodes and levels it has.
+#[derive(Drop)]
+struct Reading {
+    entries: Vec<(u32, u32)>,
+    nodes: u32,
+    levels: u32,
+}
+
+/// The word at an index.
+fn word(words: &[u32], at: usize) -> Result<u32, Fail> {
+    Ok(*words.get(at).ok_or("no such word")?)
+}
+
+/// Pushes the child to which the pointer at a word leads, if there is one. It stands before its pointer.
+fn push_child(words: &[u32], at: usize, level: u32, parts: &mut Vec<Part>) -> Result<(), Fail> {
+    let offset = word(words, at)?;
+    if offset != 1 {
+        let back = offset.wrapping_neg() / 4;
+        parts.push(Part::Node {
+            at: at.wrapping_sub(back as usize),
+            level,
+        })?;
+    }
+    Ok(())
+}
+
+/// Pushes the parts of the node at a word, the last one first.
+fn push_parts<const E: usize>(
+    words: &[u32],
+    at: usize,
+    level: u32,
+    parts: &mut Vec<Part>,
+) -> Result<(), Fail> {
+    let is_inner = word(words, at)? == 1;
+    let keys = at.wrapping_add(1);
+    let values = keys.wrapping_add(E);
+    let tail = values.wrapping_add(E);
+    let below = level.wrapping_add(1);
+    let mut count = E;
+    if is_inner {
+        push_child(words, tail.wrapping_add(E), below, parts)?;
+    } else {
+        count = word(words, tail)? as usize;
+    }
+    for i in (0..count).rev() {
+        let key = word(words, keys.wrapping_add(i))?;
+        let value = word(words, values.wrapping_add(i))?;
+        parts.push(Part::Entry(key, value))?;
+        if is_inner {
+            push_child(words, tail.wrapping_add(i), below, parts)?;
+        }
+    }
+    Ok(())
+}
+
+/// Reads the tree under the root in the last two words. It has fewer parts than words.
+fn read_tree<const E: usize>(alloc: Global, words: &[u32]) -> Result<Reading, Fail> {
+    let mut parts = Vec::new(alloc);
+    let mut reading = Reading {
+        entries: Vec::new(alloc),
+        nodes: 0,
+        levels: 0,
+    };
+    push_child(words, words.len().wrapping_sub(2), 1, &mut parts)?;
+    for _ in words {
+        match parts.pop() {
+            None => break,
+            Some(Part::Entry(key, value)) => reading.entries.push((key, value))?,
+            Some(Part::Node { at, level }) => {
+                reading.nodes = reading.nodes.wrapping_add(1);
+                reading.levels = reading.levels.max(level);
+                push_parts::<E>(words, at, level, &mut parts)?;
+            }
+        }
+    }
+    Ok(reading)
+}
+
+/// What is read back from the archives of 0 to 300 entries is their list.
+fn hold_their_lists<const E: usize>(rt: &impl Abort, alloc: Global) -> Result<(), Fail> {
+    for count in 0..=300 {
+        let entries = tens(alloc, count)?;
+        let words = words::<E>(rt, alloc, &entries)?;
+        let read = read_tree::<E>(alloc, &words)?;
+        assert_eq!(rt;
+            read.entries.as_slice(),
+            entries.as_slice(),
+            "{count} entries"
+        );
+    }
+    Ok(())
+}
+
+#[test]
+fn archives_hold_their_lists(rt: HostRuntime) -> Result<(), Fail> {
+    hold_their_lists::<1>(&rt, rt.alloc())?;
+    hold_their_lists::<2>(&rt, rt.alloc())?;
+    hold_their_lists::<3>(&rt, rt.alloc())?;
+    hold_their_lists::<4>(&rt, rt.alloc())?;
+    hold_their_lists::<5>(&rt, rt.alloc())?;
+    hold_their_lists::<6>(&rt, rt.alloc())?;
+    hold_their_lists::<7>(&rt, rt.alloc())
+}
+
+/// Archives of so many entries have trees of so many levels and nodes.
+fn have_levels_and_nodes<const E: usize>(
+    rt: &impl Abort,
+    alloc: Global,
+    table: &[(u32, u32, u32)],
+) -> Result<(), Fail> {
+    for (count, levels, nodes) in table {
+        let entries = tens(alloc, *count)?;
+        let words = words::<E>(rt, alloc, &entries)?;
+        let read = read_tree::<E>(alloc, &words)?;
+        assert_eq!(rt;
+            (read.levels, read.nodes),
+            (*levels, *nodes),
+            "{count} entries"
+        );
+    }
+    Ok(())
+}
+
+#[test]
+fn built_trees_have_their_levels_and_nodes(rt: HostRuntime) -> Result<(), Fail> {
+    let five = [
+        (1, 1, 1),
+        (5, 1, 1),
+        (6, 2, 2),
+        (9, 2, 2),
+        (17, 2, 4),
+        (35, 2, 7),
+        (36, 3, 8),
+        (112, 3, 23),
+        (215, 3, 43),
+    ];
+    have_levels_and_nodes::<5>(&rt, rt.alloc(), &five)?;
+    have_levels_and_nodes::<1>(&rt, rt.alloc(), &[(2, 2, 2), (3, 2, 3), (4, 3, 4)])
+}
+
 /// The two numbers of a refused claim.
 fn mismatch(outcome: Result<u32, Fault<AllocError>>) -> Option<(usize, usize)> {
     match outcome {
@@ -115,13 +378,13 @@ fn mismatch(outcome: Result<u32, Fault<AllocError>>) -> Option<(usize, usize)> {
 fn wrong_claims_are_refused_with_both_numbers(rt: HostRuntime) -> Result<(), Fail> {
     let six = [(1, 10), (2, 20), (3, 30), (4, 40), (5, 50), (6, 60)];
     let mut writer = VecWriter::new(rt.alloc());
-    let few = archive(&rt, rt.alloc(), 5, &six[..4], &mut writer);
+    let few = archive::<5>(&rt, rt.alloc(), 5, &six[..4], &mut writer);
     assert_eq!(rt; mismatch(few), Some((5, 4)));
     assert_eq!(rt; writer.bytes().len(), 0);
-    let many = archive(&rt, rt.alloc(), 5, &six, &mut writer);
+    let many = archive::<5>(&rt, rt.alloc(), 5, &six, &mut writer);
     assert_eq!(rt; mismatch(many), Some((5, 6)));
     let mut writer = VecWriter::new(rt.alloc());
-    let none = archive(&rt, rt.alloc(), 0, &six[..2], &mut writer);
+    let none = archive::<5>(&rt, rt.alloc(), 0, &six[..2], &mut writer);
     assert_eq!(rt; mismatch(none), Some((0, 2)));
     assert_eq!(rt; writer.bytes().len(), 0);
     let text = format!(in rt.alloc();
@@ -210,11 +473,11 @@ fn no_write_ends_past_the_last_position(rt: HostRuntime) -> Result<(), Fail> {
     let _resolver = Numbers::serialize_from_ordered_iter(rt.alloc(), 1, items, &mut near)?;
     assert_eq!(rt; near.pos(), 4294967280);
     let mut nearer = VecWriter::with_base(rt.alloc(), 4294967248);
-    let refused = archive(&rt, rt.alloc(), 1, &entries, &mut nearer);
+    let refused = archive::<5>(&rt, rt.alloc(), 1, &entries, &mut nearer);
     assert!(rt; matches!(refused, Err(Fault::PositionOverflow)));
     assert_eq!(rt; nearer.bytes().len(), 0);
     let mut nearest = VecWriter::with_base(rt.alloc(), 4294967292);
-    let refused = archive(&rt, rt.alloc(), 0, &[], &mut nearest);
+    let refused = archive::<5>(&rt, rt.alloc(), 0, &[], &mut nearest);
     assert!(rt; matches!(refused, Err(Fault::PositionOverflow)));
     assert_eq!(rt; nearest.bytes().len(), 0);
     Ok(())
