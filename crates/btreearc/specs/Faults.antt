@@ -1,6 +1,7 @@
 -- What the program's faults say, and where each comes from.
 use Rattle.std.specs.Prelude.{ℕ, List, ◌++◌, Option, Some, None, codes, decimal}
 use Rattle.btreearc.specs.Archive.{IsUnbuilt}
+use Rattle.btreearc.specs.Opening.{RefusesArchive}
 use Rattle.btreearc.specs.declared.fault.ProgramFault.{ProgramFault}
 use Rattle.btreearc.specs.declared.fault.ProgramFault.TheVariants.{Usage, Line, Refused, NotBuilt, InputFailed, OutputFailed, Memory}
 
@@ -29,3 +30,8 @@ IsWriteFault _ = ⊥
 abbrev pub IsBuildFault : List (ℕ × ℕ) → ProgramFault → Type 0
 IsBuildFault entries (NotBuilt fault) = IsUnbuilt entries fault
 IsBuildFault entries _ = ⊥
+
+-- a fault of opening an archive
+abbrev pub IsOpenFault : List ℕ → ProgramFault → Type 0
+IsOpenFault bytes (Refused refusal) = RefusesArchive bytes refusal
+IsOpenFault bytes _ = ⊥

@@ -1,8 +1,10 @@
 //! Opening archives that anybody wrote.
 ghost use Rattle.std.specs.Prelude.{◌≡◌, ℕ, List, IfOk, IfErr, IsOk, Err};
 ghost use Rattle.rkyv_btree_base.specs.declared.refusal.Refusal.{Refusal};
+ghost use Rattle.btreearc.specs.Faults.{IsOpenFault};
 ghost use Rattle.btreearc.specs.Opening.{IsArchive, RefusesArchive, entries_read};
 
+use crate::fault::ProgramFault;
 use rkyv_btree::map::access;
 use rkyv_btree::view::View;
 use rkyv_btree_base::map::ArchivedBTreeMap;
@@ -20,19 +22,22 @@ const ROOT_SIZE: usize = 8;
 ///
 /// # Errors
 ///
-/// The first fact, in the order of checking, for which the bytes are no archive.
+/// `Refused` by the first fact, in the order of checking, for which the bytes are no archive.
 #[tactic(auto, using(crate::proofs::Built::numbers_fit))]
-pub fn open(archive: &[u8]) -> Result<View<'_, Numbers>, Refusal>
+pub fn open(archive: &[u8]) -> Result<View<'_, Numbers>, ProgramFault>
     ensures accepted { IfOk result (λ map. IsArchive archive.now (entries_read map.buf.now map.pos)) }
     ensures all_accepted { (entries : List (ℕ × ℕ)) → IsArchive archive.now entries → IsOk result }
-    ensures refused { IfErr result (RefusesArchive archive.now) }
-    ensures all_refused { (refusal : Refusal) → RefusesArchive archive.now refusal → result ≡ Err refusal }
+    ensures refused { IfErr result (IsOpenFault archive.now) }
+    ensures all_refused { (refusal : Refusal) → RefusesArchive archive.now refusal → result ≡ Err (ProgramFault.Refused refusal) }
 {
     let root = archive.len().saturating_sub(ROOT_SIZE);
     let Ok(root) = u32::try_from(root) else {
-        return Err(Refusal::TooLong);
+        return Err(ProgramFault::Refused(Refusal::TooLong));
     };
-    access::<ArchivedU32, ArchivedU32, 5>(archive, root)
+    match access::<ArchivedU32, ArchivedU32, 5>(archive, root) {
+        Ok(map) => Ok(map),
+        Err(refusal) => Err(ProgramFault::Refused(refusal)),
+    }
 }
 
 /// What is refused is no archive of any list.

@@ -76,10 +76,7 @@ fn list<R: Read, W: Write>(alloc: Global, input: &mut R, output: &mut W) -> Resu
     ensures end { OnOk result (IsAtEnd (R.remaining input.new)) }
 {
     let archive = read_all(alloc, input)?;
-    let map = match open(&archive) {
-        Ok(map) => map,
-        Err(refusal) => return Err(ProgramFault::Refused(refusal)),
-    };
+    let map = open(&archive)?;
     let mut text = String::new(alloc);
     match write_entries(&mut text, map.iter()) {
         Ok(()) => {}
@@ -103,10 +100,7 @@ fn check<R: Read, W: Write>(
     ensures end { OnOk result (IsAtEnd (R.remaining input.new)) }
 {
     let archive = read_all(alloc, input)?;
-    let count = match open(&archive) {
-        Ok(map) => map.len(),
-        Err(refusal) => return Err(ProgramFault::Refused(refusal)),
-    };
+    let count = open(&archive)?.len();
     let mut text = String::new(alloc);
     if writeln!(text, "ok {count} entries").is_err() {
         return Err(ProgramFault::Memory);

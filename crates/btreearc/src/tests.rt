@@ -85,7 +85,9 @@ fn archives_are_built_and_listed(rt: HostRuntime) -> Result<(), Fail> {
     writes(&rt, alloc, &["build"], b"", &empty)?;
     writes(&rt, alloc, &["list"], &empty, b"")?;
     let empty_elsewhere = [255, 255, 255, 255, 0, 0, 0, 0];
-    writes(&rt, alloc, &["list"], &empty_elsewhere, b"")
+    writes(&rt, alloc, &["list"], &empty_elsewhere, b"")?;
+    writes(&rt, alloc, &["check"], &empty, b"ok 0 entries\n")?;
+    writes(&rt, alloc, &["check"], &SEVEN, b"ok 1 entries\n")
 }
 
 #[test]
@@ -143,17 +145,62 @@ fn bad_lines_are_named(rt: HostRuntime) -> Result<(), Fail> {
     )
 }
 
+/// Lines of so many entries, with keys from 1 on and ten times as great values.
+fn lines(alloc: Global, count: u16) -> Result<String, AllocError> {
+    let mut text = String::new(alloc);
+    for key in 1..=count {
+        writeln!(text, "{key} {}", 10 * u32::from(key))?;
+    }
+    Ok(text)
+}
+
+/// The archive that is built of lines.
+fn built(rt: &impl Abort, alloc: Global, lines: &str) -> Result<Vec<u8>, Fail> {
+    let args = words_of(alloc, &["build"])?;
+    let mut input = lines.as_bytes();
+    let mut output = Vec::new(alloc);
+    let status = run(alloc, &args, &mut input, &mut output)?;
+    assert_eq!(rt; status, 0);
+    Ok(output)
+}
+
 #[test]
-fn a_sixth_entry_is_too_many(rt: HostRuntime) -> Result<(), Fail> {
+fn archives_of_every_height_are_listed_and_counted(rt: HostRuntime) -> Result<(), Fail> {
     let alloc = rt.alloc();
-    let line = "btreearc: not built: more than 5 entries";
-    fails(
-        &rt,
-        alloc,
-        &["build"],
-        b"1 2\n3 4\n5 6\n7 8\n9 10\n11 12\n",
-        line,
-    )
+    let counts = [
+        (0, "ok 0 entries\n"),
+        (1, "ok 1 entries\n"),
+        (5, "ok 5 entries\n"),
+        (6, "ok 6 entries\n"),
+        (17, "ok 17 entries\n"),
+        (36, "ok 36 entries\n"),
+        (215, "ok 215 entries\n"),
+    ];
+    for (count, line) in counts {
+        let text = lines(alloc, count)?;
+        let archive = built(&rt, alloc, text.as_str())?;
+        writes(&rt, alloc, &["list"], &archive, text.as_str().as_bytes())?;
+        writes(&rt, alloc, &["check"], &archive, line.as_bytes())?;
+    }
+    Ok(())
+}
+
+/// Six entries in two nodes: a leaf of the first, and the root over it.
+#[test]
+fn six_entries_have_two_nodes(rt: HostRuntime) -> Result<(), Fail> {
+    let alloc = rt.alloc();
+    let text = lines(alloc, 6)?;
+    let archive = built(&rt, alloc, text.as_str())?;
+    assert_eq!(rt; archive.len(), 124);
+    assert_eq!(rt;
+        &archive[92..100],
+        [0xA4, 0xFF, 0xFF, 0xFF, 1, 0, 0, 0].as_slice()
+    );
+    assert_eq!(rt;
+        &archive[116..124],
+        [0xBC, 0xFF, 0xFF, 0xFF, 6, 0, 0, 0].as_slice()
+    );
+    Ok(())
 }
 
 #[test]
@@ -164,6 +211,7 @@ fn a_wrong_use_reads_nothing(rt: HostRuntime) -> Result<(), Fail> {
     fails(&rt, alloc, &["Build"], b"1 2\n", USAGE)?;
     fails(&rt, alloc, &["build", "1"], b"1 2\n", USAGE)?;
     fails(&rt, alloc, &["list", "list"], &SEVEN, USAGE)?;
+    fails(&rt, alloc, &["check", ""], &SEVEN, USAGE)?;
     let args = words_of(alloc, &["lists"])?;
     let mut input = SEVEN.as_slice();
     let mut output = Vec::new(alloc);
@@ -212,6 +260,7 @@ fn damaged_archives_are_refused(rt: HostRuntime) -> Result<(), Fail> {
         let mut damaged = SEVEN;
         damaged[at] = byte;
         fails(&rt, alloc, &["list"], &damaged, line)?;
+        fails(&rt, alloc, &["check"], &damaged, line)?;
     }
     let mut moved = [0; 60];
     moved[..52].copy_from_slice(&SEVEN[..52]);
@@ -308,7 +357,7 @@ impl Write for FailingWriter {
 #[test]
 fn a_failed_read_is_told(rt: HostRuntime) -> Result<(), Fail> {
     let alloc = rt.alloc();
-    for word in ["build", "list"] {
+    for word in ["build", "list", "check"] {
         let args = words_of(alloc, &[word])?;
         let mut input = FailingReader { bytes: b"1 x\n" };
         let mut output = Vec::new(alloc);
@@ -322,7 +371,7 @@ fn a_failed_read_is_told(rt: HostRuntime) -> Result<(), Fail> {
 #[test]
 fn a_failed_write_is_told(rt: HostRuntime) -> Result<(), Fail> {
     let alloc = rt.alloc();
-    let inputs: [(&str, &[u8]); 2] = [("build", b"7 11"), ("list", &SEVEN)];
+    let inputs: [(&str, &[u8]); 3] = [("build", b"7 11"), ("list", &SEVEN), ("check", &SEVEN)];
     for (word, input) in inputs {
         let args = words_of(alloc, &[word])?;
         let mut input = input;
