@@ -337,6 +337,7 @@ fn check_root<K: CheckBytes, V: CheckBytes, const E: usize>(
     }
 }
 
+/// What the map at `pos` leaves of the window.
 #[tactic(auto, unfolding(crate::specs::laws::Check::check_map, crate::specs::laws::Counted::map_steps))]
 fn check_map<K: CheckBytes, V: CheckBytes, const E: usize>(
     buf: &[u8],
