@@ -11,6 +11,13 @@ use Rattle.rkyv_btree_base.specs.Spells.{IsNodeAt, Spells, SpellsChild}
 use Rattle.rkyv_btree_base.specs.Tree.{Tree, Child, list, height, child_height}
 
 module _ (K V : Kind) (E : ℕ) (b : List ℕ) where
+  -- the lengths that a leaf and a map say
+  abbrev pub leaf_len : ℕ → ℕ
+  leaf_len start = number_at b (start + len_at (shape K V E)) 4
+
+  abbrev pub map_len : ℕ → ℕ
+  map_len at = number_at b (at + 4) 4
+
   -- a node's first byte is this, at a place in the window from lo to hi with room for a leaf
   abbrev pub HasKind : ℕ → ℕ → ℕ → ℕ → Type 0
   HasKind lo hi start kind = IsNodeAt (shape K V E) b lo hi start kind (leaf_size (shape K V E))
@@ -40,8 +47,8 @@ module _ (K V : Kind) (E : ℕ) (b : List ℕ) where
       misaligned : {levels lo hi start : ℕ} → lo ≤ start → start + leaf_size (shape K V E) ≤ hi → start % align (shape K V E) ≢ 0 → NodeFault (suc levels) (pos start) lo hi (Misaligned start)
       bad_kind : {levels lo hi start kind : ℕ} → HasKind lo hi start kind → kind ≢ 0 → kind ≢ 1 → NodeFault (suc levels) (pos start) lo hi (BadKind start kind)
       inner_past : {levels lo hi start : ℕ} → HasKind lo hi start 1 → hi < start + inner_size (shape K V E) → NodeFault (suc levels) (pos start) lo hi (OutOfRange (pos start))
-      leaf_length : {levels lo hi start : ℕ} → HasKind lo hi start 0 → E < number_at b (start + len_at (shape K V E)) 4 → NodeFault (suc levels) (pos start) lo hi (InvalidLength (record { len = number_at b (start + len_at (shape K V E)) 4; maximum = E }))
-      leaf_entry : {levels lo hi start at : ℕ} → HasKind lo hi start 0 → number_at b (start + len_at (shape K V E)) 4 ≤ E → EntriesFault start (number_at b (start + len_at (shape K V E)) 4) 0 lo at → NodeFault (suc levels) (pos start) lo hi (BadEntry at)
+      leaf_length : {levels lo hi start : ℕ} → HasKind lo hi start 0 → E < leaf_len start → NodeFault (suc levels) (pos start) lo hi (InvalidLength (record { len = leaf_len start; maximum = E }))
+      leaf_entry : {levels lo hi start at : ℕ} → HasKind lo hi start 0 → leaf_len start ≤ E → EntriesFault start (leaf_len start) 0 lo at → NodeFault (suc levels) (pos start) lo hi (BadEntry at)
       in_child : {levels lo hi start : ℕ} {e : Refusal} → IsInner lo hi start → PointersFault levels start (suc E) 0 lo e → NodeFault (suc levels) (pos start) lo hi e
       inner_entry : {levels lo hi start mid at : ℕ} → IsInner lo hi start → (children : List (Child (K.Value × V.Value))) → length children ≡ suc E → Children levels start 0 lo mid children → EntriesFault start E 0 mid at → NodeFault (suc levels) (pos start) lo hi (BadEntry at)
 
@@ -54,5 +61,5 @@ module _ (K V : Kind) (E : ℕ) (b : List ℕ) where
   -- the refusal of the bytes at a position as a map, in the window from lo to hi
   pub data Stands (lo hi at : ℕ) : Refusal → Type 0 where
     misplaced : {e : Refusal} → Misplaced b 8 4 at e → Stands lo hi at e
-    in_tree : {e : Refusal} → HasPlace b 8 4 at → number_at b (at + 4) 4 ≢ 0 → NodeFault 32 (place_at b at) lo hi e → Stands lo hi at e
-    other_total : {start : ℕ} → HasPlace b 8 4 at → number_at b (at + 4) 4 ≢ 0 → (t : Tree (K.Value × V.Value)) → place_at b at ≡ pos start → Spells K V E b lo hi start t → height t ≤ 32 → length (list t) ≢ number_at b (at + 4) 4 → Stands lo hi at (EntriesLengthMismatch (record { entries = length (list t); len = number_at b (at + 4) 4 }))
+    in_tree : {e : Refusal} → HasPlace b 8 4 at → map_len at ≢ 0 → NodeFault 32 (place_at b at) lo hi e → Stands lo hi at e
+    other_total : {start : ℕ} → HasPlace b 8 4 at → map_len at ≢ 0 → (t : Tree (K.Value × V.Value)) → place_at b at ≡ pos start → Spells K V E b lo hi start t → height t ≤ 32 → length (list t) ≢ map_len at → Stands lo hi at (EntriesLengthMismatch (record { entries = length (list t); len = map_len at }))

@@ -10,7 +10,7 @@ ghost use Rattle.rkyv_btree_base.specs.laws.Check.{or_bad, node_place, check_ent
 ghost use Rattle.rkyv_btree_base.specs.laws.Counted.{Within, node_steps, pointer_steps, pointers_steps, placed_steps, tree_steps, root_steps, map_steps};
 
 use crate::bytes::{num32, place, target};
-use crate::check::{CheckBytes, Window, check_place};
+use crate::check::{CheckBytes, Portable, Window, check_place};
 use crate::layout;
 use crate::map::ArchivedBTreeMap;
 use crate::refusal::{EntriesLengthMismatch, InvalidLength, Refusal};
@@ -337,6 +337,7 @@ fn check_root<K: CheckBytes, V: CheckBytes, const E: usize>(
     }
 }
 
+/// What the map at `pos` leaves of the window.
 #[tactic(auto, unfolding(crate::specs::laws::Check::check_map, crate::specs::laws::Counted::map_steps))]
 fn check_map<K: CheckBytes, V: CheckBytes, const E: usize>(
     buf: &[u8],
@@ -404,14 +405,14 @@ pub fn verify_counted<K: CheckBytes, V: CheckBytes, const E: usize>(
 }
 
 /// What the nodes, keys and values of a tree in foreign bytes take of them is apart, so a buffer has few nodes.
-pub fn claims_are_apart<K: CheckBytes, V: CheckBytes, const E: usize>()
+pub fn claims_are_apart<K: Portable, V: Portable, const E: usize>()
     requires { IsTrue (are_fitting K.kind V.kind E) }
     ensures apart { (b : List ℕ) (lo hi start : ℕ) (t : Tree (K.kind.Value × V.kind.Value)) (h : Spells K.kind V.kind E b lo hi start t) → PairwiseApart (claimed K.kind V.kind E b lo hi start t h) }
     ensures few { (b : List ℕ) (lo hi start : ℕ) (t : Tree (K.kind.Value × V.kind.Value)) → Spells K.kind V.kind E b lo hi start t → hi ≤ length b → nodes t * leaf_size (shape K.kind V.kind E) ≤ length b }
 {}
 
 /// A map has no fault, bytes have one fault at most, and a node with a fault spells no tree of the levels that are left.
-pub fn faults_are_exact<K: CheckBytes, V: CheckBytes, const E: usize>()
+pub fn faults_are_exact<K: Portable, V: Portable, const E: usize>()
     requires { IsTrue (are_fitting K.kind V.kind E) }
     ensures no_map { (b : List ℕ) (lo hi at left : ℕ) (m : List (K.kind.Value × V.kind.Value)) (e : Refusal) → Stands K.kind V.kind E b lo hi at e → Accepted K.kind V.kind E b lo hi at left m → ⊥ }
     ensures one_refusal { (b : List ℕ) (lo hi at : ℕ) (e d : Refusal) → Stands K.kind V.kind E b lo hi at e → Stands K.kind V.kind E b lo hi at d → e ≡ d }

@@ -6,8 +6,8 @@ use Rattle.rkyv_btree_base.specs.Bytes.{number_at, target_at, place_at}
 use Rattle.rkyv_btree_base.specs.Kind.{Leaves}
 use Rattle.rkyv_btree_base.specs.Layout.{Shape, key_at, value_at, len_at, leaf_size, inner_size, pointer_at, align}
 
--- What the check of a map answers, as a function of its bytes: it decides the relations of `Spells`, which is what the
--- laws of maps need of it.
+-- What the check of a map answers, as a function of its bytes that mirrors the code: the contracts of the code's private
+-- functions cite it, and the laws of maps need that it decides the relations of `Spells`.
 
 infixl 10 ◌>>=◌
 abbrev pub ◌>>=◌ : {A B : Type 0} → Result A Refusal → (A → Result B Refusal) → Result B Refusal
