@@ -6,7 +6,7 @@ use Rattle.std.specs.Io.KnownBytes.{Appends}
 use Rattle.std.specs.Iterator.{Yields, Drains, YieldsFirstBy}
 use Rattle.rkyv_btree_base.specs.Bytes.{from_le}
 use Rattle.rkyv_btree_base.specs.Image.{child_image, root_image}
-use Rattle.rkyv_btree_base.specs.Layout.{shape, are_fitting, inner_size, len_at, node_size, values_at, keys_at, align, node_align}
+use Rattle.rkyv_btree_base.specs.Layout.{are_fitting, inner_size, len_at, node_size, values_at, keys_at, align, node_align}
 use Rattle.rkyv_btree_base.specs.Plain.{u32_kind, u32_laws}
 use Rattle.rkyv_btree_base.specs.Rounding.{round_up}
 use Rattle.rkyv_btree_base.specs.Serialising.{built, Built, Spelled, own_of, meaning_of, StoppedBuilding, Refusal, RootRefusal}

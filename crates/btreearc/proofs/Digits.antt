@@ -75,12 +75,6 @@ ends-drop (c ∷ cs) (suc n) h = ends-drop cs n h
 same_digits : (bytes : List ℕ) (len value n : ℕ) (rest : List ℕ) → ReadDigits bytes len value → (IsDigit (get_or bytes len 0) → ⊥) → (p : NumberFirst bytes n rest) → take len bytes ≡ p.digits
 same_digits bytes len value n rest r ends p = (same_front (take len bytes) p.digits (drop len bytes) rest r.digits p.is.digits (ends-drop bytes len ends) p.ends (take-append-drop len bytes ∙ p.spelled)).0
 
-pub no_digits : (bytes : List ℕ) (value n : ℕ) (rest : List ℕ) → ReadDigits bytes 0 value → (IsDigit (get_or bytes 0 0) → ⊥) → NumberFirst bytes n rest → ⊥
-no_digits bytes value n rest r ends p =
-    let e : [] ≡ p.digits = same_digits bytes 0 value n rest r ends p in
-    let l : 0 ≡ length p.digits = ap length e in
-    omega (arith, p.is.some)
-
 pub too_great : (bytes : List ℕ) (len value n : ℕ) (rest : List ℕ) → ReadDigits bytes len value → (IsDigit (get_or bytes len 0) → ⊥) → 4294967295 < value → NumberFirst bytes n rest → ⊥
 too_great bytes len value n rest r ends much p =
     let e : value_after 0 (take len bytes) ≡ value_after 0 p.digits = ap (value_after 0) (same_digits bytes len value n rest r ends p) in
@@ -91,14 +85,6 @@ too_many bytes value n rest r more d p =
     let digits : AreDigits (take 11 bytes) = subst AreDigits (sym (take_more bytes 10 0 more)) (digits-snoc (take 10 bytes) (get_or bytes 10 0) r.digits d) in
     let far = no_further (take 11 bytes) p.digits (drop 11 bytes) rest digits p.is.digits p.ends (take-append-drop 11 bytes ∙ p.spelled) in
     omega (arith, far, taken bytes 11 (omega arith), p.is.few)
-
-pub number_found : (bytes : List ℕ) (len value : ℕ) → ReadDigits bytes len value → (IsDigit (get_or bytes len 0) → ⊥) → 1 ≤ len → value ≤ 4294967295 → NumberFirst bytes value (drop len bytes)
-number_found bytes len value r ends some fits = record {
-  digits = take len bytes;
-  spelled = sym (take-append-drop len bytes);
-  is = record { digits = r.digits; some = omega (arith, taken bytes len r.within); few = omega (arith, taken bytes len r.within, r.few); value = r.value_is; fits = omega arith };
-  ends = ends-drop bytes len ends;
-}
 
 -- a number is found in one way
 pub number_once : (bytes : List ℕ) (n m : ℕ) (x y : List ℕ) → NumberFirst bytes n x → NumberFirst bytes m y → (n ≡ m) × (x ≡ y)

@@ -157,9 +157,6 @@ entries-length [] (y ∷ ys) h = absurd h
 entries-length (l ∷ ls) [] h = absurd h
 entries-length (l ∷ ls) (y ∷ ys) h = ap suc (entries-length ls ys h.1)
 
-pub read-none : (bytes : List ℕ) → ReadLines bytes bytes []
-read-none bytes = record { before = []; split = refl; good = tt }
-
 pub read-line : (bytes rest behind : List ℕ) (xs : List (ℕ × ℕ)) (x : ℕ × ℕ) → ReadLines bytes rest xs → EntryFirst rest x behind → ReadLines bytes behind (xs ++ x ∷ [])
 read-line bytes rest behind xs x r e =
     let f = entry-lines rest x behind e in

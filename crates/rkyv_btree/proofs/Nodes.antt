@@ -8,9 +8,8 @@ use Rattle.rkyv_btree_base.specs.Layout.{shape, are_fitting, pointer_at}
 use Rattle.rkyv_btree_base.specs.Spells.{Entries, Spells, SpellsRow, SpellsChild}
 use Rattle.rkyv_btree_base.specs.Tree.{Tree, leaf, inner, Row, last, step, Child, absent, child, row_entries, height, row_height, child_height}
 use Rattle.rkyv_btree_base.specs.Views.{stands_of}
-use Rattle.rkyv_btree_base.specs.laws.Places.{EntryStands}
 use Rattle.rkyv_btree_base.specs.laws.Sizes.{room_of}
-use Rattle.rkyv_btree.specs.Node.{natural, LeadsBefore, is_leaf, child_place, NodeStands, TreeStands}
+use Rattle.rkyv_btree.specs.Node.{EntryStands, natural, LeadsBefore, is_leaf, child_place, NodeStands, TreeStands}
 
 module _ (K V : Kind) (E : ℕ) (b : List ℕ) where
   -- a tree has a level for its root, which stands

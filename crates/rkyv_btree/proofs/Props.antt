@@ -5,8 +5,7 @@ use Rattle.std.specs.Coded.{le_prop}
 use Rattle.std.specs.Prelude.{ℤ, pos, negsuc}
 use mathlib.Core.Logic.{∥∥₁_elim}
 use Rattle.rkyv_btree_base.specs.Kind.{Kind}
-use Rattle.rkyv_btree_base.specs.laws.Places.{EntryStands}
-use Rattle.rkyv_btree.specs.Node.{LeadsBefore, NodeStands, TreeStands}
+use Rattle.rkyv_btree.specs.Node.{EntryStands, LeadsBefore, NodeStands, TreeStands}
 use Rattle.rkyv_btree.specs.Path.{IsPath}
 
 leads_prop : (p : ℕ) (t : Option ℤ) → IsProp (LeadsBefore p t)

@@ -1,9 +1,9 @@
 -- What a walk needs of the nodes that it meets.
-use Rattle.std.specs.Prelude.{◌≡◌, ℕ, zero, suc, ◌+◌, ◌≤◌, ◌<◌, List, length, Option, Some, None, Bool, false, ℤ, pos, negsuc, slice_index, nat_eq, if◌then◌else◌}
+use Rattle.std.specs.Prelude.{◌≡◌, ℕ, zero, suc, ◌+◌, ◌≤◌, ◌<◌, IsTrue, List, length, Option, Some, None, Bool, false, ℤ, pos, negsuc, slice_index, nat_eq, if◌then◌else◌}
 use Rattle.rkyv_btree_base.specs.Bytes.{number_at, target_at}
 use Rattle.rkyv_btree_base.specs.Kind.{Kind}
-use Rattle.rkyv_btree_base.specs.Layout.{Shape, shape, len_at, leaf_size, inner_size, pointer_at}
-use Rattle.rkyv_btree_base.specs.laws.Places.{EntryStands}
+use Rattle.rkyv_btree_base.specs.Layout.{Shape, shape, key_at, value_at, len_at, leaf_size, inner_size, pointer_at}
+use Rattle.rkyv_btree_base.specs.Views.{stands}
 
 -- a place in a buffer, where it isn't before its start
 abbrev pub natural : Option ℤ → Option ℕ
@@ -31,12 +31,17 @@ module _ (s : Shape) (b : List ℕ) where
   child_place p i = if is_leaf p then None else natural (target_at b (p + pointer_at s i))
 
 module _ (K V : Kind) (E : ℕ) (b : List ℕ) where
+  -- a key and a value stand at an entry, which is given by its node and its number
+  pub record EntryStands (e : ℕ × ℕ) : Type 0 where
+    pub key : IsTrue (stands K b (e.0 + key_at (shape K V E) e.1))
+    pub value : IsTrue (stands V b (e.0 + value_at (shape K V E) e.1))
+
   -- the node at p lies in the buffer, its entries stand, and its pointers lead to places before it
   pub record NodeStands (p : ℕ) : Type 0 where
     pub leaf_inside : p + leaf_size (shape K V E) ≤ length b
     pub inner_inside : is_leaf (shape K V E) b p ≡ false → p + inner_size (shape K V E) ≤ length b
     pub count : entry_count (shape K V E) b p ≤ E
-    pub entries : (i : ℕ) → i < entry_count (shape K V E) b p → EntryStands K V E b (p, i)
+    pub entries : (i : ℕ) → i < entry_count (shape K V E) b p → EntryStands (p, i)
     pub leads : is_leaf (shape K V E) b p ≡ false → (i : ℕ) → i ≤ E → LeadsBefore p (target_at b (p + pointer_at (shape K V E) i))
 
   -- a tree of at most so many levels stands at p

@@ -4,8 +4,7 @@ ghost use Rattle.rkyv_btree_base.specs.Bytes.{place_at};
 ghost use Rattle.rkyv_btree_base.specs.Layout.{shape, are_fitting, key_at, value_at, leaf_size};
 ghost use Rattle.rkyv_btree_base.specs.Read.{map_tree};
 ghost use Rattle.rkyv_btree_base.specs.Tree.{list};
-ghost use Rattle.rkyv_btree_base.specs.laws.Places.{EntryStands};
-ghost use Rattle.rkyv_btree.specs.Node.{natural, LeadsBefore, is_leaf as is_leaf_at, entry_count as count_of, child_place, NodeStands, TreeStands};
+ghost use Rattle.rkyv_btree.specs.Node.{EntryStands, natural, LeadsBefore, is_leaf as is_leaf_at, entry_count as count_of, child_place, NodeStands, TreeStands};
 ghost use Rattle.rkyv_btree.specs.Path.{tree_rest, path_rest, IsPath};
 
 use crate::map::ArchivedMap;

@@ -32,7 +32,3 @@ module _ (K V : Kind) (E : ℕ) (k : IsLawful K) (v : IsLawful V) where
   value_aligned p i h =
       aligned_add V.align p _ (aligned_right p k.alignment v.alignment (entries_aligned p h))
       (aligned_add V.align _ _ (round_up-aligned _ V.align) (aligned_mul V.align V.size i v.whole))
-
-  pub four_aligned : (p : ℕ) → IsAligned (align (shape K V E)) p → IsAligned 4 p
-  unfolding align
-  four_aligned p h = aligned_left p four node h

@@ -1,12 +1,12 @@
 -- The tree that is built of a list, as a leaf or as a root over children, with the sizes that the builder uses.
-use Rattle.std.proofs.Common.{◌≡◌, ℕ, zero, suc, ◌+◌, ◌*◌, ◌-◌, ◌^◌, ◌<◌, ◌≤◌, List, [], ◌∷◌, length, map, refl, sym, ap, subst, ◌∙◌, arith}
+use Rattle.std.proofs.Common.{◌≡◌, ℕ, zero, suc, ◌+◌, ◌*◌, ◌-◌, ◌^◌, ◌<◌, ◌≤◌, List, [], ◌∷◌, length, map, refl, sym, ap, ◌∙◌, arith}
 use Rattle.std.proofs.Common.{⊎_elim}
 use Rattle.std.proofs.lemmas.Bool.{cases_lt}
 use Rattle.std.proofs.lemmas.List.{length-map}
 use Rattle.std.proofs.Math.Nat.{pow-zero, mul-le-mul_left}
 use Rattle.rkyv_btree_base.specs.Logarithm.{ilog, ilog_up_to}
 use Rattle.rkyv_btree_base.specs.Plan.{plan, planned_alone, row_plan}
-use Rattle.rkyv_btree_base.specs.Tree.{leaf, inner, Child, child}
+use Rattle.rkyv_btree_base.specs.Tree.{leaf, inner, child}
 use Rattle.rkyv_btree_base.proofs.Bounds.{pow_one, pow_up, pow_positive, pow_grows}
 use Rattle.rkyv_btree_base.proofs.Logs.{ilog_is, ilog_bounds}
 use Rattle.rkyv_btree_base.proofs.Recursion.{plan_is_recursive}

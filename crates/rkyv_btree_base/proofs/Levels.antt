@@ -180,9 +180,6 @@ levels_filled E e (suc g) l (child (inner row)) s h =
 
 -- ---- the last level in the two forms
 
-abbrev leaf_of : {X : Type 0} → List X → Child X
-leaf_of xs = child (leaf xs)
-
 free_filled : (X : Type 0) (E n : ℕ) → FilledBy E 0 (replicate {A = Child X} n absent)
 free_filled X E zero = refl
 free_filled X E (suc n) = let z : 0 - E ≡ 0 = omega arith in (omega arith, rw z (free_filled X E n))

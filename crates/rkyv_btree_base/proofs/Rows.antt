@@ -1,5 +1,5 @@
 -- A node's children, one after another.
-use Rattle.std.proofs.Common.{◌≡◌, ℕ, suc, zero, ◌+◌, ◌*◌, ◌-◌, ◌^◌, ◌<◌, ◌≤◌, min, List, [], ◌∷◌, ◌++◌, length, map, take, drop, get_or, refl, ap, sym, subst, ◌∙◌, arith, Option, Some, false, nat_eq}
+use Rattle.std.proofs.Common.{◌≡◌, ℕ, suc, zero, ◌+◌, ◌*◌, ◌-◌, ◌<◌, ◌≤◌, min, List, [], ◌∷◌, ◌++◌, length, map, take, drop, get_or, ap, sym, subst, ◌∙◌, arith, Option, Some, false, nat_eq}
 use Rattle.std.proofs.lemmas.List.{append_assoc, append-nil, length-map, length-drop, drop_more, drop-drop, take-map, drop-map, get_or-map, get_or-drop, drop-append-le, take-append-le, take_rest, length_push}
 use Rattle.std.proofs.lemmas.Bool.Decides.{nat_tests}
 use Rattle.rkyv_btree_base.specs.declared.fault.Fault.{Fault}
@@ -21,9 +21,6 @@ pub record RowSoFar (X : Type 0) (e : Shape) (whole : Row OwnBytes) (s0 : Writin
   pub end : row_end e (position s) row ≡ row_end e (position s0) whole
   pub entries : row_entries whole ≡ xs ++ row_entries row
   pub roots : row_roots e (position s0) whole ≡ qs ++ row_roots e (position s) row
-
-pub row-start : (X : Type 0) (e : Shape) (whole : Row OwnBytes) (s : Writing) → RowSoFar X e whole s whole s [] []
-row-start X e whole s = record { wrote = λ t h. h; stopped = λ fault t h. h; end = refl; entries = refl; roots = refl }
 
 pub row-more : {X : Type 0} {e : Shape} {whole : Row OwnBytes} {s0 s u : Writing} {c : Child OwnBytes} {x : OwnBytes} {row : Row OwnBytes} {xs : List OwnBytes} {qs : List (Option ℕ)} {at : Option ℕ} →
     RowSoFar X e whole s0 (step c x row) s xs qs → ChildWritten e s c at u → RowSoFar X e whole s0 row u (xs ++ x ∷ []) (qs ++ at ∷ [])

@@ -1,16 +1,15 @@
 -- A buffer that holds the writes of a tree spells the tree.
-use Rattle.std.proofs.Common.{◌≡◌, ℕ, ◌+◌, ◌*◌, ◌<◌, ◌≤◌, ◌∙◌, Bool, true, ◌&&◌, IsTrue, List, [], ◌∷◌, ◌++◌, length, map, refl, sym, ap, subst, arith, Option, Some, None}
+use Rattle.std.proofs.Common.{◌≡◌, ℕ, ◌+◌, ◌*◌, ◌<◌, ◌≤◌, ◌∙◌, Bool, true, ◌&&◌, IsTrue, List, [], ◌∷◌, ◌++◌, length, refl, sym, ap, subst, arith, Option, Some, None}
 use Rattle.std.proofs.lemmas.Bool.Decides.{nat_tests}
 use Rattle.std.proofs.lemmas.List.{length-append, length-map}
 use Rattle.rkyv_btree_base.specs.Bytes.{Holds}
-use Rattle.rkyv_btree_base.specs.Image.{padding, leaf_bytes, leaf_image, pointers, pointers_reach, inner_bytes, inner_write, inner_image, entry_bytes, tree_end, row_end, child_end, tree_root, child_root, row_roots, tree_image, row_image, child_image}
+use Rattle.rkyv_btree_base.specs.Image.{padding, leaf_bytes, pointers, pointers_reach, inner_bytes, inner_write, inner_image, entry_bytes, tree_end, row_end, child_end, tree_root, child_root, row_roots, tree_image, row_image, child_image}
 use Rattle.rkyv_btree_base.specs.InPlace.{OwnBytes, AreOwn, entry_of}
 use Rattle.rkyv_btree_base.specs.Kind.{Kind, IsLawful}
 use Rattle.rkyv_btree_base.specs.Layout.{Shape, shape, are_fitting, align, len_at, pointer_at, leaf_size, inner_size}
 use Rattle.rkyv_btree_base.specs.Pointers.{FitsOffset, pointer, no_pointer, offset_fits}
 use Rattle.rkyv_btree_base.specs.Rounding.{round_up, le-round_up, round_up-aligned, alignment_positive}
 use Rattle.rkyv_btree_base.specs.Spells.{Entries, root_size, Spells, SpellsRow, SpellsChild}
-use Rattle.rkyv_btree_base.specs.Standing.{IsAligned}
 use Rattle.rkyv_btree_base.specs.Tree.{Tree, leaf, inner, Row, last, step, Child, absent, child, list, row_list, child_list, row_entries, HasShape, RowHasShape, ChildHasShape}
 use Rattle.rkyv_btree_base.specs.Writing.{Write, appended, AllReach}
 use Rattle.rkyv_btree_base.specs.laws.Sizes.{room_of}

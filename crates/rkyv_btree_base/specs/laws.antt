@@ -2,7 +2,6 @@ pub mod Check
 pub mod Complete
 pub mod Local
 pub mod MapLaws
-pub mod Places
 pub mod Readings
 pub mod Results
 pub mod Root

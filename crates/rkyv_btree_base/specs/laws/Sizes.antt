@@ -1,9 +1,9 @@
 -- How the parts of a node follow one another.
-use Rattle.std.proofs.Common.{◌≡◌, ℕ, ◌+◌, ◌*◌, ◌≤◌, ◌<◌, ◌^◌, ◌&&◌, Bool, true, false, IsTrue, nat_le, refl, arith}
+use Rattle.std.proofs.Common.{◌≡◌, ℕ, ◌+◌, ◌*◌, ◌≤◌, ◌<◌, ◌&&◌, Bool, true, false, IsTrue, nat_le, refl, arith}
 use Rattle.std.proofs.lemmas.Bool.Decides.{nat_tests}
 use Rattle.std.proofs.Math.Nat.{mul-le-mul_right}
 use Rattle.rkyv_btree_base.specs.Kind.{Kind, IsLawful}
-use Rattle.rkyv_btree_base.specs.Layout.{shape, Shape, are_fitting, keys_at, values_at, node_align, node_size, align, len_at, leaf_size, inner_size, key_at, value_at, pointer_at}
+use Rattle.rkyv_btree_base.specs.Layout.{shape, Shape, are_fitting, keys_at, values_at, node_align, node_size, align, len_at, leaf_size, inner_size, key_at, value_at}
 use Rattle.rkyv_btree_base.specs.Rounding.{alignment_positive, le-round_up, round_up_mono, round_up-aligned}
 
 -- what `are_fitting` tests
@@ -76,15 +76,9 @@ value_inside s i fits h =
     let m : i * s.value_size ≤ s.capacity * s.value_size = mul-le-mul_right s.value_size (omega arith) in
     omega arith
 
-pub pointer_inside : (s : Shape) (i : ℕ) → IsSound s → i ≤ s.capacity → pointer_at s i + 4 ≤ inner_size s
-pointer_inside s i fits h = let f = follow s fits in omega arith
-
--- a node takes a byte at least, and has less than 2 ^ 30 entries
+-- a node takes a byte at least
 pub leaf_some : (s : Shape) → IsSound s → 1 ≤ leaf_size s
 leaf_some s fits = let f = follow s fits in omega arith
-
-pub capacity_small : (s : Shape) → IsSound s → s.capacity < 2 ^ 30
-capacity_small s fits = let f = follow s fits in omega arith
 
 -- what is known of nodes that fit, in numbers
 pub record Room (K V : Kind) (E : ℕ) : Type 0 where

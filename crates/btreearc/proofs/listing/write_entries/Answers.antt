@@ -1,8 +1,5 @@
-use Rattle.std.proofs.Common.{◌≡◌, ◌++◌, [], ◌∷◌, ◌∙◌, map, ap, string_bytes, append_assoc}
+use Rattle.std.proofs.Common.{◌++◌, [], ◌∷◌}
 use Rattle.std.proofs.iter.Next.{Yields-more}
-use Rattle.std.proofs.lemmas.List.{map_push}
-use Rattle.rkyv_btree_base.specs.Plain.{u32_kind}
-use Rattle.btreearc.specs.Grammar.{text_of}
 use Rattle.btreearc.proofs.Listed.{text_more}
 use Rattle.btreearc.proofs.listing.write_entries.Goals as goal
 

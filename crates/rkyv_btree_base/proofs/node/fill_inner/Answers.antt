@@ -1,4 +1,4 @@
-use Rattle.std.proofs.Common.{◌∙◌, ◌+◌, ◌*◌, ◌≡◌, ◌&&◌, true, ap, sym, map, arith}
+use Rattle.std.proofs.Common.{◌∙◌, ◌+◌, ◌*◌, ◌&&◌, true, ap, sym, map, arith}
 use Rattle.rkyv_btree_base.specs.Layout.{shape, len_at}
 use Rattle.rkyv_btree_base.specs.Serialising.{own_of}
 use Rattle.rkyv_btree_base.specs.laws.Sizes.{room_of}

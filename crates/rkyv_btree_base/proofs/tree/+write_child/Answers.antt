@@ -1,17 +1,15 @@
-use Rattle.std.proofs.Common.{◌≡◌, ◌+◌, ◌*◌, ◌-◌, ◌≤◌, ◌<◌, ◌∙◌, [], ◌∷◌, ◌++◌, length, map, drop, take, arith, Some, refl, ap, sym, subst}
+use Rattle.std.proofs.Common.{◌≡◌, ◌+◌, ◌*◌, ◌-◌, ◌≤◌, ◌<◌, ◌∙◌, [], ◌∷◌, ◌++◌, length, map, drop, take, arith, Some, ap, sym, subst}
 use Rattle.std.proofs.lemmas.List.{length-take, length-drop, map_push, take_rest}
 use Rattle.std.proofs.lemmas.Result.{err_from_is_err_and}
-use Rattle.std.proofs.Math.Nat.{mul-le-mul_left}
 use mathlib.Core.List.{not-mem-nil}
 use Rattle.rkyv_btree_base.specs.Image.{child_image}
 use Rattle.rkyv_btree_base.specs.Layout.{shape}
-use Rattle.rkyv_btree_base.specs.Logarithm.{ilog}
 use Rattle.rkyv_btree_base.specs.Plan.{planned_alone}
 use Rattle.rkyv_btree_base.specs.Serialising.{own_of, ChildWritten}
 use Rattle.rkyv_btree_base.specs.Writing.{position, Stopped}
 use Rattle.rkyv_btree_base.specs.laws.Sizes.{room_of}
 use Rattle.rkyv_btree_base.proofs.Alone.{alone_leaf, alone_inner, waiting}
-use Rattle.rkyv_btree_base.proofs.Rows.{row-start, row-more, row-stopped, last-stopped, inner-stopped, inner-written, turn-so-far, last-so-far, so-far-as, turn-inside, turn-rest, drop-push, take-push, length-pushed, not-empty, child_small, less_on_last, some_item, last_rest, last_fits}
+use Rattle.rkyv_btree_base.proofs.Rows.{row-more, row-stopped, last-stopped, inner-stopped, inner-written, turn-so-far, last-so-far, so-far-as, turn-inside, turn-rest, drop-push, take-push, length-pushed, not-empty, child_small, less_on_last, some_item, last_rest, last_fits}
 use Rattle.rkyv_btree_base.proofs.tree.+write_child.Goals as goal
 
 pub write_leaf-requires-clause-room : goal.write_leaf-requires-clause-room
@@ -259,8 +257,7 @@ write_child-requires g t c κs within =
     let part = take size (drop start items) in
     let len : length part ≡ (base - 1) + took = omega (arith, length-take size (drop start items), length-drop start items, inside, size_is) in
     let small : length part < base * (E + 1) = subst (λ n. n < base * (E + 1)) (sym len) (child_small base E c.loop-left.on_last took c.min-taken.ensures c.child_base-base.ensures.positive) in
-    let wait = waiting E (length items) (length part) base room.some c.if-items.false c.child_base-base.ensures.value small in
-    (
+    let wait = waiting E (length items) (length part) base room.some c.if-items.false c.child_base-base.ensures.value small in (
       omega (arith, len, inside),
       (
         within.0,
@@ -319,8 +316,7 @@ write_child-requires-2 g t c κs within =
     let len : length part ≡ length items - start = omega (arith, length-take (length items - start) (drop start items), length-drop start items) in
     let passed : 0 < start = omega (arith, before.passed, c.loop-left-test.false, room.some) in
     let small : length part < base * (E + 1) = omega (arith, len, rest, fits, c.child_base-base.ensures.positive) in
-    let wait = waiting E (length items) (length part) base room.some c.if-items.false c.child_base-base.ensures.value small in
-    (
+    let wait = waiting E (length items) (length part) base room.some c.if-items.false c.child_base-base.ensures.value small in (
       omega (arith, len, passed),
       (
         within.0,

@@ -1,4 +1,4 @@
-use Rattle.std.proofs.Common.{arith, ap, ◌∙◌, ◌^◌, ◌*◌, ◌+◌}
+use Rattle.std.proofs.Common.{arith, ap, ◌*◌, ◌+◌}
 use Rattle.rkyv_btree_base.proofs.Alone.{base_of}
 use Rattle.rkyv_btree_base.proofs.tree.child_base.Goals as goal
 

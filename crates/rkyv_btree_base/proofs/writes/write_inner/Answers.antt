@@ -3,7 +3,7 @@ use Rattle.rkyv_btree_base.specs.Image.{padding, inner_write}
 use Rattle.rkyv_btree_base.specs.Layout.{shape, align}
 use Rattle.rkyv_btree_base.specs.Rounding.{round_up}
 use Rattle.rkyv_btree_base.specs.Serialising.{own_of}
-use Rattle.rkyv_btree_base.specs.Writing.{Appended, Write, Wrote, position}
+use Rattle.rkyv_btree_base.specs.Writing.{Appended, Wrote, position}
 use Rattle.rkyv_btree_base.proofs.WriteRuns.{wrote-both, wrote-one}
 use Rattle.rkyv_btree_base.proofs.writes.write_inner.Goals as goal
 
