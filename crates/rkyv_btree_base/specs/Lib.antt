@@ -24,4 +24,5 @@ pub mod Serialising
 pub mod Archives
 pub mod Refusing
 pub mod Faults
+pub mod Entry
 pub mod Claims

@@ -1,5 +1,6 @@
 pub mod Check
 pub mod Complete
+pub mod EntryLaws
 pub mod Local
 pub mod MapLaws
 pub mod Readings

@@ -17,5 +17,6 @@ pub mod steps;
 #[cfg(test)]
 mod tests;
 mod tree;
+pub mod util;
 pub mod verify;
 mod writes;

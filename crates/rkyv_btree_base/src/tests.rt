@@ -12,6 +12,7 @@ use crate::numbers::{ArchivedU16, ArchivedU32, ArchivedU64};
 use crate::place::{Place, RelPtr, VecWriter, Writer};
 use crate::refusal::{EntriesLengthMismatch, InvalidLength, Refusal};
 use crate::signed::{ArchivedI16, ArchivedI32, ArchivedI64};
+use crate::util::{Entry, EntryAdapter, EntryResolver, value_offset};
 use std::alloc::{AllocError, Global};
 use std::process::Abort;
 use std::test::Fail;
@@ -590,6 +591,83 @@ fn values_are_checked_by_themselves(rt: HostRuntime) {
     let past = Refusal::OutOfRange { pos: 6 };
     assert_eq!(rt; ArchivedI32::check(&bytes, 6, window), Err(past));
     assert_eq!(rt; ArchivedI16::check(&bytes, 6, window), Ok(window));
+}
+
+type Flagged = Entry<ArchivedU32, bool>;
+
+#[test]
+fn entries_are_laid_out_as_in_c(rt: HostRuntime) {
+    assert!(rt; Entry::<u8, ArchivedU32>::fits());
+    assert_eq!(rt; Entry::<u8, ArchivedU32>::size(), 8);
+    assert_eq!(rt; Entry::<u8, ArchivedU32>::align(), 4);
+    assert_eq!(rt; value_offset::<u8, ArchivedU32>(), 4);
+    assert!(rt; Flagged::fits());
+    assert_eq!(rt; Flagged::size(), 8);
+    assert_eq!(rt; value_offset::<ArchivedU32, bool>(), 4);
+    assert!(rt; Entry::<bool, Flagged>::fits());
+    assert_eq!(rt; Entry::<bool, Flagged>::size(), 12);
+    assert_eq!(rt; value_offset::<bool, Flagged>(), 4);
+}
+
+#[test]
+fn entries_are_checked_by_themselves(rt: HostRuntime) {
+    let bytes = [7, 9, 9, 9, 1, 0, 0, 0, 2, 9, 9, 9, 2];
+    let window = Window { lo: 0, hi: 0 };
+    assert!(rt; Entry::<u8, ArchivedU32>::fits());
+    let numbers = |pos| Entry::<u8, ArchivedU32>::check(&bytes, pos, window);
+    assert_eq!(rt; numbers(0), Ok(window));
+    assert_eq!(rt; numbers(4), Ok(window));
+    assert_eq!(rt; numbers(2), Err(Refusal::Misaligned { pos: 2 }));
+    assert_eq!(rt; numbers(5), Err(Refusal::Misaligned { pos: 5 }));
+    assert_eq!(rt; numbers(6), Err(Refusal::OutOfRange { pos: 6 }));
+    assert_eq!(rt; numbers(8), Err(Refusal::OutOfRange { pos: 8 }));
+    assert!(rt; Flagged::fits());
+    let flagged = |pos| Flagged::check(&bytes, pos, window);
+    assert_eq!(rt; flagged(0), Ok(window));
+    assert_eq!(rt; flagged(4), Err(Refusal::BadEntry { pos: 8 }));
+    assert!(rt; Entry::<bool, bool>::fits());
+    let flags = |pos| Entry::<bool, bool>::check(&bytes, pos, window);
+    assert_eq!(rt; flags(5), Ok(window));
+    assert_eq!(rt; flags(7), Err(Refusal::BadEntry { pos: 8 }));
+    assert_eq!(rt; flags(8), Err(Refusal::BadEntry { pos: 8 }));
+    assert_eq!(rt; flags(12), Err(Refusal::OutOfRange { pos: 12 }));
+}
+
+#[test]
+fn a_part_of_a_part_is_refused_at_the_part(rt: HostRuntime) {
+    let bytes = [1, 0, 0, 0, 7, 0, 0, 0, 2, 0, 0, 0];
+    let window = Window { lo: 0, hi: 0 };
+    assert!(rt; Entry::<bool, Flagged>::fits());
+    let refused = Entry::<bool, Flagged>::check(&bytes, 0, window);
+    assert_eq!(rt; refused, Err(Refusal::BadEntry { pos: 4 }));
+}
+
+#[test]
+fn entries_compare_key_first(rt: HostRuntime) {
+    let entry = |key: u8, value: u8| Entry { key, value };
+    assert!(rt; entry(1, 9) < entry(2, 0));
+    assert!(rt; entry(1, 1) < entry(1, 2));
+    assert!(rt; entry(1, 1) == entry(1, 1));
+    assert!(rt; entry(1, 1) != entry(2, 1));
+    assert!(rt; entry(1, 1) != entry(1, 2));
+}
+
+#[test]
+fn parts_of_entries_have_names(rt: HostRuntime) -> Result<(), Fail> {
+    let told = format!(in rt.alloc();
+        "{:?}",
+        Entry {
+            key: 1u8,
+            value: true
+        }
+    )?;
+    assert_eq!(rt; told.as_str(), "Entry { key: 1, value: true }");
+    let (key, value) = (1u8, true);
+    let adapter = EntryAdapter::new(&key, &value);
+    assert_eq!(rt; (*adapter.key, *adapter.value), (1, true));
+    let resolver = EntryResolver { key, value };
+    assert_eq!(rt; (resolver.key, resolver.value), (1, true));
+    Ok(())
 }
 
 #[test]
