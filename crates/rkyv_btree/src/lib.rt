@@ -3,6 +3,8 @@
 
 pub use rkyv_btree_base as base;
 
+pub mod compare;
+pub mod entry;
 pub mod iter;
 pub mod map;
 #[cfg(test)]

@@ -1,8 +1,10 @@
 //! Values in a buffer.
 ghost use Rattle.std.specs.Prelude.{◌≡◌, ◌+◌, ◌≤◌, ℕ, length, IsTrue, IsOk, IfOk, IfErr, Err, List, ⊤};
 ghost use Rattle.rkyv_btree_base.specs.Bytes.{from_le, bytes_at};
+ghost use Rattle.rkyv_btree_base.specs.Plain.{u8_kind, i8_kind, bool_kind, u16_kind, i16_kind, u32_kind, i32_kind, u64_kind, i64_kind};
 ghost use Rattle.rkyv_btree_base.specs.Views.{stands, MeansAt};
 ghost use Rattle.rkyv_btree_base.specs.declared.refusal.Refusal.{Refusal};
+ghost use Rattle.rkyv_btree.specs.Native.{ReadAs, as_itself};
 
 use rkyv_btree_base::bytes::num32;
 use rkyv_btree_base::check::{CheckBytes, Portable, Window};
@@ -10,6 +12,7 @@ use rkyv_btree_base::numbers::{ArchivedU16, ArchivedU32, ArchivedU64};
 use rkyv_btree_base::refusal::Refusal;
 use rkyv_btree_base::signed::{ArchivedI16, ArchivedI32, ArchivedI64};
 use std::alloc::AllocError;
+use std::hash::Hash;
 use std::marker::PhantomData;
 
 /// The value of `T` at position `pos` of `buf`, where the bytes mean one. All calls read in place: nothing is copied,
@@ -83,87 +86,139 @@ impl<'a, T: Portable> Shows<'a, T> for View<'a, T> {
     }
 }
 
-impl View<'_, u8> {
-    /// The number at the view's position.
-    pub fn to_native(self) -> u8
-        ensures { result ≡ ⟦<u8 as Portable>⟧.kind.read self.entry.buf.now self.entry.pos }
+/// An archived type whose values are native ones, and are compared, ordered and hashed as these.
+pub trait ToNative: Portable {
+    /// The type of the values as the program has them.
+    type Native: Ord + Hash + Copy;
+
+    /// The native value that is read at a position of a buffer.
+    ghost read_native: { List ℕ → ℕ → Self.Native };
+
+    /// The native value at the view's position.
+    fn native(view: &View<'_, Self>) -> Self::Native
+        ensures { result ≡ read_native view.now.buf.now view.now.pos };
+
+    ghost reads: { ReadAs Self.kind read_native Self.Native.eq Self.Native.cmp Self.Native.hash_input };
+}
+
+impl<T: ToNative> View<'_, T> {
+    /// The native value at the view's position: a number of so many bytes, the least first, in two's complement where it
+    /// has a sign.
+    pub fn to_native(self) -> T::Native
+        ensures { result ≡ T.read_native self.entry.buf.now self.entry.pos }
     {
-        self.buf[self.pos as usize]
+        T::native(&self)
     }
 }
 
-impl View<'_, i8> {
-    /// The number at the view's position, in two's complement.
-    pub fn to_native(self) -> i8
-        ensures { result ≡ ⟦<i8 as Portable>⟧.kind.read self.entry.buf.now self.entry.pos }
-    {
-        self.buf[self.pos as usize].cast_signed()
+impl ToNative for u8 {
+    type Native = u8;
+
+    ghost read_native = { u8_kind.read };
+
+    fn native(view: &View<'_, u8>) -> u8 {
+        view.buf[view.pos as usize]
     }
+
+    ghost reads = { as_itself u8_kind };
 }
 
-impl View<'_, bool> {
-    /// Whether the byte at the view's position is 1. It is 0 or 1.
-    pub fn to_native(self) -> bool
-        ensures { result ≡ ⟦<bool as Portable>⟧.kind.read self.entry.buf.now self.entry.pos }
-    {
-        self.buf[self.pos as usize] == 1
+impl ToNative for i8 {
+    type Native = i8;
+
+    ghost read_native = { i8_kind.read };
+
+    fn native(view: &View<'_, i8>) -> i8 {
+        view.buf[view.pos as usize].cast_signed()
     }
+
+    ghost reads = { as_itself i8_kind };
 }
 
-impl View<'_, ArchivedU16> {
-    /// The number of the two bytes from the view's position on, the least first.
-    pub fn to_native(self) -> u16
-        ensures { result ≡ ⟦<ArchivedU16 as Portable>⟧.kind.read self.entry.buf.now self.entry.pos }
-    {
-        num16(self.buf, self.pos)
+impl ToNative for bool {
+    type Native = bool;
+
+    ghost read_native = { bool_kind.read };
+
+    fn native(view: &View<'_, bool>) -> bool {
+        view.buf[view.pos as usize] == 1
     }
+
+    ghost reads = { as_itself bool_kind };
 }
 
-impl View<'_, ArchivedI16> {
-    /// That number in two's complement.
-    pub fn to_native(self) -> i16
-        ensures { result ≡ ⟦<ArchivedI16 as Portable>⟧.kind.read self.entry.buf.now self.entry.pos }
-    {
-        num16(self.buf, self.pos).cast_signed()
+impl ToNative for ArchivedU16 {
+    type Native = u16;
+
+    ghost read_native = { u16_kind.read };
+
+    fn native(view: &View<'_, ArchivedU16>) -> u16 {
+        num16(view.buf, view.pos)
     }
+
+    ghost reads = { as_itself u16_kind };
 }
 
-impl View<'_, ArchivedU32> {
-    /// The number of the four bytes from the view's position on, the least first.
+impl ToNative for ArchivedI16 {
+    type Native = i16;
+
+    ghost read_native = { i16_kind.read };
+
+    fn native(view: &View<'_, ArchivedI16>) -> i16 {
+        num16(view.buf, view.pos).cast_signed()
+    }
+
+    ghost reads = { as_itself i16_kind };
+}
+
+impl ToNative for ArchivedU32 {
+    type Native = u32;
+
+    ghost read_native = { u32_kind.read };
+
     #[tactic(auto, unfolding(rkyv_btree_base::specs::Bytes::number_at))]
-    pub fn to_native(self) -> u32
-        ensures { result ≡ ⟦<ArchivedU32 as Portable>⟧.kind.read self.entry.buf.now self.entry.pos }
-    {
-        num32(self.buf, self.pos)
+    fn native(view: &View<'_, ArchivedU32>) -> u32 {
+        num32(view.buf, view.pos)
     }
+
+    ghost reads = { as_itself u32_kind };
 }
 
-impl View<'_, ArchivedI32> {
-    /// That number in two's complement.
+impl ToNative for ArchivedI32 {
+    type Native = i32;
+
+    ghost read_native = { i32_kind.read };
+
     #[tactic(auto, unfolding(rkyv_btree_base::specs::Bytes::number_at))]
-    pub fn to_native(self) -> i32
-        ensures { result ≡ ⟦<ArchivedI32 as Portable>⟧.kind.read self.entry.buf.now self.entry.pos }
-    {
-        num32(self.buf, self.pos).cast_signed()
+    fn native(view: &View<'_, ArchivedI32>) -> i32 {
+        num32(view.buf, view.pos).cast_signed()
     }
+
+    ghost reads = { as_itself i32_kind };
 }
 
-impl View<'_, ArchivedU64> {
-    /// The number of the eight bytes from the view's position on, the least first.
-    pub fn to_native(self) -> u64
-        ensures { result ≡ ⟦<ArchivedU64 as Portable>⟧.kind.read self.entry.buf.now self.entry.pos }
-    {
-        num64(self.buf, self.pos)
+impl ToNative for ArchivedU64 {
+    type Native = u64;
+
+    ghost read_native = { u64_kind.read };
+
+    fn native(view: &View<'_, ArchivedU64>) -> u64 {
+        num64(view.buf, view.pos)
     }
+
+    ghost reads = { as_itself u64_kind };
 }
 
-impl View<'_, ArchivedI64> {
-    /// That number in two's complement.
-    pub fn to_native(self) -> i64
-        ensures { result ≡ ⟦<ArchivedI64 as Portable>⟧.kind.read self.entry.buf.now self.entry.pos }
-    {
-        num64(self.buf, self.pos).cast_signed()
+impl ToNative for ArchivedI64 {
+    type Native = i64;
+
+    ghost read_native = { i64_kind.read };
+
+    fn native(view: &View<'_, ArchivedI64>) -> i64 {
+        num64(view.buf, view.pos).cast_signed()
     }
+
+    ghost reads = { as_itself i64_kind };
 }
 
 /// The number of the two bytes at `pos`.

@@ -23,7 +23,7 @@ pub struct EntryResolver<K, V> {
 }
 
 /// A key with its value, by references.
-#[derive(Drop)]
+#[derive_where(Clone, Copy)]
 pub struct EntryAdapter<'r, K, V> {
     pub key: &'r K,
     pub value: &'r V,
