@@ -12,6 +12,7 @@ use rkyv_btree_base::numbers::{ArchivedU16, ArchivedU32, ArchivedU64};
 use rkyv_btree_base::refusal::Refusal;
 use rkyv_btree_base::signed::{ArchivedI16, ArchivedI32, ArchivedI64};
 use std::alloc::AllocError;
+use std::fmt::Debug;
 use std::hash::Hash;
 use std::marker::PhantomData;
 
@@ -89,7 +90,7 @@ impl<'a, T: Portable> Shows<'a, T> for View<'a, T> {
 /// An archived type whose values are native ones, and are compared, ordered and hashed as these.
 pub trait ToNative: Portable {
     /// The type of the values as the program has them.
-    type Native: Ord + Hash + Copy;
+    type Native: Copy + Debug + Ord + Hash;
 
     /// The native value that is read at a position of a buffer.
     ghost read_native: { List ℕ → ℕ → Self.Native };
