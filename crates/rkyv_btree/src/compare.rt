@@ -6,7 +6,8 @@ ghost use Rattle.std.specs.Prelude.{◌≡◌, IsTrue, Some};
 ghost use Rattle.std.proofs.Common.{rules};
 ghost use Rattle.rkyv_btree.specs.laws.Comparing.{native_equivalence, native_total, native_matches, native_respects, views_order};
 
-use crate::view::{ToNative, View};
+use crate::native::ToNative;
+use crate::view::View;
 use rkyv_btree_base::check::Portable;
 use rkyv_btree_base::util::Entry;
 use std::cmp::Ordering;

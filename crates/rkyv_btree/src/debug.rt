@@ -1,6 +1,7 @@
 //! Views in messages, as what they read.
 
-use crate::view::{ToNative, View};
+use crate::native::ToNative;
+use crate::view::View;
 use rkyv_btree_base::check::Portable;
 use rkyv_btree_base::util::Entry;
 use std::fmt;

@@ -8,6 +8,7 @@ pub mod debug;
 pub mod entry;
 pub mod iter;
 pub mod map;
+pub mod native;
 #[cfg(test)]
 mod tests;
 pub mod view;

@@ -1,5 +1,5 @@
 -- A key with its value as an archived type: the key, then the value, as C lays them out.
-use Rattle.std.specs.Prelude.{◌≡◌, ℕ, ◌+◌, ◌%◌, ◌^◌, ◌&&◌, ◌++◌, List, length, Option, Some, None, nat_eq, nat_lt, if◌then◌else◌}
+use Rattle.std.specs.Prelude.{ℕ, ◌+◌, ◌%◌, ◌^◌, ◌&&◌, ◌++◌, List, length, Option, Some, None, nat_eq, nat_lt, if◌then◌else◌}
 use Rattle.std.specs.Ordering.{ordering_then}
 use Rattle.std.proofs.Common.{max}
 use Rattle.rkyv_btree_base.specs.declared.refusal.Refusal.{Refusal}

@@ -1,14 +1,13 @@
 -- What entries owe as an archived type.
-use Rattle.std.proofs.lemmas.Bool.Decides.{nat_tests}
 use Rattle.std.specs.Prelude.{◌≡◌, ℕ, ◌+◌, ◌%◌, ◌^◌, ◌&&◌, ◌≤◌, ◌<◌, Bool, true, false, IsTrue, List, length, Option, Some, None, nat_eq, nat_lt}
 use Rattle.std.proofs.Common.{arith, refl, sym, ap, subst, ◌∙◌, ◌⊎◌, inl, inr}
+use Rattle.std.proofs.lemmas.Bool.Decides.{nat_tests}
 use Rattle.std.proofs.lemmas.Bool.{eqb-true, ltb-false, eq-eqb, le-ltb}
 use Rattle.rkyv_btree_base.specs.declared.refusal.Refusal.{Refusal}
-use Rattle.rkyv_btree_base.specs.declared.refusal.Refusal.TheVariants.{BadEntry}
 use Rattle.rkyv_btree_base.specs.Entry.{value_offset, entry_align, entry_size, MeansParts, MeansEntry, value_leaves, entry_leaves, RefusesEntry, misplaced_entry, bad_key, bad_value, entry_kind}
 use Rattle.rkyv_btree_base.specs.Kind.{Kind, IsLawful}
 use Rattle.rkyv_btree_base.specs.Plain.{chosen}
-use Rattle.rkyv_btree_base.specs.Refusing.{AreRefusals, HasPlace, Misplaced, MeansNothing}
+use Rattle.rkyv_btree_base.specs.Refusing.{AreRefusals, HasPlace, MeansNothing}
 use Rattle.rkyv_btree_base.specs.Rounding.{max_alignment, alignment_positive, le-round_up, round_up-aligned}
 use Rattle.rkyv_btree_base.specs.Standing.{SameBytes, same_within}
 use Rattle.rkyv_btree_base.specs.Views.{stands, stands_of, means_read, fitting_of}
