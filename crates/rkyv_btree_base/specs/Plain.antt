@@ -1,11 +1,13 @@
 -- Values whose meaning lies in their own bytes.
-use Rattle.std.specs.Prelude.{◌≡◌, ℕ, ℤ, ◌+◌, ◌%◌, ◌≤◌, ◌<◌, ◌^◌, Bool, true, false, IsTrue, List, length, Some, None, nat_eq, nat_lt, if◌then◌else◌}
+use Rattle.std.specs.Prelude.{◌≡◌, ℕ, ℤ, ◌+◌, ◌%◌, ◌≤◌, ◌<◌, ◌^◌, Bool, true, false, IsTrue, List, [], length, Some, None, nat_eq, nat_lt, if◌then◌else◌}
 use Rattle.std.specs.Int.{Width, w8, w16, w32, w64, byte_len, cast_signed}
 use Rattle.std.specs.Ordering.{nat_cmp, int_eq, int_cmp, bool_cmp}
 use Rattle.std.specs.Hash as fed
 use Rattle.std.specs.declared.cmp.Ordering.{Ordering}
+use Rattle.std.specs.declared.cmp.Ordering.TheVariants.{Equal}
 use Rattle.std.proofs.Common.{arith, refl, sym, ap, subst, ◌∙◌, ◌⊎◌, inl, inr}
 use Rattle.std.proofs.Math.Bool.{beq}
+use Rattle.std.proofs.Math.Utf8.{scalar}
 use Rattle.std.proofs.lemmas.Bool.{eqb-true, ltb-false, eq-eqb, le-ltb}
 use Rattle.std.proofs.lemmas.List.{ext_get_or, length-take, length-drop, get_or-take, get_or-drop}
 use Rattle.rkyv_btree_base.specs.Bytes.{from_le, bytes_at}
@@ -51,18 +53,43 @@ plain_kind plain = record {
   hash_input = plain.hash_input;
 }
 
--- a little-endian number of so many bytes, aligned to its own size
-abbrev pub number : ℕ → (ℕ → List (List ℕ)) → Plain
-number size hash_input = record {
+-- no bytes, which are the one value
+abbrev pub nothing : Plain
+nothing = record {
+  Value = Unit {0};
+  size = 0;
+  align = 1;
+  is_value = λ bytes. true;
+  value = λ bytes. tt;
+  same = λ x y. true;
+  order = λ x y. Equal;
+  hash_input = λ x. [];
+}
+
+-- a little-endian number of so many bytes, aligned to its own size, of which some are values
+abbrev pub number_where : (ℕ → Bool) → ℕ → (ℕ → List (List ℕ)) → Plain
+number_where is_value size hash_input = record {
   Value = ℕ;
   size = size;
   align = size;
-  is_value = λ bytes. true;
+  is_value = λ bytes. is_value (from_le bytes);
   value = from_le;
   same = nat_eq;
   order = nat_cmp;
   hash_input = hash_input;
 }
+
+-- any such number
+abbrev pub number : ℕ → (ℕ → List (List ℕ)) → Plain
+number = number_where (λ n. true)
+
+-- a character: its code, which is at most 10FFFF in hexadecimal and none from D800 to DFFF
+abbrev pub character : Plain
+character = number_where scalar 4 fed.char
+
+-- a number other than 0
+abbrev pub non_zero : Plain
+non_zero = number_where (nat_lt 0) 4 fed.u32
 
 -- such a number in two's complement
 abbrev pub signed : Width → (ℤ → List (List ℕ)) → Plain
@@ -116,6 +143,15 @@ i64_kind = plain_kind (signed w64 fed.i64)
 
 abbrev pub bool_kind : Kind
 bool_kind = plain_kind boolean
+
+abbrev pub unit_kind : Kind
+unit_kind = plain_kind nothing
+
+abbrev pub char_kind : Kind
+char_kind = plain_kind character
+
+abbrev pub non_zero_kind : Kind
+non_zero_kind = plain_kind non_zero
 
 -- the same bytes at each place are the same list of bytes
 pub same_bytes_at : (buf other : List ℕ) (at size : ℕ) → at + size ≤ length buf → SameBytes buf other at (at + size) → bytes_at buf at size ≡ bytes_at other at size
@@ -201,3 +237,12 @@ i64_laws = plain_laws (signed w64 fed.i64) eight refl (omega arith)
 
 pub bool_laws : IsLawful bool_kind
 bool_laws = plain_laws boolean one refl (omega arith)
+
+pub unit_laws : IsLawful unit_kind
+unit_laws = plain_laws nothing one refl (omega arith)
+
+pub char_laws : IsLawful char_kind
+char_laws = plain_laws character four refl (omega arith)
+
+pub non_zero_laws : IsLawful non_zero_kind
+non_zero_laws = plain_laws non_zero four refl (omega arith)
