@@ -1,5 +1,6 @@
 //! Values in a buffer.
 ghost use Rattle.std.specs.Prelude.{◌≡◌, ◌+◌, ◌≤◌, ℕ, length, IsTrue, IsOk, IfOk, IfErr, Err, List, ⊤};
+ghost use Rattle.std.specs.Int.NonZero.{non_zero_u32_get};
 ghost use Rattle.rkyv_btree_base.specs.Bytes.{from_le, bytes_at};
 ghost use Rattle.rkyv_btree_base.specs.Views.{stands, MeansAt};
 ghost use Rattle.rkyv_btree_base.specs.declared.refusal.Refusal.{Refusal};
@@ -8,9 +9,13 @@ use rkyv_btree_base::bytes::num32;
 use rkyv_btree_base::check::{CheckBytes, Portable, Window};
 use rkyv_btree_base::numbers::{ArchivedU16, ArchivedU32, ArchivedU64};
 use rkyv_btree_base::refusal::Refusal;
+use rkyv_btree_base::scalars::{ArchivedChar, ArchivedNonZeroU32};
 use rkyv_btree_base::signed::{ArchivedI16, ArchivedI32, ArchivedI64};
+use rkyv_btree_base::text::{ArchivedText, text_range};
 use std::alloc::AllocError;
 use std::marker::PhantomData;
+use std::num::NonZeroU32;
+use std::str::from_utf8_unchecked;
 
 /// The value of `T` at position `pos` of `buf`, where the bytes mean one. All calls read in place: nothing is copied,
 /// and no memory is taken. A view is made by `View::check`, `access` or `access_valid`, or by a call on another view.
@@ -110,6 +115,13 @@ impl View<'_, bool> {
     }
 }
 
+impl View<'_, ()> {
+    /// The one value, which has no bytes.
+    pub fn to_native(self)
+        ensures { result ≡ ⟦<() as Portable>⟧.kind.read self.entry.buf.now self.entry.pos }
+    {}
+}
+
 impl View<'_, ArchivedU16> {
     /// The number of the two bytes from the view's position on, the least first.
     pub fn to_native(self) -> u16
@@ -163,6 +175,44 @@ impl View<'_, ArchivedI64> {
         ensures { result ≡ ⟦<ArchivedI64 as Portable>⟧.kind.read self.entry.buf.now self.entry.pos }
     {
         num64(self.buf, self.pos).cast_signed()
+    }
+}
+
+impl View<'_, ArchivedChar> {
+    /// The character of this code.
+    #[tactic(auto, unfolding(rkyv_btree_base::specs::Bytes::number_at))]
+    pub fn to_native(self) -> char
+        ensures { result ≡ ⟦<ArchivedChar as Portable>⟧.kind.read self.entry.buf.now self.entry.pos }
+    {
+        unsafe { char::from_u32_unchecked(num32(self.buf, self.pos)) }
+    }
+}
+
+impl View<'_, ArchivedNonZeroU32> {
+    /// The number of the four bytes from the view's position on, which isn't 0.
+    #[tactic(auto, unfolding(rkyv_btree_base::specs::Bytes::number_at))]
+    pub fn to_native(self) -> NonZeroU32
+        ensures { non_zero_u32_get result ≡ ⟦<ArchivedNonZeroU32 as Portable>⟧.kind.read self.entry.buf.now self.entry.pos }
+    {
+        unsafe { NonZeroU32::new_unchecked(num32(self.buf, self.pos)) }
+    }
+}
+
+impl<'a> View<'a, ArchivedText> {
+    /// The text, which stays in the buffer.
+    pub fn as_str(self) -> &'a str
+        ensures { result.now ≡ ⟦<ArchivedText as Portable>⟧.kind.read self.entry.buf.now self.entry.pos }
+    {
+        let before = Window {
+            lo: 0,
+            hi: self.pos,
+        };
+        match text_range(self.buf, self.pos, before) {
+            Some(text) => unsafe {
+                from_utf8_unchecked(&self.buf[text.lo as usize..text.hi as usize])
+            },
+            None => unreachable!(),
+        }
     }
 }
 
