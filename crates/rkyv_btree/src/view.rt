@@ -184,6 +184,7 @@ impl View<'_, ArchivedChar> {
     pub fn to_native(self) -> char
         ensures { result ≡ ⟦<ArchivedChar as Portable>⟧.kind.read self.entry.buf.now self.entry.pos }
     {
+        // No view stands on another code.
         unsafe { char::from_u32_unchecked(num32(self.buf, self.pos)) }
     }
 }
@@ -194,6 +195,7 @@ impl View<'_, ArchivedNonZeroU32> {
     pub fn to_native(self) -> NonZeroU32
         ensures { non_zero_u32_get result ≡ ⟦<ArchivedNonZeroU32 as Portable>⟧.kind.read self.entry.buf.now self.entry.pos }
     {
+        // No view stands on 0.
         unsafe { NonZeroU32::new_unchecked(num32(self.buf, self.pos)) }
     }
 }
@@ -207,6 +209,7 @@ impl<'a> View<'a, ArchivedText> {
             lo: 0,
             hi: self.pos,
         };
+        // A view stands on a text before it alone, and on UTF-8 alone.
         match text_range(self.buf, self.pos, before) {
             Some(text) => unsafe {
                 from_utf8_unchecked(&self.buf[text.lo as usize..text.hi as usize])

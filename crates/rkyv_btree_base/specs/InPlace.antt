@@ -41,8 +41,8 @@ abbrev pub own_bool : Bool → List ℕ
 own_bool true = 1 ∷ []
 own_bool false = 0 ∷ []
 
--- the own bytes of a character, which are those of its code, and of a number other than 0. A law ranges over numbers that
--- no `char` and no `NonZeroU32` has: they get the bytes of 0 and of 1.
+-- the own bytes of a character, those of its code, and of a number other than 0. A law also ranges over numbers that no
+-- `char` and no `NonZeroU32` has: they get the bytes of 0 and of 1.
 abbrev pub own_char : ℕ → List ℕ
 own_char c = to_le_bytes w32 (if scalar c then c else 0)
 

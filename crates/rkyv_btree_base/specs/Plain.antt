@@ -1,5 +1,5 @@
 -- Values whose meaning lies in their own bytes.
-use Rattle.std.specs.Prelude.{◌≡◌, ℕ, ℤ, ◌+◌, ◌%◌, ◌≤◌, ◌<◌, ◌^◌, Bool, true, false, IsTrue, List, [], length, Some, None, nat_eq, nat_lt, if◌then◌else◌}
+use Rattle.std.specs.Prelude.{◌≡◌, ℕ, ℤ, ◌+◌, ◌%◌, ◌≤◌, ◌<◌, ◌^◌, Bool, true, false, IsTrue, List, [], length, Option, Some, None, nat_eq, nat_lt, if◌then◌else◌}
 use Rattle.std.specs.Int.{Width, w8, w16, w32, w64, byte_len, cast_signed}
 use Rattle.std.specs.Ordering.{nat_cmp, int_eq, int_cmp, bool_cmp}
 use Rattle.std.specs.Hash as fed
@@ -12,6 +12,7 @@ use Rattle.std.proofs.lemmas.Bool.{eqb-true, ltb-false, eq-eqb, le-ltb}
 use Rattle.std.proofs.lemmas.List.{ext_get_or, length-take, length-drop, get_or-take, get_or-drop}
 use Rattle.rkyv_btree_base.specs.Bytes.{from_le, bytes_at}
 use Rattle.rkyv_btree_base.specs.Kind.{Kind, Leaves, IsLawful}
+use Rattle.rkyv_btree_base.specs.Refusing.{HasPlace}
 use Rattle.rkyv_btree_base.specs.Rounding.{IsAlignment, one, two, four, eight}
 use Rattle.rkyv_btree_base.specs.Standing.{IsAligned, Lies, SameBytes}
 
@@ -33,11 +34,15 @@ pub record MeansPlainly (plain : Plain) (buf : List ℕ) (lo hi at left : ℕ) (
   pub is_value : IsTrue (plain.is_value (bytes_at buf at plain.size))
   pub value : v ≡ plain.value (bytes_at buf at plain.size)
 
-abbrev pub plain_leaves : Plain → Leaves
-plain_leaves plain buf lo hi at =
+-- a decision for own bytes that lie in a buffer of at most 4294967295 bytes, aligned, and none for others
+abbrev pub if_placed : List ℕ → ℕ → ℕ → ℕ → Option ℕ → Option ℕ
+if_placed buf size align at left =
     if nat_lt 4294967295 (length buf) then None else
-    if nat_lt (length buf) (at + plain.size) then None else
-    if nat_eq (at % plain.align) 0 then (if plain.is_value (bytes_at buf at plain.size) then Some lo else None) else None
+    if nat_lt (length buf) (at + size) then None else
+    if nat_eq (at % align) 0 then left else None
+
+abbrev pub plain_leaves : Plain → Leaves
+plain_leaves plain buf lo hi at = if_placed buf plain.size plain.align at (if plain.is_value (bytes_at buf at plain.size) then Some lo else None)
 
 abbrev pub plain_kind : Plain → Kind
 plain_kind plain = record {
@@ -166,27 +171,37 @@ pub chosen : {X : Type 0} (b : Bool) (x y z : X) → (if b then x else y) ≡ z 
 chosen true x y z e = inl (refl, e)
 chosen false x y z e = inr (refl, e)
 
+-- what a test let through
+pub past : (b : Bool) (o : Option ℕ) (left : ℕ) → (if b then None else o) ≡ Some left → (b ≡ false) × (o ≡ Some left)
+past true o left e = absurd (cc e)
+past false o left e = (refl, e)
+
+pub through : (b : Bool) (o : Option ℕ) (left : ℕ) → (if b then o else None) ≡ Some left → (b ≡ true) × (o ≡ Some left)
+through true o left e = (refl, e)
+through false o left e = absurd (cc e)
+
+module _ (buf : List ℕ) (size align at : ℕ) (decided : Option ℕ) where
+  pub placed_found : (left : ℕ) → if_placed buf size align at decided ≡ Some left → HasPlace buf size align at × (decided ≡ Some left)
+  placed_found left e =
+      let short = past (nat_lt 4294967295 (length buf)) _ left e in
+      let room = past (nat_lt (length buf) (at + size)) _ left short.1 in
+      let aligned = through (nat_eq (at % align) 0) decided left room.1 in
+      (record { short = ltb-false 4294967295 (length buf) short.0; room = ltb-false (length buf) (at + size) room.0; aligned = eqb-true (at % align) 0 aligned.0 }, aligned.1)
+
+  pub placed_only : {lo hi left : ℕ} → Lies buf size align lo hi at left → if_placed buf size align at decided ≡ decided
+  placed_only l = rw (le-ltb 4294967295 (length buf) l.short, le-ltb (length buf) (at + size) l.inside, eq-eqb (at % align) 0 l.aligned) refl
+
 module _ (plain : Plain) where
   plain_found : (b : List ℕ) (lo hi at left : ℕ) → lo ≤ hi → hi ≤ at → plain_leaves plain b lo hi at ≡ Some left → (v : plain.Value) × MeansPlainly plain b lo hi at left v
   plain_found b lo hi at left window before e =
-      elim (chosen (nat_lt 4294967295 (length b)) _ _ (Some left) e) [
-        | inl g ↦ absurd (cc g.1)
-        | inr g ↦ elim (chosen (nat_lt (length b) (at + plain.size)) _ _ (Some left) g.1) [
-          | inl h ↦ absurd (cc h.1)
-          | inr h ↦ elim (chosen (nat_eq (at % plain.align) 0) _ _ (Some left) h.1) [
-            | inl k ↦ elim (chosen (plain.is_value (bytes_at b at plain.size)) _ _ (Some left) k.1) [
-              | inl m ↦
-                  let same : left ≡ lo = cc m.1 in
-                  (plain.value (bytes_at b at plain.size), record { lies = record { short = ltb-false 4294967295 (length b) g.0; inside = ltb-false (length b) (at + plain.size) h.0; aligned = eqb-true (at % plain.align) 0 k.0; forward = omega arith; kept = omega arith; before = before }; unmoved = same; is_value = m.0; value = refl })
-              | inr m ↦ absurd (cc m.1)
-            ]
-            | inr k ↦ absurd (cc k.1)
-          ]
-        ]
-      ]
+      let placed = placed_found b plain.size plain.align at _ left e in
+      let own = placed.0 in
+      let valid = through (plain.is_value (bytes_at b at plain.size)) (Some lo) left placed.1 in
+      let same : left ≡ lo = cc valid.1 in
+      (plain.value (bytes_at b at plain.size), record { lies = record { short = own.short; inside = own.room; aligned = own.aligned; forward = omega arith; kept = omega arith; before = before }; unmoved = same; is_value = valid.0; value = refl })
 
   plain_only : (b : List ℕ) (lo hi at left : ℕ) (v : plain.Value) → MeansPlainly plain b lo hi at left v → plain_leaves plain b lo hi at ≡ Some left
-  plain_only b lo hi at left v m = rw (le-ltb 4294967295 (length b) m.lies.short, le-ltb (length b) (at + plain.size) m.lies.inside, eq-eqb (at % plain.align) 0 m.lies.aligned, m.is_value) (ap Some (sym m.unmoved))
+  plain_only b lo hi at left v m = placed_only b plain.size plain.align at _ m.lies ∙ rw m.is_value (ap Some (sym m.unmoved))
 
   pub plain_laws : IsAlignment plain.align → IsAligned plain.align plain.size → plain.size < 2 ^ 32 → IsLawful (plain_kind plain)
   plain_laws alignment whole small = record {

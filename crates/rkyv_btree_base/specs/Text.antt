@@ -1,5 +1,5 @@
 -- Text: an offset to its bytes, which are UTF-8, and their number.
-use Rattle.std.specs.Prelude.{◌≡◌, ℕ, ◌+◌, ◌%◌, ◌≤◌, List, length, Option, Some, None, ℤ, pos, negsuc, true, nat_eq, nat_lt, if◌then◌else◌, IsUtf8, bytes_eq}
+use Rattle.std.specs.Prelude.{◌≡◌, ℕ, ◌+◌, ◌≤◌, List, Option, Some, None, ℤ, pos, negsuc, true, nat_lt, if◌then◌else◌, IsUtf8, bytes_eq}
 use Rattle.std.specs.Int.RustNames.{unsigned_abs}
 use Rattle.std.specs.Ordering.{nat_cmp}
 use Rattle.std.specs.Cmp.Lexicographic.{slice_cmp}
@@ -7,13 +7,14 @@ use Rattle.std.specs.Hash as fed
 use Rattle.std.specs.Str.{is_utf8}
 use Rattle.rkyv_btree_base.specs.Bytes.{bytes_at, number_at, place_at}
 use Rattle.rkyv_btree_base.specs.Kind.{Kind, Leaves}
+use Rattle.rkyv_btree_base.specs.Plain.{if_placed}
 use Rattle.rkyv_btree_base.specs.Standing.{Lies}
 
 -- the number of the bytes of the text at a position
 abbrev pub text_len : List ℕ → ℕ → ℕ
 text_len buf at = number_at buf (at + 4) 4
 
--- the bytes of the text at a position start where its offset leads
+-- the bytes of the text at a position stand from where its offset leads up to an end
 pub record IsTextRange (buf : List ℕ) (at start end : ℕ) : Type 0 where
   pub leads : place_at buf at ≡ pos start
   pub ends : end ≡ start + text_len buf at
@@ -27,18 +28,16 @@ pub record MeansText (buf : List ℕ) (lo hi at left : ℕ) (text : List ℕ) : 
   pub bytes : text ≡ bytes_at buf start (text_len buf at)
   pub utf8 : IsUtf8 text
 
-abbrev pub text_from : List ℕ → ℕ → ℕ → ℕ → ℤ → Option ℕ
-text_from buf count lo hi (negsuc n) = None
-text_from buf count lo hi (pos start) =
+-- where the window goes on behind so many bytes from a place on, if they lie in it and are UTF-8
+abbrev pub behind_text : List ℕ → ℕ → ℕ → ℕ → ℤ → Option ℕ
+behind_text buf count lo hi (negsuc n) = None
+behind_text buf count lo hi (pos start) =
     if nat_lt start lo then None else
     if nat_lt hi (start + count) then None else
     if is_utf8 (bytes_at buf start count) then Some (start + count) else None
 
 abbrev pub text_leaves : Leaves
-text_leaves buf lo hi at =
-    if nat_lt 4294967295 (length buf) then None else
-    if nat_lt (length buf) (at + 8) then None else
-    if nat_eq (at % 4) 0 then text_from buf (text_len buf at) lo hi (place_at buf at) else None
+text_leaves buf lo hi at = if_placed buf 8 4 at (behind_text buf (text_len buf at) lo hi (place_at buf at))
 
 abbrev pub read_text : List ℕ → ℕ → List ℕ
 read_text buf at = bytes_at buf (unsigned_abs (place_at buf at)) (text_len buf at)

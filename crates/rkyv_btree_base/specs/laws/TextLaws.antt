@@ -1,16 +1,17 @@
 -- Text is an archived type, and `text_leaves` decides what it means.
-use Rattle.std.specs.Prelude.{◌≡◌, ℕ, ◌+◌, ◌-◌, ◌%◌, ◌≤◌, List, length, Some, ℤ, pos, negsuc, nat_eq, nat_lt, IsUtf8}
+use Rattle.std.specs.Prelude.{◌≡◌, ℕ, ◌+◌, ◌-◌, ◌≤◌, List, Some, ℤ, pos, negsuc, nat_lt, IsUtf8}
 use Rattle.std.specs.Int.RustNames.{unsigned_abs}
 use Rattle.std.specs.Str.{is_utf8}
-use Rattle.std.proofs.Common.{refl, sym, ap, subst, ◌∙◌, arith, inl, inr}
-use Rattle.std.proofs.lemmas.Bool.{eqb-true, ltb-false, eq-eqb, le-ltb}
+use Rattle.std.proofs.Common.{refl, sym, ap, subst, ◌∙◌, arith}
+use Rattle.std.proofs.lemmas.Bool.{ltb-false, le-ltb}
 use Rattle.std.proofs.lemmas.Str.{IsUtf8-from_is_utf8, is_utf8-from_IsUtf8}
 use Rattle.rkyv_btree_base.specs.Bytes.{bytes_at, place_at}
 use Rattle.rkyv_btree_base.specs.Kind.{IsLawful, Local, Widens, OneMeaning, IsRead}
-use Rattle.rkyv_btree_base.specs.Plain.{chosen, same_bytes_at}
+use Rattle.rkyv_btree_base.specs.Plain.{same_bytes_at, past, through, placed_found, placed_only}
+use Rattle.rkyv_btree_base.specs.Refusing.{HasPlace}
 use Rattle.rkyv_btree_base.specs.Rounding.{four}
 use Rattle.rkyv_btree_base.specs.Standing.{same_within}
-use Rattle.rkyv_btree_base.specs.Text.{MeansText, IsTextRange, text_len, text_from, text_leaves, text_kind}
+use Rattle.rkyv_btree_base.specs.Text.{MeansText, IsTextRange, text_len, behind_text, text_leaves, text_kind}
 use Rattle.rkyv_btree_base.specs.laws.Local.{number_same, place_same}
 
 text_local : Local text_kind
@@ -49,44 +50,39 @@ text_bytes b lo hi at left start end v range m =
     m.bytes ∙ ap (λ s. bytes_at b s (text_len b at)) same ∙ ap (λ n. bytes_at b start n) count
 
 module _ (b : List ℕ) (lo hi at left : ℕ) where
-  from_found : length b ≤ 4294967295 → at + 8 ≤ length b → at % 4 ≡ 0 → lo ≤ hi → hi ≤ at → (z : ℤ) → place_at b at ≡ z → text_from b (text_len b at) lo hi z ≡ Some left → (v : List ℕ) × MeansText b lo hi at left v
-  from_found short inside aligned window before (negsuc n) leads e = absurd (cc e)
-  from_found short inside aligned window before (pos start) leads e =
-      let count = text_len b at in
-      elim (chosen (nat_lt start lo) _ _ (Some left) e) [
-        | inl g ↦ absurd (cc g.1)
-        | inr g ↦ elim (chosen (nat_lt hi (start + count)) _ _ (Some left) g.1) [
-          | inl h ↦ absurd (cc h.1)
-          | inr h ↦ elim (chosen (is_utf8 (bytes_at b start count)) _ _ (Some left) h.1) [
-            | inl k ↦
-                let from = ltb-false start lo g.0 in
-                let room = ltb-false hi (start + count) h.0 in
-                let ends : left ≡ start + count = cc k.1 in
-                (bytes_at b start count, record { lies = record { short = short; inside = inside; aligned = aligned; forward = omega (arith, from, ends); kept = omega (arith, room, ends); before = before }; start = start; range = record { leads = leads; ends = ends }; from = from; bytes = refl; utf8 = IsUtf8-from_is_utf8 (bytes_at b start count) k.0 })
-            | inr k ↦ absurd (cc k.1)
-          ]
-        ]
-      ]
+  behind_found : HasPlace b 8 4 at → hi ≤ at → (z : ℤ) → place_at b at ≡ z → behind_text b (text_len b at) lo hi z ≡ Some left → (v : List ℕ) × MeansText b lo hi at left v
+  behind_found own before (negsuc n) leads e = absurd (cc e)
+  behind_found own before (pos start) leads e =
+      let text = bytes_at b start (text_len b at) in
+      let end = start + text_len b at in
+      let from = past (nat_lt start lo) _ left e in
+      let room = past (nat_lt hi end) _ left from.1 in
+      let utf8 = through (is_utf8 text) (Some end) left room.1 in
+      let after = ltb-false start lo from.0 in
+      let within = ltb-false hi end room.0 in
+      let ends : left ≡ end = cc utf8.1 in (
+        text,
+        record {
+          lies = record { short = own.short; inside = own.room; aligned = own.aligned; forward = omega (arith, after, ends); kept = omega (arith, within, ends); before = before };
+          start = start;
+          range = record { leads = leads; ends = ends };
+          from = after;
+          bytes = refl;
+          utf8 = IsUtf8-from_is_utf8 text utf8.0;
+        },
+      )
 
   text_found : lo ≤ hi → hi ≤ at → text_leaves b lo hi at ≡ Some left → (v : List ℕ) × MeansText b lo hi at left v
   text_found window before e =
-      elim (chosen (nat_lt 4294967295 (length b)) _ _ (Some left) e) [
-        | inl g ↦ absurd (cc g.1)
-        | inr g ↦ elim (chosen (nat_lt (length b) (at + 8)) _ _ (Some left) g.1) [
-          | inl h ↦ absurd (cc h.1)
-          | inr h ↦ elim (chosen (nat_eq (at % 4) 0) _ _ (Some left) h.1) [
-            | inl k ↦ from_found (ltb-false 4294967295 (length b) g.0) (ltb-false (length b) (at + 8) h.0) (eqb-true (at % 4) 0 k.0) window before (place_at b at) refl k.1
-            | inr k ↦ absurd (cc k.1)
-          ]
-        ]
-      ]
+      let placed = placed_found b 8 4 at _ left e in
+      behind_found placed.0 before (place_at b at) refl placed.1
 
   text_only : (v : List ℕ) → MeansText b lo hi at left v → text_leaves b lo hi at ≡ Some left
   text_only v m =
-      let l = m.lies in
-      let room : m.start + text_len b at ≤ hi = omega (arith, m.range.ends, l.kept) in
-      let utf8 = is_utf8-from_IsUtf8 (bytes_at b m.start (text_len b at)) (subst (λ bytes. IsUtf8 bytes) m.bytes m.utf8) in
-      rw (le-ltb 4294967295 (length b) l.short, le-ltb (length b) (at + 8) l.inside, eq-eqb (at % 4) 0 l.aligned, m.range.leads, le-ltb m.start lo m.from, le-ltb hi (m.start + text_len b at) room, utf8) (ap Some (sym m.range.ends))
+      let end = m.start + text_len b at in
+      let room : end ≤ hi = omega (arith, m.range.ends, m.lies.kept) in
+      let utf8 = is_utf8-from_IsUtf8 (bytes_at b m.start (text_len b at)) (subst IsUtf8 m.bytes m.utf8) in
+      placed_only b 8 4 at _ m.lies ∙ rw (m.range.leads, le-ltb m.start lo m.from, le-ltb hi end room, utf8) (ap Some (sym m.range.ends))
 
 pub text_laws : IsLawful text_kind
 text_laws = record {
