@@ -1,5 +1,6 @@
 //! Comparisons of views: those of what is read, wherever it stands.
-ghost use Rattle.std.specs.Cmp.{IsEquivalence, IsTotalOrder, on_per, on_equiv, on_po, on_total, and_equiv, then_total, both_tied, partial_equiv_from_equiv};
+ghost use Rattle.std.specs.Cmp.{IsEquivalence, IsTotalOrder, on_per, on_equiv, on_po, on_total, and_equiv, then_total, both_tied, nat_eq_equiv, nat_cmp_total, partial_equiv_from_equiv};
+ghost use Rattle.std.specs.Cmp.Lexicographic.{nat_list_eq_equiv, nat_list_cmp_total, texts_ties};
 ghost use Rattle.std.specs.List.{fold};
 ghost use Rattle.std.specs.Ordering.{is_eq};
 ghost use Rattle.std.specs.Prelude.{◌≡◌, IsTrue, Some};
@@ -9,6 +10,8 @@ ghost use Rattle.rkyv_btree.specs.laws.Comparing.{native_equivalence, native_tot
 use crate::native::ToNative;
 use crate::view::View;
 use rkyv_btree_base::check::Portable;
+use rkyv_btree_base::scalars::ArchivedNonZeroU32;
+use rkyv_btree_base::text::ArchivedText;
 use rkyv_btree_base::util::Entry;
 use std::cmp::Ordering;
 use std::hash::{Hash, Hasher};
@@ -66,6 +69,58 @@ impl<T: ToNative> ViewHash for T {
     }
 
     ghost respects_same = { native_respects T.reads T.Native.respects_eq };
+}
+
+impl ViewEq for ArchivedNonZeroU32 {
+    fn is_same(a: &View<'_, ArchivedNonZeroU32>, b: &View<'_, ArchivedNonZeroU32>) -> bool {
+        a.to_native().get() == b.to_native().get()
+    }
+
+    ghost equivalence = { nat_eq_equiv };
+}
+
+impl ViewOrd for ArchivedNonZeroU32 {
+    fn compare(a: &View<'_, ArchivedNonZeroU32>, b: &View<'_, ArchivedNonZeroU32>) -> Ordering {
+        a.to_native().get().cmp(&b.to_native().get())
+    }
+
+    ghost total = { nat_cmp_total };
+
+    ghost matches_same = { Prim.search rules };
+}
+
+impl ViewHash for ArchivedNonZeroU32 {
+    fn hash_view<H: Hasher>(view: &View<'_, ArchivedNonZeroU32>, state: &mut H) {
+        view.to_native().get().hash(state);
+    }
+
+    ghost respects_same = { Prim.search rules };
+}
+
+impl ViewEq for ArchivedText {
+    fn is_same(a: &View<'_, ArchivedText>, b: &View<'_, ArchivedText>) -> bool {
+        a.as_str() == b.as_str()
+    }
+
+    ghost equivalence = { nat_list_eq_equiv };
+}
+
+impl ViewOrd for ArchivedText {
+    fn compare(a: &View<'_, ArchivedText>, b: &View<'_, ArchivedText>) -> Ordering {
+        a.as_str().cmp(&b.as_str())
+    }
+
+    ghost total = { nat_list_cmp_total };
+
+    ghost matches_same = { texts_ties };
+}
+
+impl ViewHash for ArchivedText {
+    fn hash_view<H: Hasher>(view: &View<'_, ArchivedText>, state: &mut H) {
+        view.as_str().hash(state);
+    }
+
+    ghost respects_same = { Prim.search rules };
 }
 
 impl<K: ViewEq, V: ViewEq> ViewEq for Entry<K, V> {

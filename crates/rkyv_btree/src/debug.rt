@@ -3,6 +3,8 @@
 use crate::native::ToNative;
 use crate::view::View;
 use rkyv_btree_base::check::Portable;
+use rkyv_btree_base::scalars::ArchivedNonZeroU32;
+use rkyv_btree_base::text::ArchivedText;
 use rkyv_btree_base::util::Entry;
 use std::fmt;
 
@@ -15,6 +17,24 @@ pub trait ViewDebug: Portable {
 impl<T: ToNative> ViewDebug for T {
     fn show<W: fmt::Write>(view: &View<'_, T>, f: &mut fmt::Formatter<W>) -> fmt::Result {
         fmt::Debug::fmt(&T::native(view), f)
+    }
+}
+
+impl ViewDebug for ArchivedNonZeroU32 {
+    fn show<W: fmt::Write>(
+        view: &View<'_, ArchivedNonZeroU32>,
+        f: &mut fmt::Formatter<W>,
+    ) -> fmt::Result {
+        fmt::Debug::fmt(&view.to_native(), f)
+    }
+}
+
+impl ViewDebug for ArchivedText {
+    fn show<W: fmt::Write>(
+        view: &View<'_, ArchivedText>,
+        f: &mut fmt::Formatter<W>,
+    ) -> fmt::Result {
+        fmt::Debug::fmt(view.as_str(), f)
     }
 }
 

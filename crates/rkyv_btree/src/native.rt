@@ -1,16 +1,19 @@
 //! Archived types whose values are native ones.
 ghost use Rattle.std.specs.Prelude.{◌≡◌, ◌+◌, ◌≤◌, ℕ, List, length};
+ghost use Rattle.std.specs.Int.NonZero.{non_zero_u32_get};
 ghost use Rattle.rkyv_btree_base.specs.Bytes.{from_le, bytes_at};
-ghost use Rattle.rkyv_btree_base.specs.Plain.{u8_kind, i8_kind, bool_kind, u16_kind, i16_kind, u32_kind, i32_kind, u64_kind, i64_kind};
+ghost use Rattle.rkyv_btree_base.specs.Plain.{u8_kind, i8_kind, bool_kind, unit_kind, char_kind, non_zero_kind, u16_kind, i16_kind, u32_kind, i32_kind, u64_kind, i64_kind};
 ghost use Rattle.rkyv_btree.specs.Native.{ReadAs, as_itself};
 
 use crate::view::View;
 use rkyv_btree_base::bytes::num32;
 use rkyv_btree_base::check::Portable;
 use rkyv_btree_base::numbers::{ArchivedU16, ArchivedU32, ArchivedU64};
+use rkyv_btree_base::scalars::{ArchivedChar, ArchivedNonZeroU32};
 use rkyv_btree_base::signed::{ArchivedI16, ArchivedI32, ArchivedI64};
 use std::fmt::Debug;
 use std::hash::Hash;
+use std::num::NonZeroU32;
 
 /// An archived type whose values are native ones, and are compared, ordered, hashed and shown as these.
 pub trait ToNative: Portable {
@@ -29,7 +32,7 @@ pub trait ToNative: Portable {
 
 impl<T: ToNative> View<'_, T> {
     /// The native value at the view's position: a number of so many bytes, the least first, in two's complement where it
-    /// has a sign.
+    /// has a sign; a character by its code; or the one value of no bytes.
     pub fn to_native(self) -> T::Native
         ensures { result ≡ T.read_native self.entry.buf.now self.entry.pos }
     {
@@ -71,6 +74,16 @@ impl ToNative for bool {
     }
 
     ghost reads = { as_itself bool_kind };
+}
+
+impl ToNative for () {
+    type Native = ();
+
+    ghost read_native = { unit_kind.read };
+
+    fn native(_view: &View<'_, ()>) {}
+
+    ghost reads = { as_itself unit_kind };
 }
 
 impl ToNative for ArchivedU16 {
@@ -145,6 +158,32 @@ impl ToNative for ArchivedI64 {
     }
 
     ghost reads = { as_itself i64_kind };
+}
+
+impl ToNative for ArchivedChar {
+    type Native = char;
+
+    ghost read_native = { char_kind.read };
+
+    #[tactic(auto, unfolding(rkyv_btree_base::specs::Bytes::number_at))]
+    fn native(view: &View<'_, ArchivedChar>) -> char {
+        // No view stands on another code.
+        unsafe { char::from_u32_unchecked(num32(view.buf, view.pos)) }
+    }
+
+    ghost reads = { as_itself char_kind };
+}
+
+// A `NonZeroU32` isn't read of every four bytes, so it has no part in `ToNative`.
+impl View<'_, ArchivedNonZeroU32> {
+    /// The number of the four bytes from the view's position on, which isn't 0.
+    #[tactic(auto, unfolding(rkyv_btree_base::specs::Bytes::number_at))]
+    pub fn to_native(self) -> NonZeroU32
+        ensures { non_zero_u32_get result ≡ non_zero_kind.read self.entry.buf.now self.entry.pos }
+    {
+        // No view stands on 0.
+        unsafe { NonZeroU32::new_unchecked(num32(self.buf, self.pos)) }
+    }
 }
 
 /// The number of the two bytes at `pos`.

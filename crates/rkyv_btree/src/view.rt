@@ -5,8 +5,10 @@ ghost use Rattle.rkyv_btree_base.specs.declared.refusal.Refusal.{Refusal};
 
 use rkyv_btree_base::check::{CheckBytes, Portable, Window};
 use rkyv_btree_base::refusal::Refusal;
+use rkyv_btree_base::text::{ArchivedText, text_range};
 use std::alloc::AllocError;
 use std::marker::PhantomData;
+use std::str::from_utf8_unchecked;
 
 /// The value of `T` at position `pos` of `buf`, where the bytes mean one. All calls read in place: nothing is copied,
 /// and no memory is taken. A view is made by `View::check`, `access` or `access_valid`, or by a call on another view.
@@ -75,6 +77,25 @@ impl<'a, T: Portable> Shows<'a, T> for View<'a, T> {
             buf,
             pos,
             of: PhantomData,
+        }
+    }
+}
+
+impl<'a> View<'a, ArchivedText> {
+    /// The text, which stays in the buffer.
+    pub fn as_str(self) -> &'a str
+        ensures { result.now ≡ ⟦<ArchivedText as Portable>⟧.kind.read self.entry.buf.now self.entry.pos }
+    {
+        let before = Window {
+            lo: 0,
+            hi: self.pos,
+        };
+        // A view stands on a text before it alone, and on UTF-8 alone.
+        match text_range(self.buf, self.pos, before) {
+            Some(text) => unsafe {
+                from_utf8_unchecked(&self.buf[text.lo as usize..text.hi as usize])
+            },
+            None => unreachable!(),
         }
     }
 }

@@ -1,10 +1,11 @@
 -- A key with its value as an archived type: the key, then the value, as C lays them out.
-use Rattle.std.specs.Prelude.{ℕ, ◌+◌, ◌%◌, ◌^◌, ◌&&◌, ◌++◌, List, length, Option, Some, None, nat_eq, nat_lt, if◌then◌else◌}
+use Rattle.std.specs.Prelude.{ℕ, ◌+◌, ◌^◌, ◌&&◌, ◌++◌, List, Option, Some, None, nat_lt}
 use Rattle.std.specs.Ordering.{ordering_then}
 use Rattle.std.proofs.Common.{max}
 use Rattle.rkyv_btree_base.specs.declared.refusal.Refusal.{Refusal}
 use Rattle.rkyv_btree_base.specs.declared.refusal.Refusal.TheVariants.{BadEntry}
 use Rattle.rkyv_btree_base.specs.Kind.{Kind}
+use Rattle.rkyv_btree_base.specs.Plain.{if_placed}
 use Rattle.rkyv_btree_base.specs.Refusing.{HasPlace, Misplaced, MeansNothing}
 use Rattle.rkyv_btree_base.specs.Rounding.{round_up}
 use Rattle.rkyv_btree_base.specs.Standing.{Lies}
@@ -36,10 +37,7 @@ module _ (K V : Kind) where
   value_leaves buf hi at (Some between) = V.leaves buf between hi (at + value_offset)
 
   abbrev pub entry_leaves : List ℕ → ℕ → ℕ → ℕ → Option ℕ
-  entry_leaves buf lo hi at =
-      if nat_lt 4294967295 (length buf) then None else
-      if nat_lt (length buf) (at + entry_size) then None else
-      if nat_eq (at % entry_align) 0 then value_leaves buf hi at (K.leaves buf lo hi at) else None
+  entry_leaves buf lo hi at = if_placed buf entry_size entry_align at (value_leaves buf hi at (K.leaves buf lo hi at))
 
   -- the refusal of an entry that is asked by itself: a case counts only where none before it does
   pub data RefusesEntry (buf : List ℕ) (lo hi at : ℕ) : Refusal → Type 0 where

@@ -3,6 +3,7 @@ pub mod Standing
 pub mod Rounding
 pub mod Kind
 pub mod Plain
+pub mod Text
 pub mod Layout
 pub mod Tree
 pub mod Weight

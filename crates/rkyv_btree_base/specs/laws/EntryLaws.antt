@@ -1,12 +1,11 @@
 -- What entries owe as an archived type.
-use Rattle.std.specs.Prelude.{◌≡◌, ℕ, ◌+◌, ◌%◌, ◌^◌, ◌&&◌, ◌≤◌, ◌<◌, Bool, true, false, IsTrue, List, length, Option, Some, None, nat_eq, nat_lt}
+use Rattle.std.specs.Prelude.{◌≡◌, ℕ, ◌+◌, ◌^◌, ◌&&◌, ◌≤◌, ◌<◌, Bool, true, false, IsTrue, List, length, Option, Some, None, nat_lt}
 use Rattle.std.proofs.Common.{arith, refl, sym, ap, subst, ◌∙◌, ◌⊎◌, inl, inr}
 use Rattle.std.proofs.lemmas.Bool.Decides.{nat_tests}
-use Rattle.std.proofs.lemmas.Bool.{eqb-true, ltb-false, eq-eqb, le-ltb}
 use Rattle.rkyv_btree_base.specs.declared.refusal.Refusal.{Refusal}
 use Rattle.rkyv_btree_base.specs.Entry.{value_offset, entry_align, entry_size, MeansParts, MeansEntry, value_leaves, entry_leaves, RefusesEntry, misplaced_entry, bad_key, bad_value, entry_kind}
 use Rattle.rkyv_btree_base.specs.Kind.{Kind, IsLawful}
-use Rattle.rkyv_btree_base.specs.Plain.{chosen}
+use Rattle.rkyv_btree_base.specs.Plain.{placed_found, placed_only}
 use Rattle.rkyv_btree_base.specs.Refusing.{AreRefusals, HasPlace, MeansNothing}
 use Rattle.rkyv_btree_base.specs.Rounding.{max_alignment, alignment_positive, le-round_up, round_up-aligned}
 use Rattle.rkyv_btree_base.specs.Standing.{SameBytes, same_within}
@@ -80,30 +79,21 @@ module _ (K V : Kind) (k : IsLawful K) (v : IsLawful V) where
   entry_found : IsTrue (entry_kind K V).is_fitting → (b : List ℕ) (lo hi at left : ℕ) → lo ≤ hi → hi ≤ at → entry_leaves K V b lo hi at ≡ Some left → (e : K.Value × V.Value) × MeansEntry K V b lo hi at left e
   entry_found fits b lo hi at left window before e =
       let f = fitting_entry K V fits in
-      elim (chosen (nat_lt 4294967295 (length b)) _ _ (Some left) e) [
-        | inl g ↦ absurd (cc g.1)
-        | inr g ↦ elim (chosen (nat_lt (length b) (at + entry_size K V)) _ _ (Some left) g.1) [
-          | inl h ↦ absurd (cc h.1)
-          | inr h ↦ elim (chosen (nat_eq (at % entry_align K V) 0) _ _ (Some left) h.1) [
-            | inl j ↦ elim (some_or (K.leaves b lo hi at)) [
-              | inl none ↦ absurd (cc (ap (value_leaves K V b hi at) (sym none) ∙ j.1))
-              | inr some ↦
-                  let km = (k.decides f.key).found b lo hi at some.0 window before some.1 in
-                  let kl = k.lies _ _ _ _ _ _ km.1 in
-                  let vm = (v.decides f.value).found b some.0 hi (at + value_offset K V) left (omega arith) (omega arith) (ap (value_leaves K V b hi at) (sym some.1) ∙ j.1) in
-                  let has : HasPlace b (entry_size K V) (entry_align K V) at = record { short = ltb-false 4294967295 (length b) g.0; room = ltb-false (length b) (at + entry_size K V) h.0; aligned = eqb-true (at % entry_align K V) 0 j.0 } in
-                  ((km.0, vm.0), entry_of_parts b lo hi at left km.0 vm.0 before has (record { between = some.0; key = km.1; value = vm.1 }))
-            ]
-            | inr j ↦ absurd (cc j.1)
-          ]
-        ]
+      let placed = placed_found b (entry_size K V) (entry_align K V) at _ left e in
+      elim (some_or (K.leaves b lo hi at)) [
+        | inl none ↦ absurd (cc (ap (value_leaves K V b hi at) (sym none) ∙ placed.1))
+        | inr some ↦
+            let km = (k.decides f.key).found b lo hi at some.0 window before some.1 in
+            let kl = k.lies _ _ _ _ _ _ km.1 in
+            let vm = (v.decides f.value).found b some.0 hi (at + value_offset K V) left (omega arith) (omega arith) (ap (value_leaves K V b hi at) (sym some.1) ∙ placed.1) in
+            ((km.0, vm.0), entry_of_parts b lo hi at left km.0 vm.0 before placed.0 (record { between = some.0; key = km.1; value = vm.1 }))
       ]
 
   entry_only : IsTrue (entry_kind K V).is_fitting → (b : List ℕ) (lo hi at left : ℕ) (e : K.Value × V.Value) → MeansEntry K V b lo hi at left e → entry_leaves K V b lo hi at ≡ Some left
   entry_only fits b lo hi at left e m =
       let f = fitting_entry K V fits in
-      rw (le-ltb 4294967295 (length b) m.lies.short, le-ltb (length b) (at + entry_size K V) m.lies.inside, eq-eqb (at % entry_align K V) 0 m.lies.aligned, (k.decides f.key).only b lo hi at m.parts.between e.0 m.parts.key)
-      ((v.decides f.value).only b m.parts.between hi (at + value_offset K V) left e.1 m.parts.value)
+      placed_only b (entry_size K V) (entry_align K V) at _ m.lies
+      ∙ rw ((k.decides f.key).only b lo hi at m.parts.between e.0 m.parts.key) ((v.decides f.value).only b m.parts.between hi (at + value_offset K V) left e.1 m.parts.value)
 
   -- a value in the window that the key leaves stands in the window that any key leaves there
   same_window : (b : List ℕ) (lo hi at mid mid2 left : ℕ) (x y : K.Value) (z : V.Value) → K.Means b lo hi at mid x → K.Means b lo hi at mid2 y → V.Means b mid2 hi (at + value_offset K V) left z → V.Means b mid hi (at + value_offset K V) left z
