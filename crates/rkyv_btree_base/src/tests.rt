@@ -555,6 +555,14 @@ fn nodes_have_their_sizes(rt: HostRuntime) {
     assert_eq!(rt; layout::inner_size::<ArchivedU64, u8, 1>(), 32);
     assert_eq!(rt; layout::align::<ArchivedU64, u8, 1>(), 8);
     assert_eq!(rt; layout::node_align::<u8, u8, 1>(), 1);
+    assert!(rt; layout::fits::<ArchivedText, ArchivedI32, 5>());
+    assert_eq!(rt; layout::value_at::<ArchivedText, ArchivedI32, 5>(0), 44);
+    assert_eq!(rt; layout::leaf_size::<ArchivedText, ArchivedI32, 5>(), 68);
+    assert_eq!(rt; layout::inner_size::<ArchivedText, ArchivedI32, 5>(), 88);
+    assert!(rt; layout::fits::<(), (), 5>());
+    assert_eq!(rt; layout::value_at::<(), (), 5>(4), 1);
+    assert_eq!(rt; layout::leaf_size::<(), (), 5>(), 8);
+    assert_eq!(rt; layout::inner_size::<(), (), 5>(), 28);
     assert!(rt; layout::fits::<ArchivedU32, ArchivedU32, 357913940>());
     assert!(rt; !layout::fits::<ArchivedU32, ArchivedU32, 357913941>());
     assert!(rt; !layout::fits::<ArchivedU32, ArchivedU32, 0>());
