@@ -1,3 +1,4 @@
+pub mod Native
 pub mod Node
 pub mod Path
 pub mod Visit

@@ -3,8 +3,12 @@
 
 pub use rkyv_btree_base as base;
 
+pub mod compare;
+pub mod debug;
+pub mod entry;
 pub mod iter;
 pub mod map;
+pub mod native;
 #[cfg(test)]
 mod tests;
 pub mod view;

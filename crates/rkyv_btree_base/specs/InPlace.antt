@@ -1,12 +1,16 @@
 -- Types whose values lie in their own bytes alone, as they are written from native values.
-use Rattle.std.specs.Prelude.{◌≡◌, ℕ, ℤ, ◌+◌, ◌≤◌, Bool, true, false, IsTrue, List, [], ◌∷◌, length}
+use Rattle.std.specs.Prelude.{◌≡◌, ℕ, ℤ, ◌+◌, ◌≤◌, ◌<◌, ◌^◌, Bool, true, false, IsTrue, List, [], ◌∷◌, length, nat_lt, if◌then◌else◌}
 use Rattle.std.specs.Hash as fed
 use Rattle.std.specs.Int.{Width, w8, w16, w32, w64, to_le_bytes, cast_unsigned}
+use Rattle.std.specs.Int.NonZero.{non_zero_u32_get}
+use Rattle.std.specs.declared.num.NonZeroU32.{NonZeroU32}
 use Rattle.std.proofs.Common.{refl, sym, ap, subst, ◌∙◌, arith}
+use Rattle.std.proofs.Math.Utf8.{scalar, scalar_fits}
+use Rattle.std.proofs.lemmas.Bool.{lt-ltb, ltb-true}
 use Rattle.std.proofs.lemmas.List.{take_all}
-use Rattle.rkyv_btree_base.specs.Bytes.{bytes_at}
+use Rattle.rkyv_btree_base.specs.Bytes.{from_le, bytes_at}
 use Rattle.rkyv_btree_base.specs.Kind.{Kind}
-use Rattle.rkyv_btree_base.specs.Plain.{Plain, plain_kind, number, signed, boolean, u8_kind, u16_kind, u32_kind, u64_kind, i8_kind, i16_kind, i32_kind, i64_kind, bool_kind}
+use Rattle.rkyv_btree_base.specs.Plain.{Plain, plain_kind, number, signed, boolean, nothing, number_where, u8_kind, u16_kind, u32_kind, u64_kind, i8_kind, i16_kind, i32_kind, i64_kind, bool_kind, unit_kind, char_kind, non_zero_kind}
 use Rattle.rkyv_btree_base.specs.Standing.{IsAligned}
 
 -- what own bytes mean by themselves
@@ -36,6 +40,14 @@ own_signed width n = to_le_bytes width (cast_unsigned width n)
 abbrev pub own_bool : Bool → List ℕ
 own_bool true = 1 ∷ []
 own_bool false = 0 ∷ []
+
+-- the own bytes of a character, those of its code, and of a number other than 0. A law also ranges over numbers that no
+-- `char` and no `NonZeroU32` has: they get the bytes of 0 and of 1.
+abbrev pub own_char : ℕ → List ℕ
+own_char c = to_le_bytes w32 (if scalar c then c else 0)
+
+abbrev pub own_non_zero : NonZeroU32 → List ℕ
+own_non_zero n = to_le_bytes w32 (if nat_lt (non_zero_u32_get n) (2 ^ 32) then non_zero_u32_get n else 1)
 
 pub plain_own : (plain : Plain) (own : List ℕ) → length own ≡ plain.size → IsTrue (plain.is_value own) → IsOwn (plain_kind plain) own
 plain_own plain own size valid = record {
@@ -77,3 +89,27 @@ i64_own n = plain_own (signed w64 fed.i64) (own_signed w64 n) refl refl
 pub bool_own : (n : Bool) → IsOwn bool_kind (own_bool n)
 bool_own true = plain_own boolean (own_bool true) refl refl
 bool_own false = plain_own boolean (own_bool false) refl refl
+
+pub unit_own : (n : Unit {0}) → IsOwn unit_kind []
+unit_own n = plain_own nothing [] refl refl
+
+-- the own bytes of a number that a test takes
+number_own : (is_value : ℕ → Bool) (hash_input : ℕ → List (List ℕ)) (n : ℕ) → n < 2 ^ 32 → IsTrue (is_value n) → IsOwn (plain_kind (number_where is_value 4 hash_input)) (to_le_bytes w32 n)
+number_own is_value hash_input n small valid =
+    let read : from_le (to_le_bytes w32 n) ≡ n = omega arith in
+    plain_own (number_where is_value 4 hash_input) (to_le_bytes w32 n) refl (rw read valid)
+
+-- a number that a test takes, or another one that the test takes
+taken : (P : ℕ → Type 0) (b : Bool) (n other : ℕ) → (IsTrue b → P n) → P other → P (if b then n else other)
+taken P true n other h o = h refl
+taken P false n other h o = o
+
+pub char_own : (c : ℕ) → IsOwn char_kind (own_char c)
+char_own c = taken (λ n. IsOwn char_kind (to_le_bytes w32 n)) (scalar c) c 0 (λ s. number_own scalar fed.char c (scalar_fits c s) s) (number_own scalar fed.char 0 (omega arith) refl)
+
+pub non_zero_own : (n : NonZeroU32) → IsOwn non_zero_kind (own_non_zero n)
+non_zero_own n =
+    let get = non_zero_u32_get n in
+    taken (λ k. IsOwn non_zero_kind (to_le_bytes w32 k)) (nat_lt get (2 ^ 32)) get 1
+    (λ small. number_own (nat_lt 0) fed.u32 get (ltb-true get (2 ^ 32) small) (lt-ltb 0 get n.ok))
+    (number_own (nat_lt 0) fed.u32 1 (omega arith) refl)

@@ -3,6 +3,7 @@ pub mod Standing
 pub mod Rounding
 pub mod Kind
 pub mod Plain
+pub mod Text
 pub mod Layout
 pub mod Tree
 pub mod Weight
@@ -24,4 +25,5 @@ pub mod Serialising
 pub mod Archives
 pub mod Refusing
 pub mod Faults
+pub mod Entry
 pub mod Claims

@@ -1,5 +1,6 @@
 pub mod Check
 pub mod Complete
+pub mod EntryLaws
 pub mod Local
 pub mod MapLaws
 pub mod Readings
@@ -13,3 +14,4 @@ pub mod Counted
 pub mod Faulty
 pub mod Refused
 pub mod Refusing
+pub mod TextLaws

@@ -4,6 +4,7 @@ ghost use Rattle.rkyv_btree_base.specs.declared.refusal.Refusal.{Refusal};
 ghost use Rattle.rkyv_btree_base.specs.InPlace.{IsOwn};
 ghost use Rattle.rkyv_btree_base.specs.Kind.{Kind, IsLawful};
 ghost use Rattle.rkyv_btree_base.specs.Refusing.{HasPlace, Misplaced, RefusesWhole, AreRefusals};
+ghost use Rattle.rkyv_btree_base.specs.laws.Check.{or_bad};
 
 use crate::refusal::Refusal;
 
@@ -90,4 +91,23 @@ pub(crate) fn check_place<T: Portable>(buf: &[u8], pos: u32) -> Result<(), Refus
         return Err(Refusal::Misaligned { pos });
     }
     Ok(())
+}
+
+/// A key or value at position `pos`, whose outlying bytes may lie from `lo` up to `hi`: the window's start that it leaves.
+pub(crate) fn check_part<T: CheckBytes>(
+    buf: &[u8],
+    pos: u32,
+    lo: u32,
+    hi: u32,
+) -> Result<u32, Refusal>
+    requires fitting { IsTrue T.kind.is_fitting }
+    requires ordered { lo ≤ hi }
+    requires before { hi ≤ pos }
+    ensures gives { result ≡ or_bad pos (T.kind.leaves buf.now lo hi pos) }
+    ensures within { IfOk result (λ left. (lo ≤ left) × (left ≤ hi)) }
+{
+    match T::check(buf, pos, Window { lo, hi }) {
+        Ok(left) => Ok(left.lo),
+        Err(_) => Err(Refusal::BadEntry { pos }),
+    }
 }

@@ -11,11 +11,14 @@ mod node;
 pub mod numbers;
 pub mod place;
 pub mod refusal;
+pub mod scalars;
 pub mod shape;
 pub mod signed;
 pub mod steps;
 #[cfg(test)]
 mod tests;
+pub mod text;
 mod tree;
+pub mod util;
 pub mod verify;
 mod writes;

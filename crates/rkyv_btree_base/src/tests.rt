@@ -11,8 +11,12 @@ use crate::map::ArchivedBTreeMap;
 use crate::numbers::{ArchivedU16, ArchivedU32, ArchivedU64};
 use crate::place::{Place, RelPtr, VecWriter, Writer};
 use crate::refusal::{EntriesLengthMismatch, InvalidLength, Refusal};
+use crate::scalars::{ArchivedChar, ArchivedNonZeroU32};
 use crate::signed::{ArchivedI16, ArchivedI32, ArchivedI64};
+use crate::text::ArchivedText;
+use crate::util::{Entry, EntryAdapter, EntryResolver, value_offset};
 use std::alloc::{AllocError, Global};
+use std::num::NonZeroU32;
 use std::process::Abort;
 use std::test::Fail;
 
@@ -551,6 +555,14 @@ fn nodes_have_their_sizes(rt: HostRuntime) {
     assert_eq!(rt; layout::inner_size::<ArchivedU64, u8, 1>(), 32);
     assert_eq!(rt; layout::align::<ArchivedU64, u8, 1>(), 8);
     assert_eq!(rt; layout::node_align::<u8, u8, 1>(), 1);
+    assert!(rt; layout::fits::<ArchivedText, ArchivedI32, 5>());
+    assert_eq!(rt; layout::value_at::<ArchivedText, ArchivedI32, 5>(0), 44);
+    assert_eq!(rt; layout::leaf_size::<ArchivedText, ArchivedI32, 5>(), 68);
+    assert_eq!(rt; layout::inner_size::<ArchivedText, ArchivedI32, 5>(), 88);
+    assert!(rt; layout::fits::<(), (), 5>());
+    assert_eq!(rt; layout::value_at::<(), (), 5>(4), 1);
+    assert_eq!(rt; layout::leaf_size::<(), (), 5>(), 8);
+    assert_eq!(rt; layout::inner_size::<(), (), 5>(), 28);
     assert!(rt; layout::fits::<ArchivedU32, ArchivedU32, 357913940>());
     assert!(rt; !layout::fits::<ArchivedU32, ArchivedU32, 357913941>());
     assert!(rt; !layout::fits::<ArchivedU32, ArchivedU32, 0>());
@@ -576,6 +588,15 @@ fn numbers_are_written_in_place(rt: HostRuntime) {
 }
 
 #[test]
+fn characters_and_nothing_are_written_in_place(rt: HostRuntime) {
+    let mut bytes = [9; 9];
+    ArchivedChar::write('\u{10FFFF}', &mut bytes[0..4]);
+    ArchivedNonZeroU32::write(NonZeroU32::MIN, &mut bytes[4..8]);
+    <()>::write((), &mut bytes[8..8]);
+    assert_eq!(rt; bytes, [0xFF, 0xFF, 0x10, 0, 1, 0, 0, 0, 9]);
+}
+
+#[test]
 fn values_are_checked_by_themselves(rt: HostRuntime) {
     let bytes = [0, 1, 2, 255, 255, 255, 255, 255];
     let window = Window { lo: 0, hi: 0 };
@@ -590,6 +611,215 @@ fn values_are_checked_by_themselves(rt: HostRuntime) {
     let past = Refusal::OutOfRange { pos: 6 };
     assert_eq!(rt; ArchivedI32::check(&bytes, 6, window), Err(past));
     assert_eq!(rt; ArchivedI16::check(&bytes, 6, window), Ok(window));
+}
+
+type Flagged = Entry<ArchivedU32, bool>;
+
+#[test]
+fn entries_are_laid_out_as_in_c(rt: HostRuntime) {
+    assert!(rt; Entry::<u8, ArchivedU32>::fits());
+    assert_eq!(rt; Entry::<u8, ArchivedU32>::size(), 8);
+    assert_eq!(rt; Entry::<u8, ArchivedU32>::align(), 4);
+    assert_eq!(rt; value_offset::<u8, ArchivedU32>(), 4);
+    assert!(rt; Flagged::fits());
+    assert_eq!(rt; Flagged::size(), 8);
+    assert_eq!(rt; value_offset::<ArchivedU32, bool>(), 4);
+    assert!(rt; Entry::<bool, Flagged>::fits());
+    assert_eq!(rt; Entry::<bool, Flagged>::size(), 12);
+    assert_eq!(rt; value_offset::<bool, Flagged>(), 4);
+}
+
+#[test]
+fn entries_are_checked_by_themselves(rt: HostRuntime) {
+    let bytes = [7, 9, 9, 9, 1, 0, 0, 0, 2, 9, 9, 9, 2];
+    let window = Window { lo: 0, hi: 0 };
+    assert!(rt; Entry::<u8, ArchivedU32>::fits());
+    let numbers = |pos| Entry::<u8, ArchivedU32>::check(&bytes, pos, window);
+    assert_eq!(rt; numbers(0), Ok(window));
+    assert_eq!(rt; numbers(4), Ok(window));
+    assert_eq!(rt; numbers(2), Err(Refusal::Misaligned { pos: 2 }));
+    assert_eq!(rt; numbers(5), Err(Refusal::Misaligned { pos: 5 }));
+    assert_eq!(rt; numbers(6), Err(Refusal::OutOfRange { pos: 6 }));
+    assert_eq!(rt; numbers(8), Err(Refusal::OutOfRange { pos: 8 }));
+    assert!(rt; Flagged::fits());
+    let flagged = |pos| Flagged::check(&bytes, pos, window);
+    assert_eq!(rt; flagged(0), Ok(window));
+    assert_eq!(rt; flagged(4), Err(Refusal::BadEntry { pos: 8 }));
+    assert!(rt; Entry::<bool, bool>::fits());
+    let flags = |pos| Entry::<bool, bool>::check(&bytes, pos, window);
+    assert_eq!(rt; flags(5), Ok(window));
+    assert_eq!(rt; flags(7), Err(Refusal::BadEntry { pos: 8 }));
+    assert_eq!(rt; flags(8), Err(Refusal::BadEntry { pos: 8 }));
+    assert_eq!(rt; flags(12), Err(Refusal::OutOfRange { pos: 12 }));
+}
+
+#[test]
+fn a_part_of_a_part_is_refused_at_the_part(rt: HostRuntime) {
+    let bytes = [1, 0, 0, 0, 7, 0, 0, 0, 2, 0, 0, 0];
+    let window = Window { lo: 0, hi: 0 };
+    assert!(rt; Entry::<bool, Flagged>::fits());
+    let refused = Entry::<bool, Flagged>::check(&bytes, 0, window);
+    assert_eq!(rt; refused, Err(Refusal::BadEntry { pos: 4 }));
+}
+
+#[test]
+fn the_value_has_the_window_that_the_key_leaves(rt: HostRuntime) {
+    // "ab" and "c", and the entry of both at 4.
+    let mut bytes = [
+        97, 98, 99, 0, 252, 255, 255, 255, 2, 0, 0, 0, 246, 255, 255, 255, 1, 0, 0, 0,
+    ];
+    assert!(rt; Entry::<ArchivedText, ArchivedText>::fits());
+    let from = |lo, hi| Window { lo, hi };
+    let check = |bytes: &[u8], window| Entry::<ArchivedText, ArchivedText>::check(bytes, 4, window);
+    assert_eq!(rt; check(&bytes, from(0, 4)), Ok(from(3, 4)));
+    let bad_key = Err(Refusal::BadEntry { pos: 4 });
+    assert_eq!(rt; check(&bytes, from(1, 4)), bad_key);
+    let bad_value = Err(Refusal::BadEntry { pos: 12 });
+    assert_eq!(rt; check(&bytes, from(0, 2)), bad_value);
+    // The value begins with the key's last byte.
+    bytes[12] = 245;
+    assert_eq!(rt; check(&bytes, from(0, 4)), bad_value);
+}
+
+#[test]
+fn entries_compare_key_first(rt: HostRuntime) {
+    let entry = |key: u8, value: u8| Entry { key, value };
+    assert!(rt; entry(1, 9) < entry(2, 0));
+    assert!(rt; entry(1, 1) < entry(1, 2));
+    assert!(rt; entry(1, 1) == entry(1, 1));
+    assert!(rt; entry(1, 1) != entry(2, 1));
+    assert!(rt; entry(1, 1) != entry(1, 2));
+}
+
+#[test]
+fn parts_of_entries_have_names(rt: HostRuntime) -> Result<(), Fail> {
+    let told = format!(in rt.alloc();
+        "{:?}",
+        Entry {
+            key: 1u8,
+            value: true
+        }
+    )?;
+    assert_eq!(rt; told.as_str(), "Entry { key: 1, value: true }");
+    let (key, value) = (1u8, true);
+    let adapter = EntryAdapter::new(&key, &value);
+    assert_eq!(rt; (*adapter.key, *adapter.value), (1, true));
+    let resolver = EntryResolver { key, value };
+    assert_eq!(rt; (resolver.key, resolver.value), (1, true));
+    Ok(())
+}
+
+#[test]
+fn the_empty_type_and_edges_of_others_are_checked(rt: HostRuntime) {
+    let window = Window { lo: 0, hi: 0 };
+    let bad = Err(Refusal::BadEntry { pos: 0 });
+    let codes = [
+        (0xD7FF, Ok(window)),
+        (0xD800, bad),
+        (0xDFFF, bad),
+        (0xE000, Ok(window)),
+        (0x10_FFFF, Ok(window)),
+        (0x11_0000, bad),
+    ];
+    for (code, answer) in codes {
+        let bytes = u32::to_le_bytes(code);
+        assert_eq!(rt; ArchivedChar::check(&bytes, 0, window), answer);
+    }
+    for (number, answer) in [(0, bad), (1, Ok(window)), (u32::MAX, Ok(window))] {
+        let bytes = u32::to_le_bytes(number);
+        assert_eq!(rt; ArchivedNonZeroU32::check(&bytes, 0, window), answer);
+    }
+    let past = Err(Refusal::OutOfRange { pos: 2 });
+    assert_eq!(rt; <()>::check(&[7], 1, window), Ok(window));
+    assert_eq!(rt; <()>::check(&[7], 2, window), past);
+}
+
+/// A text's bytes, zeros up to the next multiple of four, and the text over them, with its position.
+fn archived_text(
+    rt: &impl Abort,
+    alloc: Global,
+    text: &[u8],
+) -> Result<(Vec<u8>, u32), AllocError> {
+    let mut bytes = text.to_vec(alloc)?;
+    for _ in 0..text.len().wrapping_neg() % 4 {
+        bytes.push(0)?;
+    }
+    let pos = u32::try_from(bytes.len()).expect(rt, "a position");
+    let len = u32::try_from(text.len()).expect(rt, "a length");
+    bytes.extend_from_slice(&pos.wrapping_neg().to_le_bytes())?;
+    bytes.extend_from_slice(&len.to_le_bytes())?;
+    Ok((bytes, pos))
+}
+
+#[test]
+fn texts_are_utf8(rt: HostRuntime) -> Result<(), Fail> {
+    let mut long = Vec::new(rt.alloc());
+    long.resize(70000, b'a')?;
+    let texts: [&[u8]; 6] = [
+        b"",
+        b"a",
+        b"\xC3\xA9",
+        b"\xE2\x82\xAC",
+        b"a\xF0\x9F\x98\x80",
+        long.as_slice(),
+    ];
+    for text in texts {
+        let (bytes, hi) = archived_text(&rt, rt.alloc(), text)?;
+        let left = ArchivedText::check(&bytes, hi, Window { lo: 0, hi });
+        let lo = u32::try_from(text.len()).expect(&rt, "a length");
+        assert_eq!(rt; left, Ok(Window { lo, hi }));
+    }
+    // Cut inside a character, no character's beginning, too long for their characters, and half of a pair.
+    let others: [&[u8]; 8] = [
+        b"a\xC3",
+        b"\xE2\x82",
+        b"\xF0\x9F\x98",
+        b"\x80",
+        b"\xFF",
+        b"\xC0\x80",
+        b"\xE0\x80\x80",
+        b"\xED\xA0\x80",
+    ];
+    for text in others {
+        let (bytes, hi) = archived_text(&rt, rt.alloc(), text)?;
+        let left = ArchivedText::check(&bytes, hi, Window { lo: 0, hi });
+        assert_eq!(rt; left, Err(Refusal::BadEntry { pos: hi }));
+    }
+    Ok(())
+}
+
+#[test]
+fn texts_lie_in_their_windows(rt: HostRuntime) -> Result<(), Fail> {
+    let left = |lo| Ok(Window { lo, hi: 4 });
+    let bad = Err(Refusal::BadEntry { pos: 4 });
+    let rows = [
+        (-4, 2, 0, left(2)),
+        (-4, 4, 0, left(4)),
+        (-3, 1, 1, left(2)),
+        (0, 0, 4, left(4)),
+        (-4, 0, 0, left(0)),
+        (-4, 2, 1, bad),
+        (-4, 5, 0, bad),
+        (-4, u32::MAX, 0, bad),
+        (-5, 2, 0, bad),
+        (i32::MIN, 0, 0, bad),
+        (1, 0, 0, bad),
+    ];
+    for (offset, len, lo, answer) in rows {
+        let mut bytes = [98, 99, 0, 0].to_vec(rt.alloc())?;
+        bytes.extend_from_slice(&i32::to_le_bytes(offset))?;
+        bytes.extend_from_slice(&u32::to_le_bytes(len))?;
+        assert!(rt; lo <= 4);
+        let window = Window { lo, hi: 4 };
+        assert_eq!(rt; ArchivedText::check(&bytes, 4, window), answer);
+    }
+    let bytes = [0; 12];
+    let window = Window { lo: 0, hi: 0 };
+    let odd = Err(Refusal::Misaligned { pos: 2 });
+    assert_eq!(rt; ArchivedText::check(&bytes, 2, window), odd);
+    let past = Err(Refusal::OutOfRange { pos: 8 });
+    assert_eq!(rt; ArchivedText::check(&bytes, 8, window), past);
+    Ok(())
 }
 
 #[test]

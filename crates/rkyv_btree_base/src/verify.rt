@@ -6,11 +6,11 @@ ghost use Rattle.rkyv_btree_base.specs.Faults.{NodeFault, Stands};
 ghost use Rattle.rkyv_btree_base.specs.Layout.{shape, are_fitting, leaf_size, inner_size};
 ghost use Rattle.rkyv_btree_base.specs.Spells.{Accepted, Spells, accepted_nodes};
 ghost use Rattle.rkyv_btree_base.specs.Tree.{Tree, height, nodes};
-ghost use Rattle.rkyv_btree_base.specs.laws.Check.{or_bad, node_place, check_entry, check_entries, check_leaf, check_pointer, check_pointers, check_inner, check_placed, check_node, check_tree, check_root, check_map};
+ghost use Rattle.rkyv_btree_base.specs.laws.Check.{node_place, check_entry, check_entries, check_leaf, check_pointer, check_pointers, check_inner, check_placed, check_node, check_tree, check_root, check_map};
 ghost use Rattle.rkyv_btree_base.specs.laws.Counted.{Within, node_steps, pointer_steps, pointers_steps, placed_steps, tree_steps, root_steps, map_steps};
 
 use crate::bytes::{num32, place, target};
-use crate::check::{CheckBytes, Portable, Window, check_place};
+use crate::check::{CheckBytes, Portable, Window, check_part, check_place};
 use crate::layout;
 use crate::map::ArchivedBTreeMap;
 use crate::refusal::{EntriesLengthMismatch, InvalidLength, Refusal};
@@ -21,20 +21,6 @@ use crate::steps::StepCounter;
 struct Checked {
     lo: u32,
     entries: u64,
-}
-
-/// A key or value at a position in the node at `node`: the window's start that it leaves.
-fn check_part<T: CheckBytes>(buf: &[u8], node: u32, at: u32, lo: u32) -> Result<u32, Refusal>
-    requires fitting { IsTrue T.kind.is_fitting }
-    requires window { lo ≤ node }
-    requires place { node ≤ at }
-    ensures gives { result ≡ or_bad at (T.kind.leaves buf.now lo node at) }
-    ensures within { IfOk result (λ left. (lo ≤ left) × (left ≤ node)) }
-{
-    match T::check(buf, at, Window { lo, hi: node }) {
-        Ok(left) => Ok(left.lo),
-        Err(_) => Err(Refusal::BadEntry { pos: at }),
-    }
 }
 
 /// Entry `i` of the node at `node`.
@@ -52,8 +38,8 @@ fn check_entry<K: CheckBytes, V: CheckBytes, const E: usize>(
     ensures gives { result ≡ check_entry (shape K.kind V.kind E) K.kind.leaves V.kind.leaves buf.now node i lo }
     ensures within { IfOk result (λ left. (lo ≤ left) × (left ≤ node)) }
 {
-    let mid = check_part::<K>(buf, node, node + layout::key_at::<K, V, E>(i), lo)?;
-    check_part::<V>(buf, node, node + layout::value_at::<K, V, E>(i), mid)
+    let mid = check_part::<K>(buf, node + layout::key_at::<K, V, E>(i), lo, node)?;
+    check_part::<V>(buf, node + layout::value_at::<K, V, E>(i), mid, node)
 }
 
 /// The first `n` entries of the node at `node`.

@@ -31,7 +31,7 @@ target_same : (b c : List ℕ) (p : ℕ) → SameBytes b c p (p + 4) → target_
 unfolding target_at place_at
 target_same b c p h = rw (number_same b c p h) refl
 
-place_same : (b c : List ℕ) (p : ℕ) → SameBytes b c p (p + 4) → place_at b p ≡ place_at c p
+pub place_same : (b c : List ℕ) (p : ℕ) → SameBytes b c p (p + 4) → place_at b p ≡ place_at c p
 unfolding place_at
 place_same b c p h = rw (number_same b c p h) refl
 

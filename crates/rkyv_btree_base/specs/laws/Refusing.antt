@@ -18,6 +18,9 @@ module _ (buf : List ℕ) (size align at : ℕ) where
   misplaced_told (no_room short h) = rw (le-ltb 4294967295 (length buf) short, lt-ltb (length buf) (at + size) h) refl
   misplaced_told (unaligned short room h) = rw (le-ltb 4294967295 (length buf) short, le-ltb (length buf) (at + size) room) refl
 
+  pub misplaced_once : {e d : Refusal} → Misplaced buf size align at e → Misplaced buf size align at d → e ≡ d
+  misplaced_once p q = misplaced_told p ∙ sym (misplaced_told q)
+
   pub not_misplaced : {e : Refusal} → HasPlace buf size align at → Misplaced buf size align at e → ⊥
   not_misplaced has (too_long h) = omega (arith, has.short)
   not_misplaced has (no_room short h) = omega (arith, has.room)
@@ -34,7 +37,7 @@ whole_refusals {kind} laws = record { no_meaning = no_meaning; one_refusal = λ 
     no_meaning buf lo hi at e (bad_entry has none) left v m = none left v m
 
     one_refusal : (buf : List ℕ) (lo hi at : ℕ) {e d : Refusal} → RefusesWhole kind buf lo hi at e → RefusesWhole kind buf lo hi at d → e ≡ d
-    one_refusal buf lo hi at (misplaced p) (misplaced q) = misplaced_told buf kind.size kind.align at p ∙ sym (misplaced_told buf kind.size kind.align at q)
+    one_refusal buf lo hi at (misplaced p) (misplaced q) = misplaced_once buf kind.size kind.align at p q
     one_refusal buf lo hi at (misplaced p) (bad_entry has none) = absurd (not_misplaced buf kind.size kind.align at has p)
     one_refusal buf lo hi at (bad_entry has none) (misplaced q) = absurd (not_misplaced buf kind.size kind.align at has q)
     one_refusal buf lo hi at (bad_entry has none) (bad_entry has2 none2) = refl
