@@ -22,6 +22,7 @@ pub mod Writing
 pub mod Image
 pub mod Serialising
 pub mod Archives
+pub mod Archiving
 pub mod Refusing
 pub mod Faults
 pub mod Claims

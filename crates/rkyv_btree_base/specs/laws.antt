@@ -13,3 +13,4 @@ pub mod Counted
 pub mod Faulty
 pub mod Refused
 pub mod Refusing
+pub mod Archiving

@@ -1,6 +1,7 @@
 //! What archives are, how they are written, and how foreign bytes are checked.
 #![tactic(auto)]
 
+pub mod archive;
 pub mod build;
 pub mod bytes;
 pub mod check;
