@@ -1,16 +1,18 @@
 //! Values that can be archived.
 ghost use Rattle.std.specs.Prelude.{◌≡◌, ℕ, ◌<◌, ◌^◌, List, [], length, OnOk, IfOk, IfErr};
-ghost use Rattle.std.specs.Int.{w32, to_le_bytes};
+ghost use Rattle.std.specs.Int.{w8, w16, w32, w64, to_le_bytes};
 ghost use Rattle.rkyv_btree_base.specs.Archiving.{Matches, IsArchived, IsUnresolved, IsUnserialised, itself};
 ghost use Rattle.rkyv_btree_base.specs.Kind.{Kind};
-ghost use Rattle.rkyv_btree_base.specs.Plain.{u32_kind};
+ghost use Rattle.rkyv_btree_base.specs.Plain.{u8_kind, u16_kind, u32_kind, u64_kind, bool_kind};
 ghost use Rattle.rkyv_btree_base.specs.Writing.{Write, Wrote, position};
 ghost use Rattle.rkyv_btree_base.specs.declared.fault.EntryFault.{EntryFault};
-ghost use Rattle.rkyv_btree_base.specs.laws.Archiving.{u32_archived};
+ghost use Rattle.rkyv_btree_base.specs.InPlace.{own_bool};
+ghost use Rattle.rkyv_btree_base.specs.laws.Archiving.{NoWrites, OwnIs, IsPlainlyArchived, u8_archived, u16_archived, u32_archived, u64_archived, bool_archived};
+ghost use Rattle.std.proofs.Common.{refl};
 
-use crate::check::Portable;
+use crate::check::{InPlace, Portable};
 use crate::fault::{EntryFault, Fault, ResolveFault};
-use crate::numbers::ArchivedU32;
+use crate::numbers::{ArchivedU16, ArchivedU32, ArchivedU64};
 use crate::place::{Place, Writer};
 
 /// A value that can be archived.
@@ -68,26 +70,54 @@ pub trait Serialize<W: Writer, A>: Archive {
         ensures err { IfErr result (λ fault. IsUnserialised (Begins self.now) (Self.IsTooLong self.now) (Refuses self.now) (W.state writer.old) fault (W.state writer.new)) };
 }
 
-impl Archive for u32 {
-    type Archived = ArchivedU32;
+/// A native value that lies in its own bytes alone when it is archived.
+pub trait Native: Copy + Drop {
+    /// What it becomes.
+    type Plain: InPlace<Native = Self>;
+
+    /// The archived type's kind, once more.
+    ghost plain_kind: { Kind };
+
+    /// The own bytes.
+    ghost plain_own: { Self → List ℕ };
+
+    /// What they mean.
+    ghost value: { Self → plain_kind.Value };
+
+    /// The values of the type.
+    ghost IsIn: { Self → Type 0 };
+
+    /// Does nothing: a value is one of the type.
+    fn is_in(self)
+        ensures { IsIn self };
+
+    ghost same_plain: { Matches plain_kind Self.Plain.kind };
+
+    ghost same_own: { (x : Self) → Self.Plain.own x ≡ plain_own x };
+
+    ghost plain_archived: { IsPlainlyArchived plain_kind value IsIn plain_own };
+}
+
+impl<T: Native> Archive for T {
+    type Archived = T::Plain;
 
     type Resolver = ();
 
-    ghost kind = { u32_kind };
+    ghost kind = { T.plain_kind };
 
-    ghost meaning = { λ x. x };
+    ghost meaning = { T.value };
 
-    ghost Writes = { λ x from writes r. (x < 2 ^ 32) × (writes ≡ []) };
+    ghost Writes = { NoWrites T.IsIn };
 
-    ghost Resolves = { λ x r at own. own ≡ to_le_bytes w32 x };
+    ghost Resolves = { OwnIs T.plain_own };
 
     ghost IsTooLong = { λ x. ⊥ };
 
     ghost IsTooFar = { λ x r at. ⊥ };
 
-    fn resolve(&self, _resolver: (), out: Place<'_, ArchivedU32>) -> Result<(), ResolveFault>
-        requires { length out.bytes.now ≡ 4 }
-        ensures ok { OnOk result (out.exit.1.0.now ≡ to_le_bytes w32 self.now) }
+    fn resolve(&self, _resolver: (), out: Place<'_, T::Plain>) -> Result<(), ResolveFault>
+        requires { length out.bytes.now ≡ T.Plain.kind.size }
+        ensures ok { OnOk result (out.exit.1.0.now ≡ T.plain_own self.now) }
         ensures err { IfErr result (IsUnresolved ⊥ ⊥) }
     {
         let Place {
@@ -95,22 +125,122 @@ impl Archive for u32 {
             bytes,
             of: _,
         } = out;
-        bytes.copy_from_slice(&self.to_le_bytes());
+        T::Plain::write(*self, bytes);
         Ok(())
     }
 
-    ghost same_kind = { itself u32_kind };
+    ghost same_kind = { T.same_plain };
 
-    ghost archived = { u32_archived };
+    ghost archived = { T.plain_archived };
 }
 
-impl<W: Writer, A: Drop> Serialize<W, A> for u32 {
+impl<W: Writer, A: Drop, T: Native> Serialize<W, A> for T {
     ghost Begins = { λ x from writes. writes ≡ [] };
 
     ghost Refuses = { λ x from fault. ⊥ };
 
     fn serialize(&self, _alloc: A, _writer: &mut W) -> Result<(), Fault<W::Error>> {
-        let _value = *self;
+        self.is_in();
         Ok(())
     }
+}
+
+impl Native for u8 {
+    type Plain = u8;
+
+    ghost plain_kind = { u8_kind };
+
+    ghost plain_own = { to_le_bytes w8 };
+
+    ghost value = { λ x. x };
+
+    ghost IsIn = { λ x. x < 2 ^ 8 };
+
+    fn is_in(self) {}
+
+    ghost same_plain = { itself u8_kind };
+
+    ghost same_own = { λ x. refl };
+
+    ghost plain_archived = { u8_archived };
+}
+
+impl Native for u16 {
+    type Plain = ArchivedU16;
+
+    ghost plain_kind = { u16_kind };
+
+    ghost plain_own = { to_le_bytes w16 };
+
+    ghost value = { λ x. x };
+
+    ghost IsIn = { λ x. x < 2 ^ 16 };
+
+    fn is_in(self) {}
+
+    ghost same_plain = { itself u16_kind };
+
+    ghost same_own = { λ x. refl };
+
+    ghost plain_archived = { u16_archived };
+}
+
+impl Native for u32 {
+    type Plain = ArchivedU32;
+
+    ghost plain_kind = { u32_kind };
+
+    ghost plain_own = { to_le_bytes w32 };
+
+    ghost value = { λ x. x };
+
+    ghost IsIn = { λ x. x < 2 ^ 32 };
+
+    fn is_in(self) {}
+
+    ghost same_plain = { itself u32_kind };
+
+    ghost same_own = { λ x. refl };
+
+    ghost plain_archived = { u32_archived };
+}
+
+impl Native for u64 {
+    type Plain = ArchivedU64;
+
+    ghost plain_kind = { u64_kind };
+
+    ghost plain_own = { to_le_bytes w64 };
+
+    ghost value = { λ x. x };
+
+    ghost IsIn = { λ x. x < 2 ^ 64 };
+
+    fn is_in(self) {}
+
+    ghost same_plain = { itself u64_kind };
+
+    ghost same_own = { λ x. refl };
+
+    ghost plain_archived = { u64_archived };
+}
+
+impl Native for bool {
+    type Plain = bool;
+
+    ghost plain_kind = { bool_kind };
+
+    ghost plain_own = { own_bool };
+
+    ghost value = { λ x. x };
+
+    ghost IsIn = { λ x. Unit {0} };
+
+    fn is_in(self) {}
+
+    ghost same_plain = { itself bool_kind };
+
+    ghost same_own = { λ x. refl };
+
+    ghost plain_archived = { bool_archived };
 }

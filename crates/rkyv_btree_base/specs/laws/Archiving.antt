@@ -1,12 +1,12 @@
 -- Values that lie in their own bytes alone are archived by them.
-use Rattle.std.specs.Prelude.{◌≡◌, ℕ, ◌+◌, ◌^◌, ◌<◌, List, [], length}
-use Rattle.std.specs.Int.{w32, to_le_bytes}
+use Rattle.std.specs.Prelude.{◌≡◌, ℕ, ◌+◌, ◌^◌, ◌<◌, Bool, true, false, List, [], length}
+use Rattle.std.specs.Int.{w8, w16, w32, w64, to_le_bytes}
 use Rattle.std.proofs.Common.{subst, sym, ap, refl, arith, ◌∙◌}
 use Rattle.rkyv_btree_base.specs.Archiving.{IsArchived}
-use Rattle.rkyv_btree_base.specs.Bytes.{bytes_at, from_le}
-use Rattle.rkyv_btree_base.specs.InPlace.{IsOwn, value_of, u32_own}
+use Rattle.rkyv_btree_base.specs.Bytes.{bytes_at}
+use Rattle.rkyv_btree_base.specs.InPlace.{IsOwn, value_of, own_bool, u8_own, u16_own, u32_own, u64_own, bool_own}
 use Rattle.rkyv_btree_base.specs.Kind.{Kind}
-use Rattle.rkyv_btree_base.specs.Plain.{u32_kind}
+use Rattle.rkyv_btree_base.specs.Plain.{u8_kind, u16_kind, u32_kind, u64_kind, bool_kind}
 use Rattle.rkyv_btree_base.specs.Writing.{Write, appended}
 
 -- a value whose own bytes are told, and mean it
@@ -20,8 +20,31 @@ own_archived kind meaning IsIn own is_own meant x from at writes r bytes wrote i
       (from, subst (λ v. kind.Means b from (from + length (appended writes)) at from v) (meant x wrote.0) ((is_own x).means b from (from + length (appended writes)) at short (omega (arith, none)) before aligned inside same)),
 )
 
-written : (n : ℕ) → n < 2 ^ 32 → from_le (to_le_bytes w32 n) ≡ n
-written n h = omega arith
+-- the writes and the own bytes of a value that lies in its own bytes alone
+abbrev pub NoWrites : {X : Type 0} → (X → Type 0) → X → ℕ → List Write → Unit {0} → Type 0
+NoWrites IsIn x from writes r = IsIn x × (writes ≡ [])
 
-pub u32_archived : IsArchived {R = Unit {0}} u32_kind (λ x. x) (λ x from writes r. (x < 2 ^ 32) × (writes ≡ [])) (λ x r at own. own ≡ to_le_bytes w32 x)
-u32_archived = own_archived u32_kind (λ x. x) (λ x. x < 2 ^ 32) (λ x. to_le_bytes w32 x) u32_own (λ x small. written x small)
+abbrev pub OwnIs : {X : Type 0} → (X → List ℕ) → X → Unit {0} → ℕ → List ℕ → Type 0
+OwnIs own x r at bytes = bytes ≡ own x
+
+abbrev pub IsPlainlyArchived : {X : Type 0} (kind : Kind) → (X → kind.Value) → (X → Type 0) → (X → List ℕ) → Type 0
+IsPlainlyArchived kind value IsIn own = IsArchived kind value (NoWrites IsIn) (OwnIs own)
+
+pub u8_archived : IsPlainlyArchived u8_kind (λ x. x) (λ x. x < 2 ^ 8) (to_le_bytes w8)
+u8_archived = own_archived u8_kind (λ x. x) (λ x. x < 2 ^ 8) (to_le_bytes w8) u8_own (λ x small. omega arith)
+
+pub u16_archived : IsPlainlyArchived u16_kind (λ x. x) (λ x. x < 2 ^ 16) (to_le_bytes w16)
+u16_archived = own_archived u16_kind (λ x. x) (λ x. x < 2 ^ 16) (to_le_bytes w16) u16_own (λ x small. omega arith)
+
+pub u32_archived : IsPlainlyArchived u32_kind (λ x. x) (λ x. x < 2 ^ 32) (to_le_bytes w32)
+u32_archived = own_archived u32_kind (λ x. x) (λ x. x < 2 ^ 32) (to_le_bytes w32) u32_own (λ x small. omega arith)
+
+pub u64_archived : IsPlainlyArchived u64_kind (λ x. x) (λ x. x < 2 ^ 64) (to_le_bytes w64)
+u64_archived = own_archived u64_kind (λ x. x) (λ x. x < 2 ^ 64) (to_le_bytes w64) u64_own (λ x small. omega arith)
+
+pub bool_archived : IsPlainlyArchived bool_kind (λ x. x) (λ x. Unit {0}) own_bool
+bool_archived = own_archived bool_kind (λ x. x) (λ x. Unit {0}) own_bool bool_own (λ x small. told x)
+  where
+    told : (x : Bool) → value_of bool_kind (own_bool x) ≡ x
+    told true = refl
+    told false = refl
