@@ -1,19 +1,20 @@
 //! Values that can be archived.
-ghost use Rattle.std.specs.Prelude.{◌≡◌, ℕ, ◌<◌, ◌^◌, List, [], length, OnOk, IfOk, IfErr};
+ghost use Rattle.std.specs.Prelude.{FitsSigned, ◌≡◌, ℕ, ◌<◌, ◌^◌, List, [], length, OnOk, IfOk, IfErr};
 ghost use Rattle.std.specs.Int.{w8, w16, w32, w64, to_le_bytes};
 ghost use Rattle.rkyv_btree_base.specs.Archiving.{Matches, IsArchived, IsUnresolved, IsUnserialised, itself};
 ghost use Rattle.rkyv_btree_base.specs.Kind.{Kind};
-ghost use Rattle.rkyv_btree_base.specs.Plain.{u8_kind, u16_kind, u32_kind, u64_kind, bool_kind};
+ghost use Rattle.rkyv_btree_base.specs.Plain.{u8_kind, u16_kind, u32_kind, u64_kind, i8_kind, i16_kind, i32_kind, i64_kind, bool_kind};
 ghost use Rattle.rkyv_btree_base.specs.Writing.{Write, Wrote, position};
 ghost use Rattle.rkyv_btree_base.specs.declared.fault.EntryFault.{EntryFault};
-ghost use Rattle.rkyv_btree_base.specs.InPlace.{own_bool};
-ghost use Rattle.rkyv_btree_base.specs.laws.Archiving.{NoWrites, OwnIs, IsPlainlyArchived, u8_archived, u16_archived, u32_archived, u64_archived, bool_archived};
+ghost use Rattle.rkyv_btree_base.specs.InPlace.{own_bool, own_signed};
+ghost use Rattle.rkyv_btree_base.specs.laws.Archiving.{NoWrites, OwnIs, IsPlainlyArchived, u8_archived, u16_archived, u32_archived, u64_archived, i8_archived, i16_archived, i32_archived, i64_archived, bool_archived};
 ghost use Rattle.std.proofs.Common.{refl};
 
 use crate::check::{InPlace, Portable};
 use crate::fault::{EntryFault, Fault, ResolveFault};
 use crate::numbers::{ArchivedU16, ArchivedU32, ArchivedU64};
 use crate::place::{Place, Writer};
+use crate::signed::{ArchivedI16, ArchivedI32, ArchivedI64};
 
 /// A value that can be archived.
 pub trait Archive {
@@ -243,4 +244,84 @@ impl Native for bool {
     ghost same_own = { λ x. refl };
 
     ghost plain_archived = { bool_archived };
+}
+
+impl Native for i8 {
+    type Plain = i8;
+
+    ghost plain_kind = { i8_kind };
+
+    ghost plain_own = { own_signed w8 };
+
+    ghost value = { λ x. x };
+
+    ghost IsIn = { FitsSigned w8 };
+
+    fn is_in(self) {}
+
+    ghost same_plain = { itself i8_kind };
+
+    ghost same_own = { λ x. refl };
+
+    ghost plain_archived = { i8_archived };
+}
+
+impl Native for i16 {
+    type Plain = ArchivedI16;
+
+    ghost plain_kind = { i16_kind };
+
+    ghost plain_own = { own_signed w16 };
+
+    ghost value = { λ x. x };
+
+    ghost IsIn = { FitsSigned w16 };
+
+    fn is_in(self) {}
+
+    ghost same_plain = { itself i16_kind };
+
+    ghost same_own = { λ x. refl };
+
+    ghost plain_archived = { i16_archived };
+}
+
+impl Native for i32 {
+    type Plain = ArchivedI32;
+
+    ghost plain_kind = { i32_kind };
+
+    ghost plain_own = { own_signed w32 };
+
+    ghost value = { λ x. x };
+
+    ghost IsIn = { FitsSigned w32 };
+
+    fn is_in(self) {}
+
+    ghost same_plain = { itself i32_kind };
+
+    ghost same_own = { λ x. refl };
+
+    ghost plain_archived = { i32_archived };
+}
+
+impl Native for i64 {
+    type Plain = ArchivedI64;
+
+    ghost plain_kind = { i64_kind };
+
+    ghost plain_own = { own_signed w64 };
+
+    ghost value = { λ x. x };
+
+    ghost IsIn = { FitsSigned w64 };
+
+    fn is_in(self) {}
+
+    ghost same_plain = { itself i64_kind };
+
+    ghost same_own = { λ x. refl };
+
+    ghost plain_archived = { i64_archived };
 }
