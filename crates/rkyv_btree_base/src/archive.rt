@@ -1,17 +1,16 @@
 //! Values that can be archived.
 ghost use Rattle.std.specs.Prelude.{FitsSigned, ◌≡◌, ℕ, ◌<◌, ◌^◌, List, [], length, OnOk, IfOk, IfErr};
 ghost use Rattle.std.specs.Int.{w8, w16, w32, w64, to_le_bytes};
-ghost use Rattle.rkyv_btree_base.specs.Archiving.{Matches, IsArchived, IsUnresolved, IsUnserialised, itself};
+ghost use Rattle.rkyv_btree_base.specs.Archiving.{Archival, Matches, IsArchived, IsUnresolved, IsUnserialised, itself, plain_archival};
 ghost use Rattle.rkyv_btree_base.specs.Kind.{Kind};
 ghost use Rattle.rkyv_btree_base.specs.Plain.{u8_kind, u16_kind, u32_kind, u64_kind, i8_kind, i16_kind, i32_kind, i64_kind, bool_kind};
 ghost use Rattle.rkyv_btree_base.specs.Writing.{Write, Wrote, position};
-ghost use Rattle.rkyv_btree_base.specs.declared.fault.EntryFault.{EntryFault};
 ghost use Rattle.rkyv_btree_base.specs.InPlace.{own_bool, own_signed};
-ghost use Rattle.rkyv_btree_base.specs.laws.Archiving.{NoWrites, OwnIs, IsPlainlyArchived, u8_archived, u16_archived, u32_archived, u64_archived, i8_archived, i16_archived, i32_archived, i64_archived, bool_archived};
+ghost use Rattle.rkyv_btree_base.specs.laws.Archiving.{u8_archived, u16_archived, u32_archived, u64_archived, i8_archived, i16_archived, i32_archived, i64_archived, bool_archived};
 ghost use Rattle.std.proofs.Common.{refl};
 
 use crate::check::{InPlace, Portable};
-use crate::fault::{EntryFault, Fault, ResolveFault};
+use crate::fault::{Fault, ResolveFault};
 use crate::numbers::{ArchivedU16, ArchivedU32, ArchivedU64};
 use crate::place::{Place, Writer};
 use crate::signed::{ArchivedI16, ArchivedI32, ArchivedI64};
@@ -24,23 +23,8 @@ pub trait Archive {
     /// What serialising tells resolving.
     type Resolver: Drop;
 
-    /// The archived type's kind, once more: a member above the last function can't name that of a bound.
-    ghost kind: { Kind };
-
-    /// What the archived bytes mean.
-    ghost meaning: { Self → kind.Value };
-
-    /// The writes that serialising makes from a position on, and the resolver that it answers.
-    ghost Writes: { Self → ℕ → List Write → Self.Resolver → Type 0 };
-
-    /// The own bytes that resolving writes at a position.
-    ghost Resolves: { Self → Self.Resolver → ℕ → List ℕ → Type 0 };
-
-    /// A length of the value is past 32 bits.
-    ghost IsTooLong: { Self → Type 0 };
-
-    /// A pointer in its own bytes at a position doesn't reach its target.
-    ghost IsTooFar: { Self → Self.Resolver → ℕ → Type 0 };
+    /// What archiving does.
+    ghost archival: { Archival Self Self.Resolver };
 
     /// Writes the own bytes. After an error they may be any.
     fn resolve(
@@ -49,26 +33,20 @@ pub trait Archive {
         out: Place<'_, Self::Archived>,
     ) -> Result<(), ResolveFault>
         requires { length out.bytes.now ≡ Self.Archived.kind.size }
-        ensures ok { OnOk result (Resolves self.now resolver out.entry.pos out.exit.1.0.now) }
-        ensures err { IfErr result (IsUnresolved (IsTooLong self.now) (IsTooFar self.now resolver out.entry.pos)) };
+        ensures ok { OnOk result (archival.Resolves self.now resolver out.entry.pos out.exit.1.0.now) }
+        ensures err { IfErr result (IsUnresolved archival self.now resolver out.entry.pos) };
 
-    ghost same_kind: { Matches kind Self.Archived.kind };
+    ghost same_kind: { Matches archival.kind Self.Archived.kind };
 
-    ghost archived: { IsArchived kind meaning Writes Resolves };
+    ghost archived: { IsArchived archival };
 }
 
 /// A value that a writer takes, with what its own bytes lead to.
 pub trait Serialize<W: Writer, A>: Archive {
-    /// The writes that it may make from a position on, or a beginning of them.
-    ghost Begins: { Self → ℕ → List Write → Type 0 };
-
-    /// The entry faults that it may answer, from a position on.
-    ghost Refuses: { Self → ℕ → EntryFault → Type 0 };
-
     /// Makes the writes that come before its own bytes. After an error the writer's contents begin with the old ones.
     fn serialize(&self, alloc: A, writer: &mut W) -> Result<Self::Resolver, Fault<W::Error>>
-        ensures ok { IfOk result (λ r. (writes : List Write) × Self.Writes self.now (position (W.state writer.old)) writes r × Wrote (W.state writer.old) writes (W.state writer.new)) }
-        ensures err { IfErr result (λ fault. IsUnserialised (Begins self.now) (Self.IsTooLong self.now) (Refuses self.now) (W.state writer.old) fault (W.state writer.new)) };
+        ensures ok { IfOk result (λ r. (writes : List Write) × Self.archival.Writes self.now (position (W.state writer.old)) writes r × Wrote (W.state writer.old) writes (W.state writer.new)) }
+        ensures err { IfErr result (λ fault. IsUnserialised Self.archival self.now (W.state writer.old) fault (W.state writer.new)) };
 }
 
 /// A native value that lies in its own bytes alone when it is archived.
@@ -96,7 +74,7 @@ pub trait Native: Copy + Drop {
 
     ghost same_own: { (x : Self) → Self.Plain.own x ≡ plain_own x };
 
-    ghost plain_archived: { IsPlainlyArchived plain_kind value IsIn plain_own };
+    ghost plain_archived: { IsArchived (plain_archival plain_kind value IsIn plain_own) };
 }
 
 impl<T: Native> Archive for T {
@@ -104,22 +82,12 @@ impl<T: Native> Archive for T {
 
     type Resolver = ();
 
-    ghost kind = { T.plain_kind };
-
-    ghost meaning = { T.value };
-
-    ghost Writes = { NoWrites T.IsIn };
-
-    ghost Resolves = { OwnIs T.plain_own };
-
-    ghost IsTooLong = { λ x. ⊥ };
-
-    ghost IsTooFar = { λ x r at. ⊥ };
+    ghost archival = { plain_archival T.plain_kind T.value T.IsIn T.plain_own };
 
     fn resolve(&self, _resolver: (), out: Place<'_, T::Plain>) -> Result<(), ResolveFault>
         requires { length out.bytes.now ≡ T.Plain.kind.size }
         ensures ok { OnOk result (out.exit.1.0.now ≡ T.plain_own self.now) }
-        ensures err { IfErr result (IsUnresolved ⊥ ⊥) }
+        ensures err { IfErr result (IsUnresolved (plain_archival T.plain_kind T.value T.IsIn T.plain_own) self.now tt out.entry.pos) }
     {
         let Place {
             pos: _,
@@ -136,10 +104,6 @@ impl<T: Native> Archive for T {
 }
 
 impl<W: Writer, A: Drop, T: Native> Serialize<W, A> for T {
-    ghost Begins = { λ x from writes. writes ≡ [] };
-
-    ghost Refuses = { λ x from fault. ⊥ };
-
     fn serialize(&self, _alloc: A, _writer: &mut W) -> Result<(), Fault<W::Error>> {
         self.is_in();
         Ok(())

@@ -4,16 +4,15 @@ use Rattle.std.specs.Int.{Width, w8, w16, w32, w64, to_le_bytes, cast_signed, ca
 use Rattle.std.proofs.Math.Facts.{Fits-of_z}
 use Rattle.std.proofs.lemmas.Int.{to_z-of_z}
 use Rattle.std.proofs.Common.{subst, sym, ap, refl, arith, ◌∙◌}
-use Rattle.rkyv_btree_base.specs.Archiving.{IsArchived}
+use Rattle.rkyv_btree_base.specs.Archiving.{IsArchived, plain_archival}
 use Rattle.rkyv_btree_base.specs.Bytes.{bytes_at, from_le}
 use Rattle.rkyv_btree_base.specs.InPlace.{IsOwn, value_of, own_bool, u8_own, u16_own, u32_own, u64_own, own_signed, i8_own, i16_own, i32_own, i64_own, bool_own}
 use Rattle.rkyv_btree_base.specs.Kind.{Kind}
 use Rattle.rkyv_btree_base.specs.Plain.{u8_kind, u16_kind, u32_kind, u64_kind, i8_kind, i16_kind, i32_kind, i64_kind, bool_kind}
-use Rattle.rkyv_btree_base.specs.Writing.{Write, appended}
+use Rattle.rkyv_btree_base.specs.Writing.{appended}
 
 -- a value whose own bytes are told, and mean it
-pub own_archived : {X : Type 0} (kind : Kind) (meaning : X → kind.Value) (IsIn : X → Type 0) (own : X → List ℕ) → ((x : X) → IsOwn kind (own x)) → ((x : X) → IsIn x → value_of kind (own x) ≡ meaning x) →
-    IsArchived {R = Unit {0}} kind meaning (λ x from writes r. IsIn x × (writes ≡ [])) (λ x r at bytes. bytes ≡ own x)
+pub own_archived : {X : Type 0} (kind : Kind) (meaning : X → kind.Value) (IsIn : X → Type 0) (own : X → List ℕ) → ((x : X) → IsOwn kind (own x)) → ((x : X) → IsIn x → value_of kind (own x) ≡ meaning x) → IsArchived (plain_archival kind meaning IsIn own)
 own_archived kind meaning IsIn own is_own meant x from at writes r bytes wrote is = (
   ap length is ∙ (is_own x).size,
   λ b short aligned before inside held there.
@@ -22,29 +21,19 @@ own_archived kind meaning IsIn own is_own meant x from at writes r bytes wrote i
       (from, subst (λ v. kind.Means b from (from + length (appended writes)) at from v) (meant x wrote.0) ((is_own x).means b from (from + length (appended writes)) at short (omega (arith, none)) before aligned inside same)),
 )
 
--- the writes and the own bytes of a value that lies in its own bytes alone
-abbrev pub NoWrites : {X : Type 0} → (X → Type 0) → X → ℕ → List Write → Unit {0} → Type 0
-NoWrites IsIn x from writes r = IsIn x × (writes ≡ [])
-
-abbrev pub OwnIs : {X : Type 0} → (X → List ℕ) → X → Unit {0} → ℕ → List ℕ → Type 0
-OwnIs own x r at bytes = bytes ≡ own x
-
-abbrev pub IsPlainlyArchived : {X : Type 0} (kind : Kind) → (X → kind.Value) → (X → Type 0) → (X → List ℕ) → Type 0
-IsPlainlyArchived kind value IsIn own = IsArchived kind value (NoWrites IsIn) (OwnIs own)
-
-pub u8_archived : IsPlainlyArchived u8_kind (λ x. x) (λ x. x < 2 ^ 8) (to_le_bytes w8)
+pub u8_archived : IsArchived (plain_archival u8_kind (λ x. x) (λ x. x < 2 ^ 8) (to_le_bytes w8))
 u8_archived = own_archived u8_kind (λ x. x) (λ x. x < 2 ^ 8) (to_le_bytes w8) u8_own (λ x small. omega arith)
 
-pub u16_archived : IsPlainlyArchived u16_kind (λ x. x) (λ x. x < 2 ^ 16) (to_le_bytes w16)
+pub u16_archived : IsArchived (plain_archival u16_kind (λ x. x) (λ x. x < 2 ^ 16) (to_le_bytes w16))
 u16_archived = own_archived u16_kind (λ x. x) (λ x. x < 2 ^ 16) (to_le_bytes w16) u16_own (λ x small. omega arith)
 
-pub u32_archived : IsPlainlyArchived u32_kind (λ x. x) (λ x. x < 2 ^ 32) (to_le_bytes w32)
+pub u32_archived : IsArchived (plain_archival u32_kind (λ x. x) (λ x. x < 2 ^ 32) (to_le_bytes w32))
 u32_archived = own_archived u32_kind (λ x. x) (λ x. x < 2 ^ 32) (to_le_bytes w32) u32_own (λ x small. omega arith)
 
-pub u64_archived : IsPlainlyArchived u64_kind (λ x. x) (λ x. x < 2 ^ 64) (to_le_bytes w64)
+pub u64_archived : IsArchived (plain_archival u64_kind (λ x. x) (λ x. x < 2 ^ 64) (to_le_bytes w64))
 u64_archived = own_archived u64_kind (λ x. x) (λ x. x < 2 ^ 64) (to_le_bytes w64) u64_own (λ x small. omega arith)
 
-pub bool_archived : IsPlainlyArchived bool_kind (λ x. x) (λ x. Unit {0}) own_bool
+pub bool_archived : IsArchived (plain_archival bool_kind (λ x. x) (λ x. Unit {0}) own_bool)
 bool_archived = own_archived bool_kind (λ x. x) (λ x. Unit {0}) own_bool bool_own (λ x small. told x)
   where
     told : (x : Bool) → value_of bool_kind (own_bool x) ≡ x
@@ -55,14 +44,14 @@ bool_archived = own_archived bool_kind (λ x. x) (λ x. Unit {0}) own_bool bool_
 signed_told : (w : Width) (x : ℤ) → FitsSigned w x → from_le (to_le_bytes w (cast_unsigned w x)) ≡ cast_unsigned w x → cast_signed w (from_le (to_le_bytes w (cast_unsigned w x))) ≡ x
 signed_told w x fits back = ap (cast_signed w) back ∙ to_z-of_z w x fits
 
-pub i8_archived : IsPlainlyArchived i8_kind (λ x. x) (FitsSigned w8) (own_signed w8)
+pub i8_archived : IsArchived (plain_archival i8_kind (λ x. x) (FitsSigned w8) (own_signed w8))
 i8_archived = own_archived i8_kind (λ x. x) (FitsSigned w8) (own_signed w8) i8_own (λ x fits. signed_told w8 x fits (let small = Fits-of_z {w = w8} {z = x} fits in omega arith))
 
-pub i16_archived : IsPlainlyArchived i16_kind (λ x. x) (FitsSigned w16) (own_signed w16)
+pub i16_archived : IsArchived (plain_archival i16_kind (λ x. x) (FitsSigned w16) (own_signed w16))
 i16_archived = own_archived i16_kind (λ x. x) (FitsSigned w16) (own_signed w16) i16_own (λ x fits. signed_told w16 x fits (let small = Fits-of_z {w = w16} {z = x} fits in omega arith))
 
-pub i32_archived : IsPlainlyArchived i32_kind (λ x. x) (FitsSigned w32) (own_signed w32)
+pub i32_archived : IsArchived (plain_archival i32_kind (λ x. x) (FitsSigned w32) (own_signed w32))
 i32_archived = own_archived i32_kind (λ x. x) (FitsSigned w32) (own_signed w32) i32_own (λ x fits. signed_told w32 x fits (let small = Fits-of_z {w = w32} {z = x} fits in omega arith))
 
-pub i64_archived : IsPlainlyArchived i64_kind (λ x. x) (FitsSigned w64) (own_signed w64)
+pub i64_archived : IsArchived (plain_archival i64_kind (λ x. x) (FitsSigned w64) (own_signed w64))
 i64_archived = own_archived i64_kind (λ x. x) (FitsSigned w64) (own_signed w64) i64_own (λ x fits. signed_told w64 x fits (let small = Fits-of_z {w = w64} {z = x} fits in omega arith))
