@@ -16,10 +16,11 @@ pub record Matches (kind other : Kind) : Type 0 where
   pub to : kind.Value → other.Value
   pub size : kind.size ≡ other.size
   pub align : kind.align ≡ other.align
+  pub fits : kind.is_fitting ≡ other.is_fitting
   pub means : (b : List ℕ) (lo hi at left : ℕ) (v : kind.Value) → kind.Means b lo hi at left v → other.Means b lo hi at left (to v)
 
 pub itself : (kind : Kind) → Matches kind kind
-itself kind = record { to = λ v. v; size = refl; align = refl; means = λ b lo hi at left v m. m }
+itself kind = record { to = λ v. v; size = refl; align = refl; fits = refl; means = λ b lo hi at left v m. m }
 
 -- what archiving the values of a type does, with what serialising tells resolving
 pub record Archival (X R : Type 0) : Type 1 where

@@ -2,8 +2,8 @@
 ghost use Rattle.std.specs.Prelude.{FitsSigned, ◌≡◌, ℕ, ◌<◌, ◌^◌, List, [], length, OnOk, IfOk, IfErr};
 ghost use Rattle.std.specs.Int.{w8, w16, w32, w64, to_le_bytes};
 ghost use Rattle.rkyv_btree_base.specs.Archiving.{Archival, Matches, IsArchived, IsUnresolved, IsUnserialised, itself, plain_archival};
-ghost use Rattle.rkyv_btree_base.specs.Kind.{Kind};
-ghost use Rattle.rkyv_btree_base.specs.Plain.{u8_kind, u16_kind, u32_kind, u64_kind, i8_kind, i16_kind, i32_kind, i64_kind, bool_kind};
+ghost use Rattle.rkyv_btree_base.specs.Kind.{Kind, IsLawful};
+ghost use Rattle.rkyv_btree_base.specs.Plain.{u8_kind, u16_kind, u32_kind, u64_kind, i8_kind, i16_kind, i32_kind, i64_kind, bool_kind, u8_laws, u16_laws, u32_laws, u64_laws, i8_laws, i16_laws, i32_laws, i64_laws, bool_laws};
 ghost use Rattle.rkyv_btree_base.specs.Writing.{Write, Wrote, position};
 ghost use Rattle.rkyv_btree_base.specs.InPlace.{own_bool, own_signed};
 ghost use Rattle.rkyv_btree_base.specs.laws.Archiving.{u8_archived, u16_archived, u32_archived, u64_archived, i8_archived, i16_archived, i32_archived, i64_archived, bool_archived};
@@ -14,6 +14,7 @@ use crate::fault::{Fault, ResolveFault};
 use crate::numbers::{ArchivedU16, ArchivedU32, ArchivedU64};
 use crate::place::{Place, Writer};
 use crate::signed::{ArchivedI16, ArchivedI32, ArchivedI64};
+use std::marker::PhantomData;
 
 /// A value that can be archived.
 pub trait Archive {
@@ -38,6 +39,8 @@ pub trait Archive {
 
     ghost same_kind: { Matches archival.kind Self.Archived.kind };
 
+    ghost lawful: { IsLawful archival.kind };
+
     ghost archived: { IsArchived archival };
 }
 
@@ -47,6 +50,25 @@ pub trait Serialize<W: Writer, A>: Archive {
     fn serialize(&self, alloc: A, writer: &mut W) -> Result<Self::Resolver, Fault<W::Error>>
         ensures ok { IfOk result (λ r. (writes : List Write) × Self.archival.Writes self.now (position (W.state writer.old)) writes r × Wrote (W.state writer.old) writes (W.state writer.new)) }
         ensures err { IfErr result (λ fault. IsUnserialised Self.archival self.now (W.state writer.old) fault (W.state writer.new)) };
+}
+
+/// Resolves into the bytes at a position.
+pub(crate) fn resolve_into<T: Archive>(
+    value: &T,
+    resolver: T::Resolver,
+    pos: u32,
+    bytes: &mut [u8],
+) -> Result<(), ResolveFault>
+    requires { length bytes.old ≡ T.Archived.kind.size }
+    ensures ok { OnOk result (T.archival.Resolves value.now resolver pos bytes.new) }
+    ensures err { IfErr result (IsUnresolved T.archival value.now resolver pos) }
+{
+    let out = Place {
+        pos,
+        bytes,
+        of: PhantomData,
+    };
+    value.resolve(resolver, out)
 }
 
 /// A native value that lies in its own bytes alone when it is archived.
@@ -71,6 +93,8 @@ pub trait Native: Copy + Drop {
         ensures { IsIn self };
 
     ghost same_plain: { Matches plain_kind Self.Plain.kind };
+
+    ghost plain_lawful: { IsLawful plain_kind };
 
     ghost same_own: { (x : Self) → Self.Plain.own x ≡ plain_own x };
 
@@ -100,6 +124,8 @@ impl<T: Native> Archive for T {
 
     ghost same_kind = { T.same_plain };
 
+    ghost lawful = { T.plain_lawful };
+
     ghost archived = { T.plain_archived };
 }
 
@@ -125,6 +151,8 @@ impl Native for u8 {
 
     ghost same_plain = { itself u8_kind };
 
+    ghost plain_lawful = { u8_laws };
+
     ghost same_own = { λ x. refl };
 
     ghost plain_archived = { u8_archived };
@@ -144,6 +172,8 @@ impl Native for u16 {
     fn is_in(self) {}
 
     ghost same_plain = { itself u16_kind };
+
+    ghost plain_lawful = { u16_laws };
 
     ghost same_own = { λ x. refl };
 
@@ -165,6 +195,8 @@ impl Native for u32 {
 
     ghost same_plain = { itself u32_kind };
 
+    ghost plain_lawful = { u32_laws };
+
     ghost same_own = { λ x. refl };
 
     ghost plain_archived = { u32_archived };
@@ -184,6 +216,8 @@ impl Native for u64 {
     fn is_in(self) {}
 
     ghost same_plain = { itself u64_kind };
+
+    ghost plain_lawful = { u64_laws };
 
     ghost same_own = { λ x. refl };
 
@@ -205,6 +239,8 @@ impl Native for bool {
 
     ghost same_plain = { itself bool_kind };
 
+    ghost plain_lawful = { bool_laws };
+
     ghost same_own = { λ x. refl };
 
     ghost plain_archived = { bool_archived };
@@ -224,6 +260,8 @@ impl Native for i8 {
     fn is_in(self) {}
 
     ghost same_plain = { itself i8_kind };
+
+    ghost plain_lawful = { i8_laws };
 
     ghost same_own = { λ x. refl };
 
@@ -245,6 +283,8 @@ impl Native for i16 {
 
     ghost same_plain = { itself i16_kind };
 
+    ghost plain_lawful = { i16_laws };
+
     ghost same_own = { λ x. refl };
 
     ghost plain_archived = { i16_archived };
@@ -265,6 +305,8 @@ impl Native for i32 {
 
     ghost same_plain = { itself i32_kind };
 
+    ghost plain_lawful = { i32_laws };
+
     ghost same_own = { λ x. refl };
 
     ghost plain_archived = { i32_archived };
@@ -284,6 +326,8 @@ impl Native for i64 {
     fn is_in(self) {}
 
     ghost same_plain = { itself i64_kind };
+
+    ghost plain_lawful = { i64_laws };
 
     ghost same_own = { λ x. refl };
 
