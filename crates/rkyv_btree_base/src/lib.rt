@@ -9,6 +9,7 @@ pub mod fault;
 pub mod layout;
 pub mod map;
 mod node;
+mod resolved;
 pub mod numbers;
 pub mod place;
 pub mod refusal;

@@ -1,0 +1,85 @@
+//! The bytes of nodes, put together in room that was reserved.
+ghost use Rattle.std.specs.Prelude.{◌≡◌, ◌+◌, ◌*◌, ◌≤◌, [], ◌∷◌, ◌++◌, length, map, true, vec_len, vec_capacity, IsTrue, ℕ, List, OnOk, IfErr};
+ghost use Rattle.std.specs.List.{flat_map};
+ghost use Rattle.rkyv_btree_base.specs.Image.{filled, entry_bytes, leaf_bytes, pointers, pointers_reach, inner_bytes};
+ghost use Rattle.rkyv_btree_base.specs.Layout.{shape, are_fitting, values_at, len_at, leaf_size, inner_size};
+ghost use Rattle.rkyv_btree_base.specs.Archiving.{IsUnresolved};
+ghost use Rattle.rkyv_btree_base.specs.Written.{AreResolved, AreUnresolved};
+
+use crate::archive::{Archive, resolve_into};
+use crate::check::Portable;
+use crate::fault::ResolveFault;
+use crate::layout;
+use crate::place::write_offset;
+use std::alloc::Allocator;
+use std::collections::VecDeque;
+
+/// Appends bytes for which there is room.
+fn append<A: Allocator>(node: &mut Vec<u8, A>, bytes: &[u8])
+    requires { vec_len node.old + length bytes.now ≤ vec_capacity node.old }
+    ensures items { node.new.items ≡ node.old.items ++ bytes.now }
+    ensures len { vec_len node.new ≡ vec_len node.old + length bytes.now }
+    ensures capacity { vec_capacity node.old ≤ vec_capacity node.new }
+{
+    node.extend_from_slice(bytes).unwrap();
+}
+
+/// Appends zeros up to a length for which there is room.
+fn fill_up<A: Allocator>(node: &mut Vec<u8, A>, len: usize)
+    requires shorter { vec_len node.old ≤ len }
+    requires room { len ≤ vec_capacity node.old }
+    ensures items { node.new.items ≡ filled node.old.items len }
+    ensures len { vec_len node.new ≡ len }
+    ensures capacity { vec_capacity node.old ≤ vec_capacity node.new }
+{
+    node.resize(len, 0).unwrap();
+}
+
+/// Appends a value's own bytes, resolved at `pos`, for which there is room.
+fn append_value<T: Archive, A: Allocator>(
+    node: &mut Vec<u8, A>,
+    value: &T,
+    resolver: T::Resolver,
+    pos: u32,
+) -> Result<(), ResolveFault>
+    requires fitting { IsTrue T.Archived.kind.is_fitting }
+    requires room { vec_len node.old + T.Archived.kind.size ≤ vec_capacity node.old }
+    ensures ok { OnOk result ((own : List ℕ) × T.archival.Resolves value.now resolver pos own × (node.new.items ≡ node.old.items ++ own)) }
+    ensures len { OnOk result (vec_len node.new ≡ vec_len node.old + T.Archived.kind.size) }
+    ensures err { IfErr result (IsUnresolved T.archival value.now resolver pos) }
+    ensures capacity { vec_capacity node.old ≤ vec_capacity node.new }
+{
+    let start = node.len();
+    fill_up(node, start + T::Archived::size() as usize);
+    let bytes = node.as_mut_slice();
+    resolve_into(value, resolver, pos, &mut bytes[start..])
+}
+
+/// Appends the keys of entries, resolved from `pos` on. Their resolvers are used up.
+fn append_keys<K: Archive, N, A: Allocator>(
+    node: &mut Vec<u8, A>,
+    entries: &[(&K, &N)],
+    resolvers: &mut VecDeque<K::Resolver, A>,
+    pos: u32,
+) -> Result<(), ResolveFault>
+    requires fitting { IsTrue K.Archived.kind.is_fitting }
+    requires count { length resolvers.old.items ≡ length entries.now }
+    requires room { vec_len node.old + length entries.now * K.Archived.kind.size ≤ vec_capacity node.old }
+    requires end { pos + length entries.now * K.Archived.kind.size ≤ 4294967295 }
+    ensures ok { OnOk result ((owns : List (List ℕ)) × AreResolved K.archival pos (map (λ x. x.0.now) entries.now) resolvers.old.items owns × (node.new.items ≡ node.old.items ++ flat_map (λ own. own) owns)) }
+    ensures len { OnOk result (vec_len node.new ≡ vec_len node.old + length entries.now * K.Archived.kind.size) }
+    ensures spent { OnOk result (resolvers.new.items ≡ []) }
+    ensures err { IfErr result (AreUnresolved K.archival pos (map (λ x. x.0.now) entries.now) resolvers.old.items) }
+    ensures capacity { vec_capacity node.old ≤ vec_capacity node.new }
+{
+    let mut at = pos;
+    for entry in entries {
+        let resolver = resolvers.pop_front().unwrap();
+        match append_value(node, entry.0, resolver, at) {
+            Ok(()) => {}
+            Err(fault) => return Err(fault),
+        }
+        at += K::Archived::size();
+    }
+    Ok(())
+}
