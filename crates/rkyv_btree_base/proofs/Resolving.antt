@@ -1,10 +1,14 @@
 -- Values resolved one behind another.
-use Rattle.std.proofs.Common.{◌≡◌, ℕ, ◌+◌, ◌<◌, ◌≤◌, List, [], ◌∷◌, ◌++◌, length, map, take, drop, get_or, inl, inr, refl, sym, ap, subst, ◌∙◌, arith}
-use Rattle.std.proofs.lemmas.List.{append_assoc, append-nil, drop_more, drop_all, nil_from_length, take_at, length-append}
+use Rattle.std.proofs.Common.{◌≡◌, ℕ, suc, Bor, ◌+◌, ◌<◌, ◌≤◌, List, [], ◌∷◌, ◌++◌, length, map, take, drop, get_or, inl, inr, refl, sym, ap, subst, ◌∙◌, arith}
+use Rattle.std.proofs.lemmas.List.{append_assoc, append-nil, drop_more, drop_all, nil_from_length, take_at, length-append, length-map}
 use Rattle.std.proofs.lemmas.Grind.{flat_map-append}
+use Rattle.std.proofs.lemmas.List.Folds.{flat_map-map}
 use Rattle.std.specs.List.{flat_map}
 use Rattle.rkyv_btree_base.specs.Archiving.{Archival, IsUnresolved}
-use Rattle.rkyv_btree_base.specs.Written.{AreResolved, AreUnresolved}
+use Rattle.rkyv_btree_base.specs.Image.{filled, entry_bytes}
+use Rattle.rkyv_btree_base.specs.InPlace.{OwnBytes}
+use Rattle.rkyv_btree_base.specs.Layout.{Shape, keys_at, values_at, key_at, value_at}
+use Rattle.rkyv_btree_base.specs.Written.{AreResolved, AreUnresolved, EntriesResolved, EntriesUnresolved, now_of}
 use Rattle.rkyv_btree_base.specs.declared.fault.ResolveFault.{ResolveFault}
 
 -- a part that was written behind the old bytes
@@ -44,3 +48,60 @@ pub all_resolved : {I X R : Type 0} (T : Archival X R) (value : I → X) (pos : 
 all_resolved T value pos all given at i items rs done end none so =
     let left : map value (drop i items) ≡ [] = ap (map value) (drop_all i items end) in
     subst (AreResolved T pos all given) (append-nil done) (so.goes [] (subst (λ xs. AreResolved T at xs rs []) (sym left) (nil_from_length rs none, refl)))
+
+pub resolved_length : {X R : Type 0} (T : Archival X R) (at : ℕ) (xs : List X) (rs : List R) (owns : List (List ℕ)) → AreResolved T at xs rs owns → length owns ≡ length xs
+resolved_length T at [] rs owns h = ap length h.1
+resolved_length T at (x ∷ xs) rs owns h = ap length h.7 ∙ ap suc (resolved_length T (at + T.kind.size) xs h.1 h.3 h.5)
+
+-- two columns as the own bytes of entries
+abbrev pub paired : List (List ℕ) → List (List ℕ) → List OwnBytes
+paired [] vs = []
+paired (k ∷ ks) [] = []
+paired (k ∷ ks) (v ∷ vs) = (k, v) ∷ paired ks vs
+
+pub paired_keys : (ks vs : List (List ℕ)) → length ks ≡ length vs → map (λ o. o.0) (paired ks vs) ≡ ks
+paired_keys [] vs h = refl
+paired_keys (k ∷ ks) [] h = absurd (cc h)
+paired_keys (k ∷ ks) (v ∷ vs) h = ap (λ z. k ∷ z) (paired_keys ks vs (cc h))
+
+pub paired_values : (ks vs : List (List ℕ)) → length ks ≡ length vs → map (λ o. o.1) (paired ks vs) ≡ vs
+paired_values [] [] h = refl
+paired_values [] (v ∷ vs) h = absurd (cc h)
+paired_values (k ∷ ks) [] h = absurd (cc h)
+paired_values (k ∷ ks) (v ∷ vs) h = ap (λ z. v ∷ z) (paired_values ks vs (cc h))
+
+pub keys_now : {M N : Type 0} (xs : List (Bor M × Bor N)) → map (λ x. x.0) (map now_of xs) ≡ map (λ x. x.0.now) xs
+keys_now [] = refl
+keys_now (x ∷ xs) = ap (λ z. x.0.now ∷ z) (keys_now xs)
+
+pub values_now : {M N : Type 0} (xs : List (Bor M × Bor N)) → map (λ x. x.1) (map now_of xs) ≡ map (λ x. x.1.now) xs
+values_now [] = refl
+values_now (x ∷ xs) = ap (λ z. x.1.now ∷ z) (values_now xs)
+
+module _ {M N R S : Type 0} (s : Shape) (K : Archival M R) (V : Archival N S) where
+  -- both columns of a node's entries
+  pub both_resolved : (pos k v : ℕ) (xs : List (Bor M × Bor N)) (keys : List R) (values : List S) (kowns vowns : List (List ℕ)) → k ≡ pos + key_at s 0 → v ≡ pos + value_at s 0 → AreResolved K k (map (λ x. x.0.now) xs) keys kowns → AreResolved V v (map (λ x. x.1.now) xs) values vowns → EntriesResolved s K V pos (map now_of xs) keys values (paired kowns vowns)
+  both_resolved pos k v xs keys values kowns vowns ek ev hk hv =
+      let same : length kowns ≡ length vowns = resolved_length K k (map (λ x. x.0.now) xs) keys kowns hk ∙ (length-map xs (λ x. x.0.now) ∙ sym (resolved_length V v (map (λ x. x.1.now) xs) values vowns hv ∙ length-map xs (λ x. x.1.now))) in
+      record {
+        own_keys = subst (λ os. AreResolved K (pos + key_at s 0) (map (λ x. x.0) (map now_of xs)) keys os) (sym (paired_keys kowns vowns same)) (subst (λ ys. AreResolved K (pos + key_at s 0) ys keys kowns) (sym (keys_now xs)) (subst (λ n. AreResolved K n (map (λ x. x.0.now) xs) keys kowns) ek hk));
+        own_values = subst (λ os. AreResolved V (pos + value_at s 0) (map (λ x. x.1) (map now_of xs)) values os) (sym (paired_values kowns vowns same)) (subst (λ ys. AreResolved V (pos + value_at s 0) ys values vowns) (sym (values_now xs)) (subst (λ n. AreResolved V n (map (λ x. x.1.now) xs) values vowns) ev hv));
+      }
+
+  pub key_unresolved : (pos k : ℕ) (xs : List (Bor M × Bor N)) (keys : List R) (values : List S) (fault : ResolveFault) → k ≡ pos + key_at s 0 → AreUnresolved K k (map (λ x. x.0.now) xs) keys fault → EntriesUnresolved s K V pos (map now_of xs) keys values fault
+  key_unresolved pos k xs keys values fault ek h = inl (subst (λ ys. AreUnresolved K (pos + key_at s 0) ys keys fault) (sym (keys_now xs)) (subst (λ n. AreUnresolved K n (map (λ x. x.0.now) xs) keys fault) ek h))
+
+  pub value_unresolved : (pos v : ℕ) (xs : List (Bor M × Bor N)) (keys : List R) (values : List S) (fault : ResolveFault) → v ≡ pos + value_at s 0 → AreUnresolved V v (map (λ x. x.1.now) xs) values fault → EntriesUnresolved s K V pos (map now_of xs) keys values fault
+  value_unresolved pos v xs keys values fault ev h = inr (subst (λ ys. AreUnresolved V (pos + value_at s 0) ys values fault) (sym (values_now xs)) (subst (λ n. AreUnresolved V n (map (λ x. x.1.now) xs) values fault) ev h))
+
+-- the bytes of a node's kind and entries, part by part
+pub filled_columns : (s : Shape) (kind k v : ℕ) (kowns vowns : List (List ℕ)) (b0 b1 b2 b3 b4 b5 : List ℕ) → length kowns ≡ length vowns → k ≡ keys_at s → v ≡ values_at s → b0 ≡ [] → b1 ≡ b0 ++ kind ∷ [] → b2 ≡ filled b1 k → b3 ≡ b2 ++ flat_map (λ b. b) kowns → b4 ≡ filled b3 v → b5 ≡ b4 ++ flat_map (λ b. b) vowns → b5 ≡ entry_bytes s kind (paired kowns vowns)
+filled_columns s kind k v kowns vowns b0 b1 b2 b3 b4 b5 same ek ev e0 e1 e2 e3 e4 e5 =
+    let owns = paired kowns vowns in
+    let keys : flat_map (λ (o : OwnBytes). o.0) owns ≡ flat_map (λ b. b) kowns = sym (flat_map-map (λ b. b) (λ (o : OwnBytes). o.0) owns) ∙ ap (flat_map (λ b. b)) (paired_keys kowns vowns same) in
+    let values : flat_map (λ (o : OwnBytes). o.1) owns ≡ flat_map (λ b. b) vowns = sym (flat_map-map (λ b. b) (λ (o : OwnBytes). o.1) owns) ∙ ap (flat_map (λ b. b)) (paired_values kowns vowns same) in
+    rw (keys, values)
+    (e5 ∙ ap (λ z. z ++ flat_map (λ b. b) vowns)
+    (e4 ∙ ap (filled b3) ev ∙ ap (λ z. filled z (values_at s))
+    (e3 ∙ ap (λ z. z ++ flat_map (λ b. b) kowns)
+    (e2 ∙ ap (filled b1) ek ∙ ap (λ z. filled z (keys_at s)) (e1 ∙ ap (λ z. z ++ kind ∷ []) e0)))))

@@ -1,5 +1,6 @@
 -- How values, nodes and trees are written: from one state of a writer to another, or up to the write that is refused.
 use Rattle.std.specs.Prelude.{◌≡◌, ◌≢◌, ℕ, ◌+◌, ◌<◌, ◌⊎◌, false, List, [], ◌∷◌, ◌++◌, length, map, Option, Some, None}
+use Rattle.std.specs.Borrow.{Bor}
 use Rattle.rkyv_btree_base.specs.Archiving.{Archival, IsUnresolved, IsUnserialised}
 use Rattle.rkyv_btree_base.specs.Image.{padding, leaf_image, inner_image}
 use Rattle.rkyv_btree_base.specs.InPlace.{OwnBytes}
@@ -35,6 +36,10 @@ abbrev pub as_fault : {E : Type 0} → ResolveFault → Fault E
 as_fault resolving.LengthOverflow = LengthOverflow
 as_fault resolving.OffsetOverflow = OffsetOverflow
 
+-- what a pair of references leads to
+abbrev pub now_of : {M N : Type 0} → Bor M × Bor N → M × N
+now_of x = (x.0.now, x.1.now)
+
 module _ {M N R S : Type 0} (s : Shape) (K : Archival M R) (V : Archival N S) where
   -- the writes of entries, each with its key's first
   abbrev pub AreSerialised : Writing → List (M × N) → List R → List S → Writing → Type 0
@@ -50,14 +55,22 @@ module _ {M N R S : Type 0} (s : Shape) (K : Archival M R) (V : Archival N S) wh
       ⊎ (((r : R) × (mid : Writing) × IsSerialised K from x.0 r mid × IsUnserialised V x.1 mid fault to)
       ⊎ ((r : R) × (r2 : S) × (mid : Writing) × (next : Writing) × IsSerialised K from x.0 r mid × IsSerialised V mid x.1 r2 next × AreUnserialised next xs fault to))
 
+  -- the own bytes of entries in the node at a place
+  pub record EntriesResolved (root : ℕ) (xs : List (M × N)) (keys : List R) (values : List S) (owns : List OwnBytes) : Type 0 where
+    pub own_keys : AreResolved K (root + key_at s 0) (map (λ x. x.0) xs) keys (map (λ o. o.0) owns)
+    pub own_values : AreResolved V (root + value_at s 0) (map (λ x. x.1) xs) values (map (λ o. o.1) owns)
+
+  -- a key or value of theirs isn't resolved
+  abbrev pub EntriesUnresolved : ℕ → List (M × N) → List R → List S → ResolveFault → Type 0
+  EntriesUnresolved root xs keys values fault = AreUnresolved K (root + key_at s 0) (map (λ x. x.0) xs) keys fault ⊎ AreUnresolved V (root + value_at s 0) (map (λ x. x.1) xs) values fault
+
   -- entries were serialised, and resolved in the node behind them, whose place is this
   pub record AreInNode (from : Writing) (xs : List (M × N)) (root : ℕ) (owns : List OwnBytes) (to : Writing) : Type 0 where
     pub keys : List R
     pub values : List S
     pub serialised : AreSerialised from xs keys values to
     pub place : root ≡ round_up (position to) (align s)
-    pub own_keys : AreResolved K (root + key_at s 0) (map (λ x. x.0) xs) keys (map (λ o. o.0) owns)
-    pub own_values : AreResolved V (root + value_at s 0) (map (λ x. x.1) xs) values (map (λ o. o.1) owns)
+    pub resolved : EntriesResolved root xs keys values owns
 
   -- a node was written: what its entries write, and then padding and the node
   pub record NodeWritten (image : ℕ → List OwnBytes → List Write) (size : ℕ) (from : Writing) (xs : List (M × N)) (root : ℕ) (to : Writing) : Type 0 where
@@ -78,8 +91,7 @@ module _ {M N R S : Type 0} (s : Shape) (K : Archival M R) (V : Archival N S) wh
     in_entries : AreUnserialised from xs fault to → NodeStopped image size from xs fault to
     in_padding : (keys : List R) (values : List S) (mid : Writing) → AreSerialised from xs keys values mid → Stopped mid (padding (align s) (position mid)) fault to → NodeStopped image size from xs fault to
     past_end : (keys : List R) (values : List S) → IsPadded from xs keys values to → fault ≡ PositionOverflow → last_end < position to + size → NodeStopped image size from xs fault to
-    in_key : (keys : List R) (values : List S) → IsPadded from xs keys values to → (cause : ResolveFault) → fault ≡ as_fault cause → AreUnresolved K (position to + key_at s 0) (map (λ x. x.0) xs) keys cause → NodeStopped image size from xs fault to
-    in_value : (keys : List R) (values : List S) → IsPadded from xs keys values to → (cause : ResolveFault) → fault ≡ as_fault cause → AreUnresolved V (position to + value_at s 0) (map (λ x. x.1) xs) values cause → NodeStopped image size from xs fault to
+    in_own_bytes : (keys : List R) (values : List S) → IsPadded from xs keys values to → (cause : ResolveFault) → fault ≡ as_fault cause → EntriesUnresolved (position to) xs keys values cause → NodeStopped image size from xs fault to
     in_node : (root : ℕ) (owns : List OwnBytes) (mid : Writing) → AreInNode from xs root owns mid → Stopped mid (image (position mid) owns) fault to → NodeStopped image size from xs fault to
 
   -- a tree was written, whose root node is at the root: children before parents, from the left

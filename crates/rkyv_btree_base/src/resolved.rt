@@ -4,7 +4,8 @@ ghost use Rattle.std.specs.List.{flat_map};
 ghost use Rattle.rkyv_btree_base.specs.Image.{filled, entry_bytes, leaf_bytes, pointers, pointers_reach, inner_bytes};
 ghost use Rattle.rkyv_btree_base.specs.Layout.{shape, are_fitting, values_at, len_at, leaf_size, inner_size};
 ghost use Rattle.rkyv_btree_base.specs.Archiving.{IsUnresolved};
-ghost use Rattle.rkyv_btree_base.specs.Written.{AreResolved, AreUnresolved};
+ghost use Rattle.rkyv_btree_base.specs.InPlace.{OwnBytes};
+ghost use Rattle.rkyv_btree_base.specs.Written.{AreResolved, AreUnresolved, EntriesResolved, EntriesUnresolved, now_of};
 
 use crate::archive::{Archive, resolve_into};
 use crate::check::Portable;
@@ -82,4 +83,72 @@ fn append_keys<K: Archive, N, A: Allocator>(
         at += K::Archived::size();
     }
     Ok(())
+}
+
+/// Appends the values of entries, resolved from `pos` on. Their resolvers are used up.
+fn append_values<V: Archive, M, A: Allocator>(
+    node: &mut Vec<u8, A>,
+    entries: &[(&M, &V)],
+    resolvers: &mut VecDeque<V::Resolver, A>,
+    pos: u32,
+) -> Result<(), ResolveFault>
+    requires fitting { IsTrue V.Archived.kind.is_fitting }
+    requires count { length resolvers.old.items ≡ length entries.now }
+    requires room { vec_len node.old + length entries.now * V.Archived.kind.size ≤ vec_capacity node.old }
+    requires end { pos + length entries.now * V.Archived.kind.size ≤ 4294967295 }
+    ensures ok { OnOk result ((owns : List (List ℕ)) × AreResolved V.archival pos (map (λ x. x.1.now) entries.now) resolvers.old.items owns × (node.new.items ≡ node.old.items ++ flat_map (λ own. own) owns)) }
+    ensures len { OnOk result (vec_len node.new ≡ vec_len node.old + length entries.now * V.Archived.kind.size) }
+    ensures spent { OnOk result (resolvers.new.items ≡ []) }
+    ensures err { IfErr result (AreUnresolved V.archival pos (map (λ x. x.1.now) entries.now) resolvers.old.items) }
+    ensures capacity { vec_capacity node.old ≤ vec_capacity node.new }
+{
+    let mut at = pos;
+    for entry in entries {
+        let resolver = resolvers.pop_front().unwrap();
+        match append_value(node, entry.1, resolver, at) {
+            Ok(()) => {}
+            Err(fault) => return Err(fault),
+        }
+        at += V::Archived::size();
+    }
+    Ok(())
+}
+
+/// Puts a node's kind and entries in place of what `node` held. The node stands at `pos`.
+#[allow(clippy::too_many_arguments)]
+fn fill_entries<KU, VU, K, V, A, const E: usize>(
+    node: &mut Vec<u8, A>,
+    kind: u8,
+    pos: u32,
+    entries: &[(&KU, &VU)],
+    keys: &mut VecDeque<KU::Resolver, A>,
+    values: &mut VecDeque<VU::Resolver, A>,
+) -> Result<(), ResolveFault>
+where
+    KU: Archive<Archived = K>,
+    VU: Archive<Archived = V>,
+    K: Portable,
+    V: Portable,
+    A: Allocator,
+    requires fitting { IsTrue (are_fitting K.kind V.kind E) }
+    requires count { length entries.now ≤ E }
+    requires keys { length keys.old.items ≡ length entries.now }
+    requires values { length values.old.items ≡ length entries.now }
+    requires end { pos + leaf_size (shape K.kind V.kind E) ≤ 4294967295 }
+    requires room { leaf_size (shape K.kind V.kind E) ≤ vec_capacity node.old }
+    ensures ok { OnOk result ((owns : List OwnBytes) × EntriesResolved (shape K.kind V.kind E) KU.archival VU.archival pos (map now_of entries.now) keys.old.items values.old.items owns × (node.new.items ≡ entry_bytes (shape K.kind V.kind E) kind owns)) }
+    ensures len { OnOk result (vec_len node.new ≡ values_at (shape K.kind V.kind E) + length entries.now * V.kind.size) }
+    ensures spent { OnOk result ((keys.new.items ≡ []) × (values.new.items ≡ [])) }
+    ensures err { IfErr result (EntriesUnresolved (shape K.kind V.kind E) KU.archival VU.archival pos (map now_of entries.now) keys.old.items values.old.items) }
+    ensures capacity { vec_capacity node.old ≤ vec_capacity node.new }
+{
+    node.clear();
+    append(node, &[kind]);
+    fill_up(node, layout::key_at::<K, V, E>(0) as usize);
+    match append_keys(node, entries, keys, pos + layout::key_at::<K, V, E>(0)) {
+        Ok(()) => {}
+        Err(fault) => return Err(fault),
+    }
+    fill_up(node, layout::value_at::<K, V, E>(0) as usize);
+    append_values(node, entries, values, pos + layout::value_at::<K, V, E>(0))
 }
