@@ -3,11 +3,12 @@ use Rattle.std.proofs.Common.{◌≡◌, ℕ, suc, Bor, ◌+◌, ◌<◌, ◌≤
 use Rattle.std.proofs.lemmas.List.{append_assoc, append-nil, drop_more, drop_all, nil_from_length, take_at, length-append, length-map}
 use Rattle.std.proofs.lemmas.Grind.{flat_map-append}
 use Rattle.std.proofs.lemmas.List.Folds.{flat_map-map}
+use Rattle.std.specs.Int.{w32, to_le_bytes}
 use Rattle.std.specs.List.{flat_map}
 use Rattle.rkyv_btree_base.specs.Archiving.{Archival, IsUnresolved}
-use Rattle.rkyv_btree_base.specs.Image.{filled, entry_bytes}
+use Rattle.rkyv_btree_base.specs.Image.{filled, entry_bytes, leaf_bytes}
 use Rattle.rkyv_btree_base.specs.InPlace.{OwnBytes}
-use Rattle.rkyv_btree_base.specs.Layout.{Shape, keys_at, values_at, key_at, value_at}
+use Rattle.rkyv_btree_base.specs.Layout.{Shape, keys_at, values_at, key_at, value_at, len_at, leaf_size}
 use Rattle.rkyv_btree_base.specs.Written.{AreResolved, AreUnresolved, EntriesResolved, EntriesUnresolved, now_of}
 use Rattle.rkyv_btree_base.specs.declared.fault.ResolveFault.{ResolveFault}
 
@@ -105,3 +106,12 @@ filled_columns s kind k v kowns vowns b0 b1 b2 b3 b4 b5 same ek ev e0 e1 e2 e3 e
     (e4 ∙ ap (filled b3) ev ∙ ap (λ z. filled z (values_at s))
     (e3 ∙ ap (λ z. z ++ flat_map (λ b. b) kowns)
     (e2 ∙ ap (filled b1) ek ∙ ap (λ z. filled z (keys_at s)) (e1 ∙ ap (λ z. z ++ kind ∷ []) e0)))))
+
+pub entries_length : {M N R S : Type 0} (s : Shape) (K : Archival M R) (V : Archival N S) (pos : ℕ) (xs : List (M × N)) (keys : List R) (values : List S) (owns : List OwnBytes) → EntriesResolved s K V pos xs keys values owns → length owns ≡ length xs
+entries_length s K V pos xs keys values owns h = sym (length-map owns (λ o. o.0)) ∙ (resolved_length K (pos + key_at s 0) (map (λ x. x.0) xs) keys (map (λ o. o.0) owns) h.own_keys ∙ length-map xs (λ x. x.0))
+
+-- a leaf's bytes, behind its kind and entries
+pub filled_leaf : (s : Shape) (owns : List OwnBytes) (count len size : ℕ) (b0 b1 b2 b3 : List ℕ) → count ≡ length owns → len ≡ len_at s → size ≡ leaf_size s → b0 ≡ entry_bytes s 0 owns → b1 ≡ filled b0 len → b2 ≡ b1 ++ to_le_bytes w32 count → b3 ≡ filled b2 size → b3 ≡ leaf_bytes s owns
+filled_leaf s owns count len size b0 b1 b2 b3 ec el es e0 e1 e2 e3 =
+    e3 ∙ ap (filled b2) es ∙ ap (λ z. filled z (leaf_size s))
+    (e2 ∙ ap (λ n. b1 ++ to_le_bytes w32 n) ec ∙ ap (λ z. z ++ to_le_bytes w32 (length owns)) (e1 ∙ ap (filled b0) el ∙ ap (λ z. filled z (len_at s)) e0))

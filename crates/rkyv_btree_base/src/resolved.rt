@@ -152,3 +152,39 @@ where
     fill_up(node, layout::value_at::<K, V, E>(0) as usize);
     append_values(node, entries, values, pos + layout::value_at::<K, V, E>(0))
 }
+
+/// Puts a leaf that stands at `pos` in place of what `node` held.
+pub(crate) fn fill_leaf<KU, VU, K, V, A, const E: usize>(
+    node: &mut Vec<u8, A>,
+    pos: u32,
+    entries: &[(&KU, &VU)],
+    keys: &mut VecDeque<KU::Resolver, A>,
+    values: &mut VecDeque<VU::Resolver, A>,
+) -> Result<(), ResolveFault>
+where
+    KU: Archive<Archived = K>,
+    VU: Archive<Archived = V>,
+    K: Portable,
+    V: Portable,
+    A: Allocator,
+    requires fitting { IsTrue (are_fitting K.kind V.kind E) }
+    requires count { length entries.now ≤ E }
+    requires keys { length keys.old.items ≡ length entries.now }
+    requires values { length values.old.items ≡ length entries.now }
+    requires end { pos + leaf_size (shape K.kind V.kind E) ≤ 4294967295 }
+    requires room { leaf_size (shape K.kind V.kind E) ≤ vec_capacity node.old }
+    ensures ok { OnOk result ((owns : List OwnBytes) × EntriesResolved (shape K.kind V.kind E) KU.archival VU.archival pos (map now_of entries.now) keys.old.items values.old.items owns × (node.new.items ≡ leaf_bytes (shape K.kind V.kind E) owns)) }
+    ensures len { OnOk result (vec_len node.new ≡ leaf_size (shape K.kind V.kind E)) }
+    ensures spent { OnOk result ((keys.new.items ≡ []) × (values.new.items ≡ [])) }
+    ensures err { IfErr result (EntriesUnresolved (shape K.kind V.kind E) KU.archival VU.archival pos (map now_of entries.now) keys.old.items values.old.items) }
+    ensures capacity { vec_capacity node.old ≤ vec_capacity node.new }
+{
+    match fill_entries::<KU, VU, K, V, A, E>(node, 0, pos, entries, keys, values) {
+        Ok(()) => {}
+        Err(fault) => return Err(fault),
+    }
+    fill_up(node, layout::len_at::<K, V, E>() as usize);
+    append(node, &(entries.len() as u32).to_le_bytes());
+    fill_up(node, layout::leaf_size::<K, V, E>() as usize);
+    Ok(())
+}
