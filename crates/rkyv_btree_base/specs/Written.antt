@@ -1,10 +1,10 @@
 -- How values, nodes and trees are written: from one state of a writer to another, or up to the write that is refused.
-use Rattle.std.specs.Prelude.{◌≡◌, ◌≢◌, ℕ, ◌+◌, ◌<◌, ◌⊎◌, false, List, [], ◌∷◌, ◌++◌, length, map, Option, Some, None}
+use Rattle.std.specs.Prelude.{◌≡◌, ℕ, ◌+◌, ◌<◌, ◌⊎◌, false, List, [], ◌∷◌, ◌++◌, length, map, Option, Some, None}
 use Rattle.std.specs.Borrow.{Bor}
 use Rattle.rkyv_btree_base.specs.Archiving.{Archival, IsUnresolved, IsUnserialised}
-use Rattle.rkyv_btree_base.specs.Image.{padding, leaf_image, inner_image}
+use Rattle.rkyv_btree_base.specs.Image.{padding, pointers_reach, leaf_image, inner_image}
 use Rattle.rkyv_btree_base.specs.InPlace.{OwnBytes}
-use Rattle.rkyv_btree_base.specs.Layout.{Shape, shape, key_at, value_at, align, leaf_size, inner_size}
+use Rattle.rkyv_btree_base.specs.Layout.{Shape, key_at, value_at, len_at, align, leaf_size, inner_size}
 use Rattle.rkyv_btree_base.specs.Rounding.{round_up}
 use Rattle.rkyv_btree_base.specs.Tree.{Tree, leaf, inner, Row, last, step, Child, absent, child, row_entries}
 use Rattle.rkyv_btree_base.specs.Writing.{Writing, position, Write, Wrote, Stopped, last_end}
@@ -63,6 +63,12 @@ module _ {M N R S : Type 0} (s : Shape) (K : Archival M R) (V : Archival N S) wh
   -- a key or value of theirs isn't resolved
   abbrev pub EntriesUnresolved : ℕ → List (M × N) → List R → List S → ResolveFault → Type 0
   EntriesUnresolved root xs keys values fault = AreUnresolved K (root + key_at s 0) (map (λ x. x.0) xs) keys fault ⊎ AreUnresolved V (root + value_at s 0) (map (λ x. x.1) xs) values fault
+
+  -- they aren't, or a pointer of their inner node doesn't reach
+  abbrev pub InnerUnfilled : ℕ → List (M × N) → List R → List S → List (Option ℕ) → ResolveFault → Type 0
+  InnerUnfilled root xs keys values roots fault =
+      EntriesUnresolved root xs keys values fault
+      ⊎ ((owns : List OwnBytes) × EntriesResolved root xs keys values owns × (fault ≡ resolving.OffsetOverflow) × (pointers_reach (root + len_at s) roots ≡ false))
 
   -- entries were serialised, and resolved in the node behind them, whose place is this
   pub record AreInNode (from : Writing) (xs : List (M × N)) (root : ℕ) (owns : List OwnBytes) (to : Writing) : Type 0 where

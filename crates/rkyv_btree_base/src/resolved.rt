@@ -5,7 +5,7 @@ ghost use Rattle.rkyv_btree_base.specs.Image.{filled, entry_bytes, leaf_bytes, p
 ghost use Rattle.rkyv_btree_base.specs.Layout.{shape, are_fitting, values_at, len_at, leaf_size, inner_size};
 ghost use Rattle.rkyv_btree_base.specs.Archiving.{IsUnresolved};
 ghost use Rattle.rkyv_btree_base.specs.InPlace.{OwnBytes};
-ghost use Rattle.rkyv_btree_base.specs.Written.{AreResolved, AreUnresolved, EntriesResolved, EntriesUnresolved, now_of};
+ghost use Rattle.rkyv_btree_base.specs.Written.{AreResolved, AreUnresolved, EntriesResolved, EntriesUnresolved, InnerUnfilled, now_of};
 
 use crate::archive::{Archive, resolve_into};
 use crate::check::Portable;
@@ -153,6 +153,41 @@ where
     append_values(node, entries, values, pos + layout::value_at::<K, V, E>(0))
 }
 
+/// Appends a pointer that stands at `pos` to a child, if it reaches the child.
+fn append_pointer<A: Allocator>(node: &mut Vec<u8, A>, pos: u32, child: Option<u32>) -> bool
+    requires { vec_len node.old + 4 ≤ vec_capacity node.old }
+    ensures reach { result ≡ pointers_reach pos (child ∷ []) }
+    ensures items { result ≡ true → node.new.items ≡ node.old.items ++ pointers pos (child ∷ []) }
+    ensures len { result ≡ true → vec_len node.new ≡ vec_len node.old + 4 }
+    ensures capacity { vec_capacity node.old ≤ vec_capacity node.new }
+{
+    let mut bytes = [1, 0, 0, 0];
+    if let Some(target) = child {
+        if write_offset(pos, target, &mut bytes).is_err() {
+            return false;
+        }
+    }
+    append(node, &bytes);
+    true
+}
+
+/// Appends pointers to children, if each reaches its child. The first pointer stands at `pos`.
+fn append_pointers<A: Allocator>(node: &mut Vec<u8, A>, pos: u32, children: &[Option<u32>]) -> bool
+    requires end { pos + 4 * length children.now ≤ 4294967295 }
+    requires room { vec_len node.old + 4 * length children.now ≤ vec_capacity node.old }
+    ensures reach { result ≡ pointers_reach pos children.now }
+    ensures items { result ≡ true → node.new.items ≡ node.old.items ++ pointers pos children.now }
+    ensures len { result ≡ true → vec_len node.new ≡ vec_len node.old + 4 * length children.now }
+    ensures capacity { vec_capacity node.old ≤ vec_capacity node.new }
+{
+    for (i, child) in children.iter().enumerate() {
+        if !append_pointer(node, pos + 4 * i as u32, *child) {
+            return false;
+        }
+    }
+    true
+}
+
 /// Puts a leaf that stands at `pos` in place of what `node` held.
 pub(crate) fn fill_leaf<KU, VU, K, V, A, const E: usize>(
     node: &mut Vec<u8, A>,
@@ -186,5 +221,49 @@ where
     fill_up(node, layout::len_at::<K, V, E>() as usize);
     append(node, &(entries.len() as u32).to_le_bytes());
     fill_up(node, layout::leaf_size::<K, V, E>() as usize);
+    Ok(())
+}
+
+/// Puts an inner node that stands at `pos` in place of what `node` held, if each of its pointers reaches its child.
+pub(crate) fn fill_inner<KU, VU, K, V, A, const E: usize>(
+    node: &mut Vec<u8, A>,
+    pos: u32,
+    entries: &[(&KU, &VU)],
+    keys: &mut VecDeque<KU::Resolver, A>,
+    values: &mut VecDeque<VU::Resolver, A>,
+    children: &[Option<u32>],
+    last: Option<u32>,
+) -> Result<(), ResolveFault>
+where
+    KU: Archive<Archived = K>,
+    VU: Archive<Archived = V>,
+    K: Portable,
+    V: Portable,
+    A: Allocator,
+    requires fitting { IsTrue (are_fitting K.kind V.kind E) }
+    requires entries { length entries.now ≡ E }
+    requires keys { length keys.old.items ≡ E }
+    requires values { length values.old.items ≡ E }
+    requires children { length children.now ≡ E }
+    requires end { pos + inner_size (shape K.kind V.kind E) ≤ 4294967295 }
+    requires room { inner_size (shape K.kind V.kind E) ≤ vec_capacity node.old }
+    ensures ok { OnOk result ((owns : List OwnBytes) × EntriesResolved (shape K.kind V.kind E) KU.archival VU.archival pos (map now_of entries.now) keys.old.items values.old.items owns × (node.new.items ≡ inner_bytes (shape K.kind V.kind E) pos owns (children.now ++ last ∷ [])) × (pointers_reach (pos + len_at (shape K.kind V.kind E)) (children.now ++ last ∷ []) ≡ true)) }
+    ensures len { OnOk result (vec_len node.new ≡ inner_size (shape K.kind V.kind E)) }
+    ensures spent { OnOk result ((keys.new.items ≡ []) × (values.new.items ≡ [])) }
+    ensures err { IfErr result (InnerUnfilled (shape K.kind V.kind E) KU.archival VU.archival pos (map now_of entries.now) keys.old.items values.old.items (children.now ++ last ∷ [])) }
+    ensures capacity { vec_capacity node.old ≤ vec_capacity node.new }
+{
+    match fill_entries::<KU, VU, K, V, A, E>(node, 1, pos, entries, keys, values) {
+        Ok(()) => {}
+        Err(fault) => return Err(fault),
+    }
+    fill_up(node, layout::lesser_at::<K, V, E>(0) as usize);
+    if !append_pointers(node, pos + layout::lesser_at::<K, V, E>(0), children) {
+        return Err(ResolveFault::OffsetOverflow);
+    }
+    if !append_pointer(node, pos + layout::greater_at::<K, V, E>(), last) {
+        return Err(ResolveFault::OffsetOverflow);
+    }
+    fill_up(node, layout::inner_size::<K, V, E>() as usize);
     Ok(())
 }
