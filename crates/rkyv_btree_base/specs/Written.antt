@@ -40,7 +40,7 @@ as_fault resolving.OffsetOverflow = OffsetOverflow
 abbrev pub now_of : {M N : Type 0} → Bor M × Bor N → M × N
 now_of x = (x.0.now, x.1.now)
 
-module _ {M N R S : Type 0} (s : Shape) (K : Archival M R) (V : Archival N S) where
+module _ {M N R S : Type 0} (K : Archival M R) (V : Archival N S) where
   -- the writes of entries, each with its key's first
   abbrev pub AreSerialised : Writing → List (M × N) → List R → List S → Writing → Type 0
   AreSerialised from [] rs ss to = (to ≡ from) × (rs ≡ []) × (ss ≡ [])
@@ -55,6 +55,7 @@ module _ {M N R S : Type 0} (s : Shape) (K : Archival M R) (V : Archival N S) wh
       ⊎ (((r : R) × (mid : Writing) × IsSerialised K from x.0 r mid × IsUnserialised V x.1 mid fault to)
       ⊎ ((r : R) × (r2 : S) × (mid : Writing) × (next : Writing) × IsSerialised K from x.0 r mid × IsSerialised V mid x.1 r2 next × AreUnserialised next xs fault to))
 
+module _ {M N R S : Type 0} (s : Shape) (K : Archival M R) (V : Archival N S) where
   -- the own bytes of entries in the node at a place
   pub record EntriesResolved (root : ℕ) (xs : List (M × N)) (keys : List R) (values : List S) (owns : List OwnBytes) : Type 0 where
     pub own_keys : AreResolved K (root + key_at s 0) (map (λ x. x.0) xs) keys (map (λ o. o.0) owns)
@@ -74,7 +75,7 @@ module _ {M N R S : Type 0} (s : Shape) (K : Archival M R) (V : Archival N S) wh
   pub record AreInNode (from : Writing) (xs : List (M × N)) (root : ℕ) (owns : List OwnBytes) (to : Writing) : Type 0 where
     pub keys : List R
     pub values : List S
-    pub serialised : AreSerialised from xs keys values to
+    pub serialised : AreSerialised K V from xs keys values to
     pub place : root ≡ round_up (position to) (align s)
     pub resolved : EntriesResolved root xs keys values owns
 
@@ -89,13 +90,13 @@ module _ {M N R S : Type 0} (s : Shape) (K : Archival M R) (V : Archival N S) wh
   -- the entries were serialised, and the padding before their node was written
   pub record IsPadded (from : Writing) (xs : List (M × N)) (keys : List R) (values : List S) (to : Writing) : Type 0 where
     pub mid : Writing
-    pub serialised : AreSerialised from xs keys values mid
+    pub serialised : AreSerialised K V from xs keys values mid
     pub padded : Wrote mid (padding (align s) (position mid)) to
 
   -- why a node isn't written, and the state that is left
   pub data NodeStopped {E : Type 0} (image : ℕ → List OwnBytes → List Write) (size : ℕ) (from : Writing) (xs : List (M × N)) (fault : Fault E) (to : Writing) : Type 0 where
-    in_entries : AreUnserialised from xs fault to → NodeStopped image size from xs fault to
-    in_padding : (keys : List R) (values : List S) (mid : Writing) → AreSerialised from xs keys values mid → Stopped mid (padding (align s) (position mid)) fault to → NodeStopped image size from xs fault to
+    in_entries : AreUnserialised K V from xs fault to → NodeStopped image size from xs fault to
+    in_padding : (keys : List R) (values : List S) (mid : Writing) → AreSerialised K V from xs keys values mid → Stopped mid (padding (align s) (position mid)) fault to → NodeStopped image size from xs fault to
     past_end : (keys : List R) (values : List S) → IsPadded from xs keys values to → fault ≡ PositionOverflow → last_end < position to + size → NodeStopped image size from xs fault to
     in_own_bytes : (keys : List R) (values : List S) → IsPadded from xs keys values to → (cause : ResolveFault) → fault ≡ as_fault cause → EntriesUnresolved (position to) xs keys values cause → NodeStopped image size from xs fault to
     in_node : (root : ℕ) (owns : List OwnBytes) (mid : Writing) → AreInNode from xs root owns mid → Stopped mid (image (position mid) owns) fault to → NodeStopped image size from xs fault to

@@ -5,6 +5,7 @@ pub mod archive;
 pub mod build;
 pub mod bytes;
 pub mod check;
+mod entries;
 pub mod fault;
 pub mod layout;
 pub mod map;
