@@ -10,6 +10,7 @@ pub mod fault;
 pub mod layout;
 pub mod map;
 mod node;
+mod whole;
 mod resolved;
 pub mod numbers;
 pub mod place;

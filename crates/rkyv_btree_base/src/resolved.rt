@@ -1,6 +1,7 @@
 //! The bytes of nodes, put together in room that was reserved.
 ghost use Rattle.std.specs.Prelude.{◌≡◌, ◌+◌, ◌*◌, ◌≤◌, [], ◌∷◌, ◌++◌, length, map, true, vec_len, vec_capacity, IsTrue, ℕ, List, OnOk, IfErr};
 ghost use Rattle.std.specs.List.{flat_map};
+ghost use Rattle.std.specs.VecDeque.{deque_capacity};
 ghost use Rattle.rkyv_btree_base.specs.Image.{filled, entry_bytes, leaf_bytes, pointers, pointers_reach, inner_bytes};
 ghost use Rattle.rkyv_btree_base.specs.Layout.{shape, are_fitting, values_at, len_at, leaf_size, inner_size};
 ghost use Rattle.rkyv_btree_base.specs.Archiving.{IsUnresolved};
@@ -71,6 +72,7 @@ fn append_keys<K: Archive, N, A: Allocator>(
     ensures len { OnOk result (vec_len node.new ≡ vec_len node.old + length entries.now * K.Archived.kind.size) }
     ensures spent { OnOk result (resolvers.new.items ≡ []) }
     ensures err { IfErr result (AreUnresolved K.archival pos (map (λ x. x.0.now) entries.now) resolvers.old.items) }
+    ensures kept { deque_capacity resolvers.old ≤ deque_capacity resolvers.new }
     ensures capacity { vec_capacity node.old ≤ vec_capacity node.new }
 {
     let mut at = pos;
@@ -100,6 +102,7 @@ fn append_values<V: Archive, M, A: Allocator>(
     ensures len { OnOk result (vec_len node.new ≡ vec_len node.old + length entries.now * V.Archived.kind.size) }
     ensures spent { OnOk result (resolvers.new.items ≡ []) }
     ensures err { IfErr result (AreUnresolved V.archival pos (map (λ x. x.1.now) entries.now) resolvers.old.items) }
+    ensures kept { deque_capacity resolvers.old ≤ deque_capacity resolvers.new }
     ensures capacity { vec_capacity node.old ≤ vec_capacity node.new }
 {
     let mut at = pos;
@@ -139,6 +142,8 @@ where
     ensures ok { OnOk result ((owns : List OwnBytes) × EntriesResolved (shape K.kind V.kind E) KU.archival VU.archival pos (map now_of entries.now) keys.old.items values.old.items owns × (node.new.items ≡ entry_bytes (shape K.kind V.kind E) kind owns)) }
     ensures len { OnOk result (vec_len node.new ≡ values_at (shape K.kind V.kind E) + length entries.now * V.kind.size) }
     ensures spent { OnOk result ((keys.new.items ≡ []) × (values.new.items ≡ [])) }
+    ensures key_room { deque_capacity keys.old ≤ deque_capacity keys.new }
+    ensures value_room { deque_capacity values.old ≤ deque_capacity values.new }
     ensures err { IfErr result (EntriesUnresolved (shape K.kind V.kind E) KU.archival VU.archival pos (map now_of entries.now) keys.old.items values.old.items) }
     ensures capacity { vec_capacity node.old ≤ vec_capacity node.new }
 {
@@ -211,6 +216,8 @@ where
     ensures ok { OnOk result ((owns : List OwnBytes) × EntriesResolved (shape K.kind V.kind E) KU.archival VU.archival pos (map now_of entries.now) keys.old.items values.old.items owns × (node.new.items ≡ leaf_bytes (shape K.kind V.kind E) owns)) }
     ensures len { OnOk result (vec_len node.new ≡ leaf_size (shape K.kind V.kind E)) }
     ensures spent { OnOk result ((keys.new.items ≡ []) × (values.new.items ≡ [])) }
+    ensures key_room { deque_capacity keys.old ≤ deque_capacity keys.new }
+    ensures value_room { deque_capacity values.old ≤ deque_capacity values.new }
     ensures err { IfErr result (EntriesUnresolved (shape K.kind V.kind E) KU.archival VU.archival pos (map now_of entries.now) keys.old.items values.old.items) }
     ensures capacity { vec_capacity node.old ≤ vec_capacity node.new }
 {
@@ -250,6 +257,8 @@ where
     ensures ok { OnOk result ((owns : List OwnBytes) × EntriesResolved (shape K.kind V.kind E) KU.archival VU.archival pos (map now_of entries.now) keys.old.items values.old.items owns × (node.new.items ≡ inner_bytes (shape K.kind V.kind E) pos owns (children.now ++ last ∷ [])) × (pointers_reach (pos + len_at (shape K.kind V.kind E)) (children.now ++ last ∷ []) ≡ true)) }
     ensures len { OnOk result (vec_len node.new ≡ inner_size (shape K.kind V.kind E)) }
     ensures spent { OnOk result ((keys.new.items ≡ []) × (values.new.items ≡ [])) }
+    ensures key_room { deque_capacity keys.old ≤ deque_capacity keys.new }
+    ensures value_room { deque_capacity values.old ≤ deque_capacity values.new }
     ensures err { IfErr result (InnerUnfilled (shape K.kind V.kind E) KU.archival VU.archival pos (map now_of entries.now) keys.old.items values.old.items (children.now ++ last ∷ [])) }
     ensures capacity { vec_capacity node.old ≤ vec_capacity node.new }
 {

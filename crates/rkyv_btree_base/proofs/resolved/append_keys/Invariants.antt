@@ -1,5 +1,6 @@
 use Rattle.std.proofs.Common.{◌≡◌, ℕ, ◌+◌, ◌*◌, ◌≤◌, List, ◌++◌, length, map, drop, vec_len, vec_capacity}
 use Rattle.std.specs.List.{flat_map}
+use Rattle.std.specs.VecDeque.{deque_capacity}
 use Rattle.rkyv_btree_base.proofs.Resolving.{ResolvedSoFar}
 use Rattle.rkyv_btree_base.proofs.resolved.append_keys.Given as goal
 
@@ -12,5 +13,6 @@ invariant-loop-entry g l =
       at : l.at ≡ l.pos + l.entry-index * size;
       len : vec_len l.node ≡ vec_len l.fn.node + l.entry-index * size;
       left : length l.resolvers.items + l.entry-index ≡ length l.entries;
+      kept : deque_capacity l.fn.resolvers ≤ deque_capacity l.resolvers;
       capacity : vec_capacity l.fn.node ≤ vec_capacity l.node;
     }

@@ -10,6 +10,7 @@ loop-entry-init g c = record {
   at = omega arith;
   len = omega arith;
   left = omega (arith, c.requires.count);
+  kept = omega arith;
   capacity = omega arith;
 }
 
@@ -30,6 +31,7 @@ loop-entry-preserved g c =
       at = omega (arith, before.at, c.size-at.ensures);
       len = omega (arith, before.len, c.in-Ok.ensures.len);
       left = omega (arith, before.left, ap length rest);
+      kept = omega (arith, before.kept, c.pop_front.ensures.capacity);
       capacity = omega (arith, before.capacity, c.append_value.ensures.capacity);
     }
 

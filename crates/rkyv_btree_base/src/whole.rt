@@ -1,0 +1,83 @@
+//! The writes of whole nodes, with what their entries write before them.
+ghost use Rattle.std.specs.Prelude.{◌≡◌, ◌+◌, ◌≤◌, ◌<◌, [], ◌∷◌, ◌++◌, length, map, vec_capacity, OnOk, IfOk, IfErr, IsTrue};
+ghost use Rattle.std.specs.VecDeque.{deque_capacity};
+ghost use Rattle.rkyv_btree_base.specs.Image.{leaf_image, inner_image};
+ghost use Rattle.rkyv_btree_base.specs.Layout.{shape, are_fitting, align, leaf_size, inner_size};
+ghost use Rattle.rkyv_btree_base.specs.Written.{NodeWritten, NodeStopped, as_fault, now_of};
+ghost use Rattle.rkyv_btree_base.specs.Writing.{position, Wrote, last_end};
+
+use crate::archive::{Archive, Serialize};
+use crate::check::Portable;
+use crate::entries::serialize_entries;
+use crate::fault::{Fault, ResolveFault};
+use crate::layout;
+use crate::place::Writer;
+use crate::resolved::{fill_inner, fill_leaf};
+use crate::writes::{LAST_END, pad, put};
+use std::alloc::Allocator;
+use std::collections::VecDeque;
+
+
+/// The fault of serialising that a fault of resolving is.
+fn fault_of<E>(fault: ResolveFault) -> Fault<E>
+    ensures { result ≡ as_fault fault }
+{
+    match fault {
+        ResolveFault::LengthOverflow => Fault::LengthOverflow,
+        ResolveFault::OffsetOverflow => Fault::OffsetOverflow,
+    }
+}
+
+/// Writes a leaf of these entries behind what they write, and answers its position.
+pub(crate) fn write_leaf<KU, VU, K, V, W, A, const E: usize>(
+    alloc: A,
+    node: &mut Vec<u8, A>,
+    keys: &mut VecDeque<KU::Resolver, A>,
+    values: &mut VecDeque<VU::Resolver, A>,
+    entries: &[(&KU, &VU)],
+    writer: &mut W,
+) -> Result<u32, Fault<W::Error>>
+where
+    KU: Archive<Archived = K> + Serialize<W, A>,
+    VU: Archive<Archived = V> + Serialize<W, A>,
+    K: Portable,
+    V: Portable,
+    W: Writer,
+    A: Allocator + Copy,
+    requires fitting { IsTrue (are_fitting K.kind V.kind E) }
+    requires count { length entries.now ≤ E }
+    requires no_keys { keys.old.items ≡ [] }
+    requires no_values { values.old.items ≡ [] }
+    requires key_room { E ≤ deque_capacity keys.old }
+    requires value_room { E ≤ deque_capacity values.old }
+    requires room { leaf_size (shape K.kind V.kind E) ≤ vec_capacity node.old }
+    ensures ok { IfOk result (λ root. NodeWritten (shape K.kind V.kind E) KU.archival VU.archival (leaf_image (shape K.kind V.kind E)) (leaf_size (shape K.kind V.kind E)) (W.state writer.old) (map now_of entries.now) root (W.state writer.new)) }
+    ensures last { OnOk result (position (W.state writer.new) ≤ last_end) }
+    ensures err { IfErr result (λ fault. NodeStopped (shape K.kind V.kind E) KU.archival VU.archival (leaf_image (shape K.kind V.kind E)) (leaf_size (shape K.kind V.kind E)) (W.state writer.old) (map now_of entries.now) fault (W.state writer.new)) }
+    ensures spent { OnOk result ((keys.new.items ≡ []) × (values.new.items ≡ [])) }
+    ensures capacity { vec_capacity node.old ≤ vec_capacity node.new }
+    ensures key_room { deque_capacity keys.old ≤ deque_capacity keys.new }
+    ensures value_room { deque_capacity values.old ≤ deque_capacity values.new }
+{
+    match serialize_entries(alloc, entries, keys, values, writer) {
+        Ok(()) => {}
+        Err(fault) => return Err(fault),
+    }
+    let pos = match pad(writer, layout::align::<K, V, E>()) {
+        Ok(pos) => pos,
+        Err(fault) => return Err(fault),
+    };
+    let size = u64::from(layout::leaf_size::<K, V, E>());
+    if pos > LAST_END || size > LAST_END - pos {
+        return Err(Fault::PositionOverflow);
+    }
+    let root = pos as u32;
+    match fill_leaf::<KU, VU, K, V, A, E>(node, root, entries, keys, values) {
+        Ok(()) => {}
+        Err(fault) => return Err(fault_of(fault)),
+    }
+    match put(writer, node.as_slice()) {
+        Ok(()) => Ok(root),
+        Err(fault) => Err(fault),
+    }
+}
