@@ -81,3 +81,61 @@ where
         Err(fault) => Err(fault),
     }
 }
+
+/// Writes an inner node of these entries over written children, behind what the entries write, and answers its
+/// position.
+pub(crate) fn write_inner<KU, VU, K, V, W, A, const E: usize>(
+    alloc: A,
+    node: &mut Vec<u8, A>,
+    keys: &mut VecDeque<KU::Resolver, A>,
+    values: &mut VecDeque<VU::Resolver, A>,
+    entries: &[(&KU, &VU)],
+    children: &[Option<u32>],
+    last: Option<u32>,
+    writer: &mut W,
+) -> Result<u32, Fault<W::Error>>
+where
+    KU: Archive<Archived = K> + Serialize<W, A>,
+    VU: Archive<Archived = V> + Serialize<W, A>,
+    K: Portable,
+    V: Portable,
+    W: Writer,
+    A: Allocator + Copy,
+    requires fitting { IsTrue (are_fitting K.kind V.kind E) }
+    requires entries { length entries.now ≡ E }
+    requires children { length children.now ≡ E }
+    requires no_keys { keys.old.items ≡ [] }
+    requires no_values { values.old.items ≡ [] }
+    requires key_room { E ≤ deque_capacity keys.old }
+    requires value_room { E ≤ deque_capacity values.old }
+    requires room { inner_size (shape K.kind V.kind E) ≤ vec_capacity node.old }
+    ensures ok { IfOk result (λ root. NodeWritten (shape K.kind V.kind E) KU.archival VU.archival (λ at owns. inner_image (shape K.kind V.kind E) at owns (children.now ++ last ∷ [])) (inner_size (shape K.kind V.kind E)) (W.state writer.old) (map now_of entries.now) root (W.state writer.new)) }
+    ensures last { OnOk result (position (W.state writer.new) ≤ last_end) }
+    ensures err { IfErr result (λ fault. NodeStopped (shape K.kind V.kind E) KU.archival VU.archival (λ at owns. inner_image (shape K.kind V.kind E) at owns (children.now ++ last ∷ [])) (inner_size (shape K.kind V.kind E)) (W.state writer.old) (map now_of entries.now) fault (W.state writer.new)) }
+    ensures spent { OnOk result ((keys.new.items ≡ []) × (values.new.items ≡ [])) }
+    ensures capacity { vec_capacity node.old ≤ vec_capacity node.new }
+    ensures key_room { deque_capacity keys.old ≤ deque_capacity keys.new }
+    ensures value_room { deque_capacity values.old ≤ deque_capacity values.new }
+{
+    match serialize_entries(alloc, entries, keys, values, writer) {
+        Ok(()) => {}
+        Err(fault) => return Err(fault),
+    }
+    let pos = match pad(writer, layout::align::<K, V, E>()) {
+        Ok(pos) => pos,
+        Err(fault) => return Err(fault),
+    };
+    let size = u64::from(layout::inner_size::<K, V, E>());
+    if pos > LAST_END || size > LAST_END - pos {
+        return Err(Fault::PositionOverflow);
+    }
+    let root = pos as u32;
+    match fill_inner::<KU, VU, K, V, A, E>(node, root, entries, keys, values, children, last) {
+        Ok(()) => {}
+        Err(fault) => return Err(fault_of(fault)),
+    }
+    match put(writer, node.as_slice()) {
+        Ok(()) => Ok(root),
+        Err(fault) => Err(fault),
+    }
+}
