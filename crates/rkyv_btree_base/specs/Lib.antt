@@ -23,6 +23,8 @@ pub mod Writing
 pub mod Image
 pub mod Serialising
 pub mod Archives
+pub mod Archiving
+pub mod Written
 pub mod Refusing
 pub mod Faults
 pub mod Entry

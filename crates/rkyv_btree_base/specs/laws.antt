@@ -15,3 +15,4 @@ pub mod Faulty
 pub mod Refused
 pub mod Refusing
 pub mod TextLaws
+pub mod Archiving

@@ -1,9 +1,11 @@
 //! What archives are, how they are written, and how foreign bytes are checked.
 #![tactic(auto)]
 
+pub mod archive;
 pub mod build;
 pub mod bytes;
 pub mod check;
+mod entries;
 pub mod fault;
 pub mod layout;
 pub mod map;
@@ -11,6 +13,7 @@ mod node;
 pub mod numbers;
 pub mod place;
 pub mod refusal;
+mod resolved;
 pub mod scalars;
 pub mod shape;
 pub mod signed;
@@ -21,4 +24,5 @@ pub mod text;
 mod tree;
 pub mod util;
 pub mod verify;
+mod whole;
 mod writes;

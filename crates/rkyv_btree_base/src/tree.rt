@@ -24,7 +24,7 @@ pub(crate) fn push<T: Drop, A: Allocator>(values: &mut Vec<T, A>, value: T)
 }
 
 /// One more than the entries that each child of a tree's root has above the tree's last level.
-fn child_base<const E: usize>(entries: usize) -> usize
+pub(crate) fn child_base<const E: usize>(entries: usize) -> usize
     requires some { 1 ≤ E }
     requires small { E ≤ 1073741823 }
     requires more { E < entries }
