@@ -1,11 +1,11 @@
 -- Values resolved one behind another.
-use Rattle.std.proofs.Common.{◌≡◌, ℕ, suc, Bor, ◌+◌, ◌<◌, ◌≤◌, List, [], ◌∷◌, ◌++◌, length, map, take, drop, get_or, inl, inr, refl, sym, ap, subst, ◌∙◌, arith}
+use Rattle.std.proofs.Common.{◌≡◌, ℕ, suc, Bor, ◌+◌, ◌<◌, ◌≤◌, List, [], ◌∷◌, ◌++◌, length, map, take, drop, get_or, inl, inr, refl, sym, ap, subst, ◌∙◌}
 use Rattle.std.proofs.lemmas.List.{append_assoc, append-nil, drop_more, drop_all, nil_from_length, take_at, length-append, length-map}
 use Rattle.std.proofs.lemmas.Grind.{flat_map-append}
 use Rattle.std.proofs.lemmas.List.Folds.{flat_map-map}
 use Rattle.std.specs.Int.{w32, to_le_bytes}
 use Rattle.std.specs.List.{flat_map}
-use Rattle.rkyv_btree_base.specs.Archiving.{Archival, IsUnresolved}
+use Rattle.rkyv_btree_base.specs.Archiving.{Archival}
 use Rattle.rkyv_btree_base.specs.Image.{filled, entry_bytes, leaf_bytes}
 use Rattle.rkyv_btree_base.specs.InPlace.{OwnBytes}
 use Rattle.rkyv_btree_base.specs.Layout.{Shape, keys_at, values_at, key_at, value_at, len_at, leaf_size}

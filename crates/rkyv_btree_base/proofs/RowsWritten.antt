@@ -1,5 +1,5 @@
 -- A node's children, one after another, with what their entries write.
-use Rattle.std.proofs.Common.{◌≡◌, ℕ, zero, suc, ◌+◌, ◌*◌, ◌-◌, ◌<◌, ◌≤◌, min, List, [], ◌∷◌, ◌++◌, length, map, take, drop, get_or, ap, sym, subst, refl, ◌∙◌, Option, Some, inl, inr, arith}
+use Rattle.std.proofs.Common.{◌≡◌, ℕ, zero, suc, ◌+◌, ◌-◌, ◌<◌, ◌≤◌, min, List, [], ◌∷◌, ◌++◌, length, map, take, drop, get_or, sym, subst, refl, ◌∙◌, Option, Some, inl, inr, arith}
 use Rattle.std.proofs.lemmas.List.{append_assoc, append-nil, take_rest}
 use Rattle.rkyv_btree_base.specs.declared.fault.Fault.{Fault}
 use Rattle.rkyv_btree_base.specs.Archiving.{Archival}

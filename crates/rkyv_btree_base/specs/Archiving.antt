@@ -45,7 +45,7 @@ abbrev pub IsArchived : {X R : Type 0} → Archival X R → Type 0
 IsArchived {X} {R} T =
     (x : X) (from at : ℕ) (writes : List Write) (r : R) (own : List ℕ) → T.Writes x from writes r → T.Resolves x r at own → (length own ≡ T.kind.size)
     × ((b : List ℕ) → length b ≤ 4294967295 → IsAligned T.kind.align at → from + length (appended writes) ≤ at → at + T.kind.size ≤ length b → Holds b from (appended writes) → Holds b at own →
-        (left : ℕ) × T.kind.Means b from (from + length (appended writes)) at left (T.meaning x))
+    (left : ℕ) × T.kind.Means b from (from + length (appended writes)) at left (T.meaning x))
 
 -- why a value's own bytes aren't written at a position
 abbrev pub IsUnresolved : {X R : Type 0} → Archival X R → X → R → ℕ → ResolveFault → Type 0

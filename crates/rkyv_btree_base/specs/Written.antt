@@ -1,5 +1,5 @@
 -- How values, nodes and trees are written: from one state of a writer to another, or up to the write that is refused.
-use Rattle.std.specs.Prelude.{◌≡◌, ℕ, ◌+◌, ◌<◌, ◌⊎◌, false, List, [], ◌∷◌, ◌++◌, length, map, Option, Some, None}
+use Rattle.std.specs.Prelude.{◌≡◌, ℕ, ◌+◌, ◌<◌, ◌⊎◌, false, List, [], ◌∷◌, map, Option, Some, None}
 use Rattle.std.specs.Borrow.{Bor}
 use Rattle.rkyv_btree_base.specs.Archiving.{Archival, IsUnresolved, IsUnserialised}
 use Rattle.rkyv_btree_base.specs.Image.{padding, pointers_reach, leaf_image, inner_image}

@@ -20,7 +20,6 @@ use crate::writes::{LAST_END, pad, put};
 use std::alloc::Allocator;
 use std::collections::VecDeque;
 
-
 /// The fault of serialising that a fault of resolving is.
 fn fault_of<E>(fault: ResolveFault) -> Fault<E>
     ensures { result ≡ as_fault fault }

@@ -1,5 +1,5 @@
 -- Values that lie in their own bytes alone are archived by them.
-use Rattle.std.specs.Prelude.{FitsSigned, ◌≡◌, ℕ, ℤ, ◌+◌, ◌^◌, ◌<◌, Bool, true, false, List, [], length}
+use Rattle.std.specs.Prelude.{FitsSigned, ◌≡◌, ℕ, ℤ, ◌+◌, ◌^◌, ◌<◌, Bool, true, false, List, length}
 use Rattle.std.specs.Int.{Width, w8, w16, w32, w64, to_le_bytes, cast_signed, cast_unsigned}
 use Rattle.std.proofs.Math.Facts.{Fits-of_z}
 use Rattle.std.proofs.lemmas.Int.{to_z-of_z}

@@ -1,4 +1,4 @@
-use Rattle.std.proofs.Common.{◌≡◌, ◌+◌, ◌∙◌, ◌++◌, [], ◌∷◌, length, map, ap, arith}
+use Rattle.std.proofs.Common.{◌+◌, ◌∙◌, length, map, ap, arith}
 use Rattle.std.proofs.lemmas.List.{length_push}
 use Rattle.rkyv_btree_base.specs.Written.{IsSerialised, now_of}
 use Rattle.rkyv_btree_base.proofs.InOrder.{next_serialised, value_unserialised, all_serialised}

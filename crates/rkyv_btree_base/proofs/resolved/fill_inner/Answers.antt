@@ -1,5 +1,4 @@
-use Rattle.std.proofs.Common.{◌≡◌, ◌∙◌, ◌+◌, ◌*◌, ◌++◌, [], ◌∷◌, ◌&&◌, true, false, length, map, ap, sym, refl, inl, inr, arith}
-use Rattle.rkyv_btree_base.specs.Image.{pointers_reach}
+use Rattle.std.proofs.Common.{◌∙◌, ◌+◌, ◌*◌, ◌&&◌, ap, sym, refl, inl, inr, arith}
 use Rattle.rkyv_btree_base.specs.Layout.{shape, len_at}
 use Rattle.rkyv_btree_base.specs.laws.Sizes.{room_of}
 use Rattle.rkyv_btree_base.proofs.Nodes.{filled_inner}

@@ -1,12 +1,12 @@
-use Rattle.std.proofs.Common.{◌≡◌, ◌∙◌, ◌+◌, ◌<◌, ◌++◌, [], ◌∷◌, List, ℕ, true, length, map, inl, inr, refl, ap, sym, subst, arith}
-use Rattle.rkyv_btree_base.specs.Image.{padding, leaf_bytes, inner_bytes, inner_write, inner_image, leaf_image}
+use Rattle.std.proofs.Common.{◌≡◌, ◌∙◌, ◌+◌, ◌<◌, ◌++◌, [], ◌∷◌, List, ℕ, length, map, inl, inr, refl, ap, sym, subst, arith}
+use Rattle.rkyv_btree_base.specs.Image.{padding, inner_bytes, inner_write, inner_image}
 use Rattle.rkyv_btree_base.specs.InPlace.{OwnBytes}
-use Rattle.rkyv_btree_base.specs.Layout.{shape, align, leaf_size, inner_size}
+use Rattle.rkyv_btree_base.specs.Layout.{shape, align, inner_size}
 use Rattle.rkyv_btree_base.specs.Rounding.{round_up}
-use Rattle.rkyv_btree_base.specs.Written.{AreInNode, IsPadded, EntriesUnresolved, in_entries, in_padding, NodeStopped, as_fault, past_end, in_own_bytes, in_node, now_of}
+use Rattle.rkyv_btree_base.specs.Written.{AreInNode, IsPadded, EntriesUnresolved, in_padding, NodeStopped, as_fault, past_end, in_own_bytes, in_node, now_of}
 use Rattle.rkyv_btree_base.specs.declared.fault.Fault.{Fault}
 use Rattle.rkyv_btree_base.specs.declared.fault.Fault.TheVariants.{OffsetOverflow}
-use Rattle.rkyv_btree_base.specs.Writing.{Appended, Write, Wrote, Stopped, Refused, position, last_end}
+use Rattle.rkyv_btree_base.specs.Writing.{Appended, Wrote, Stopped, Refused, position, last_end}
 use Rattle.rkyv_btree_base.proofs.WriteRuns.{appended-position, wrote-both, wrote-one, stopped-behind, stopped-one}
 use Rattle.rkyv_btree_base.proofs.whole.write_inner.Goals as goal
 use Rattle.rkyv_btree_base.proofs.whole.write_inner.Goals.{then-pos-gt-LAST_END-via-then-pos-gt-LAST_END, then-pos-gt-LAST_END-via-else-pos-gt-LAST_END+then-size-pos}
@@ -62,12 +62,12 @@ returns-in-Err-fill_inner-clause-err g c =
     elim c.in-Err-fill_inner.ensures.err [
       | inl unresolved ↦ in_own_bytes keys values padded cause c.fault_of.ensures (subst (λ (n : ℕ). EntriesUnresolved nodes g.KU.Archive.archival g.VU.Archive.archival n xs keys values cause) c.in-Ok-pad.ensures.end unresolved)
       | inr far ↦
-        let owns = far.0 in
-        let entries : AreInNode nodes g.KU.Archive.archival g.VU.Archive.archival s xs root owns mid = record { keys = keys; values = values; serialised = c.in-Ok.ensures.ok; place = place; resolved = far.1 } in
-        let write = inner_write nodes root owns roots in
-        let same = c.fault_of.ensures ∙ ap as_fault far.2 in
-        let stopped = stopped-behind {E = g.row.W-Error.Denot} mid (padding (align nodes) (position mid)) m2 (write ∷ []) OffsetOverflow m2 padded.padded (stopped-one m2 write OffsetOverflow m2 (refl, far.3)) in
-        in_node root owns mid entries (subst (λ (f : Fault g.row.W-Error.Denot). Stopped mid (image (position mid) owns) f m2) (sym same) (subst (λ (n : ℕ). Stopped {E = g.row.W-Error.Denot} mid (padding (align nodes) (position mid) ++ inner_write nodes n owns roots ∷ []) OffsetOverflow m2) place stopped))
+          let owns = far.0 in
+          let entries : AreInNode nodes g.KU.Archive.archival g.VU.Archive.archival s xs root owns mid = record { keys = keys; values = values; serialised = c.in-Ok.ensures.ok; place = place; resolved = far.1 } in
+          let write = inner_write nodes root owns roots in
+          let same = c.fault_of.ensures ∙ ap as_fault far.2 in
+          let stopped = stopped-behind {E = g.row.W-Error.Denot} mid (padding (align nodes) (position mid)) m2 (write ∷ []) OffsetOverflow m2 padded.padded (stopped-one m2 write OffsetOverflow m2 (refl, far.3)) in
+          in_node root owns mid entries (subst (λ (f : Fault g.row.W-Error.Denot). Stopped mid (image (position mid) owns) f m2) (sym same) (subst (λ (n : ℕ). Stopped {E = g.row.W-Error.Denot} mid (padding (align nodes) (position mid) ++ inner_write nodes n owns roots ∷ []) OffsetOverflow m2) place stopped))
     ]
 
 pub returns-in-Ok-put-clause-ok : goal.returns-in-Ok-put-clause-ok

@@ -1,9 +1,8 @@
-use Rattle.std.proofs.Common.{◌≡◌, ◌∙◌, ◌+◌, ◌<◌, ◌++◌, [], ◌∷◌, List, ℕ, true, length, map, inl, inr, refl, ap, sym, subst, arith}
-use Rattle.rkyv_btree_base.specs.Image.{padding, leaf_bytes, inner_bytes, inner_write, inner_image, leaf_image}
-use Rattle.rkyv_btree_base.specs.InPlace.{OwnBytes}
-use Rattle.rkyv_btree_base.specs.Layout.{shape, align, leaf_size, inner_size}
+use Rattle.std.proofs.Common.{◌≡◌, ◌∙◌, ◌+◌, ◌<◌, [], ◌∷◌, List, ℕ, true, length, map, refl, ap, sym, subst, arith}
+use Rattle.rkyv_btree_base.specs.Image.{padding, leaf_bytes}
+use Rattle.rkyv_btree_base.specs.Layout.{shape, align, leaf_size}
 use Rattle.rkyv_btree_base.specs.Rounding.{round_up}
-use Rattle.rkyv_btree_base.specs.Written.{AreInNode, IsPadded, EntriesUnresolved, in_entries, in_padding, past_end, in_own_bytes, in_node, now_of}
+use Rattle.rkyv_btree_base.specs.Written.{AreInNode, IsPadded, EntriesUnresolved, in_padding, past_end, in_own_bytes, in_node, now_of}
 use Rattle.rkyv_btree_base.specs.Writing.{Appended, Write, Wrote, Stopped, Refused, position, last_end}
 use Rattle.rkyv_btree_base.proofs.WriteRuns.{appended-position, wrote-both, wrote-one, stopped-behind, stopped-one}
 use Rattle.rkyv_btree_base.proofs.whole.write_leaf.Goals as goal
