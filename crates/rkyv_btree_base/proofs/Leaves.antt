@@ -37,10 +37,10 @@ module _ (a keys values : List ℕ) (k v : ℕ) (first : length a ≤ k) (room :
   front_length : length (filled a k ++ keys) ≡ k + length keys
   front_length = omega (arith, length-append (filled a k) keys, length-filled a k first)
 
-  parts_length : length (filled (filled a k ++ keys) v ++ values) ≡ v + length values
+  pub parts_length : length (filled (filled a k ++ keys) v ++ values) ≡ v + length values
   parts_length = omega (arith, length-append (filled (filled a k ++ keys) v) values, length-filled (filled a k ++ keys) v (omega (arith, front_length)))
 
-  parts_held : (b : List ℕ) (p : ℕ) → Holds b p (filled (filled a k ++ keys) v ++ values) → Holds b p a × Holds b (p + k) keys × Holds b (p + v) values
+  pub parts_held : (b : List ℕ) (p : ℕ) → Holds b p (filled (filled a k ++ keys) v ++ values) → Holds b p a × Holds b (p + k) keys × Holds b (p + v) values
   parts_held b p h =
       let front = Holds-front b p (filled (filled a k ++ keys) v) values h in
       let both = Holds-front b p (filled a k ++ keys) (zeros (v - length (filled a k ++ keys))) front in
@@ -62,10 +62,10 @@ module _ (a tail : List ℕ) (n size : ℕ) (first : length a ≤ n) (room : n +
       )
 
 -- the own bytes of all keys and of all values
-abbrev keys_of : List OwnBytes → List ℕ
+abbrev pub keys_of : List OwnBytes → List ℕ
 keys_of xs = flat_map (λ x. x.0) xs
 
-abbrev values_of : List OwnBytes → List ℕ
+abbrev pub values_of : List OwnBytes → List ℕ
 values_of xs = flat_map (λ x. x.1) xs
 
 module _ (K V : Kind) (E : ℕ) (k : IsLawful K) (v : IsLawful V) (fits : IsTrue (are_fitting K V E)) where

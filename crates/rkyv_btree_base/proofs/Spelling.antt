@@ -21,23 +21,23 @@ use Rattle.rkyv_btree_base.proofs.Mapped.{map_tree, map_row, map_child, entries_
 use Rattle.rkyv_btree_base.proofs.WriteRuns.{appended-append}
 
 -- what all of two lists' writes reach
-reach_split : (xs ys : List Write) → AllReach (xs ++ ys) → AllReach xs × AllReach ys
+pub reach_split : (xs ys : List Write) → AllReach (xs ++ ys) → AllReach xs × AllReach ys
 reach_split [] ys h = (tt, h)
 reach_split (x ∷ xs) ys h = let rest = reach_split xs ys h.1 in ((h.0, rest.0), rest.1)
 
 -- the first of some pointers, and the rest
-offset_reaches : (at root : ℕ) (more : Bool) → (offset_fits at root && more) ≡ true → FitsOffset at root × (more ≡ true)
+pub offset_reaches : (at root : ℕ) (more : Bool) → (offset_fits at root && more) ≡ true → FitsOffset at root × (more ≡ true)
 offset_reaches at root more h = ((grind (arith, nat_tests), grind (arith, nat_tests)), grind (arith, nat_tests))
 
-pointers_rest : (b : List ℕ) (at : ℕ) (root : Option ℕ) (roots : List (Option ℕ)) → Holds b at (pointers at (root ∷ roots)) → Holds b (at + 4) (pointers (at + 4) roots)
+pub pointers_rest : (b : List ℕ) (at : ℕ) (root : Option ℕ) (roots : List (Option ℕ)) → Holds b at (pointers at (root ∷ roots)) → Holds b (at + 4) (pointers (at + 4) roots)
 pointers_rest b at None roots h = Holds-back b at no_pointer (pointers (at + 4) roots) h
 pointers_rest b at (Some root) roots h = Holds-back b at (pointer at root) (pointers (at + 4) roots) h
 
-reach_rest : (at : ℕ) (root : Option ℕ) (roots : List (Option ℕ)) → pointers_reach at (root ∷ roots) ≡ true → pointers_reach (at + 4) roots ≡ true
+pub reach_rest : (at : ℕ) (root : Option ℕ) (roots : List (Option ℕ)) → pointers_reach at (root ∷ roots) ≡ true → pointers_reach (at + 4) roots ≡ true
 reach_rest at None roots h = h
 reach_rest at (Some root) roots h = (offset_reaches at root (pointers_reach (at + 4) roots) h).1
 
-length-pointers : (at : ℕ) (roots : List (Option ℕ)) → length (pointers at roots) ≡ 4 * length roots
+pub length-pointers : (at : ℕ) (roots : List (Option ℕ)) → length (pointers at roots) ≡ 4 * length roots
 length-pointers at [] = refl
 length-pointers at (None ∷ roots) = omega (arith, length-pointers (at + 4) roots, length-append no_pointer (pointers (at + 4) roots))
 length-pointers at (Some root ∷ roots) = omega (arith, length-pointers (at + 4) roots, length-append (pointer at root) (pointers (at + 4) roots))
@@ -111,7 +111,7 @@ module _ (K V : Kind) (E : ℕ) (k : IsLawful K) (v : IsLawful V) (fits : IsTrue
   root_ends w (inner row) = refl
 
   -- a node behind its padding
-  node_there : (b : List ℕ) (w : ℕ) (node : Write) → Holds b w (appended (padding (align (shape K V E)) w ++ node ∷ [])) → Holds b (round_up w (align (shape K V E))) node.bytes
+  pub node_there : (b : List ℕ) (w : ℕ) (node : Write) → Holds b w (appended (padding (align (shape K V E)) w ++ node ∷ [])) → Holds b (round_up w (align (shape K V E))) node.bytes
   node_there b w node held =
       let pad = padding (align (shape K V E)) w in
       let both : Holds b w (appended pad ++ (node.bytes ++ [])) = subst (Holds b w) (appended-append pad (node ∷ [])) held in
