@@ -1,8 +1,9 @@
 # RT is the command of the Rattle kit.
 RT ?= rt
 PROGRAM := crates/btreearc/out/btreearc
+TEXTS := crates/bench/out/bench
 
-.PHONY: run test bench program
+.PHONY: run test bench program texts
 
 # Two lines become an archive, and the archive becomes the two lines again.
 run: program
@@ -21,9 +22,14 @@ run: program
 test:
 	$(RT) ci
 
-bench: program
+bench: program texts
 	@bench/program.sh $(PROGRAM)
+	@$(TEXTS) 100000
 
 # rt proves the program and its libraries before it builds it, which takes minutes the first time; where nothing has changed it does neither.
 program:
 	@cd crates/btreearc && $(RT) run -- build < /dev/null > /dev/null
+
+# The program that times maps of texts, built in the same way. Without an argument it does nothing.
+texts:
+	@cd crates/bench && $(RT) run > /dev/null

@@ -5,7 +5,7 @@ use Rattle.rkyv_btree_base.specs.Image.{child_image, child_root, root_image}
 use Rattle.rkyv_btree_base.specs.InPlace.{OwnBytes}
 use Rattle.rkyv_btree_base.specs.Layout.{Shape, shape}
 use Rattle.rkyv_btree_base.specs.Plain.{u32_kind}
-use Rattle.rkyv_btree_base.specs.Serialising.{built}
+use Rattle.rkyv_btree_base.specs.Plan.{planned_alone}
 use Rattle.rkyv_btree_base.specs.Writing.{Write, appended, AllReach, last_end}
 use Rattle.rkyv_btree_base.specs.declared.fault.Fault.{Fault}
 use Rattle.rkyv_btree_base.specs.declared.fault.Fault.TheVariants.{Length, LengthOverflow, PositionOverflow, OffsetOverflow, Writer, Memory, Entry}
@@ -20,10 +20,10 @@ five = shape u32_kind u32_kind 5
 
 -- the writes of the tree, and then of the map
 abbrev pub tree_writes : List (ℕ × ℕ) → List Write
-tree_writes entries = child_image five 0 (built five (map own entries))
+tree_writes entries = child_image five 0 (planned_alone 5 (map own entries))
 
 abbrev pub root_writes : List (ℕ × ℕ) → List Write
-root_writes entries = root_image (length (appended (tree_writes entries))) (unwrap_or (child_root five 0 (built five (map own entries))) 0) (length entries)
+root_writes entries = root_image (length (appended (tree_writes entries))) (unwrap_or (child_root five 0 (planned_alone 5 (map own entries))) 0) (length entries)
 
 abbrev pub archive_of : List (ℕ × ℕ) → List ℕ
 archive_of entries = appended (tree_writes entries ++ root_writes entries)

@@ -3,7 +3,6 @@ ghost use Rattle.std.specs.Prelude.{◌≡◌, IfOk, IfErr};
 ghost use Rattle.std.specs.Iterator.{YieldsFirstBy, item_count};
 ghost use Rattle.btreearc.specs.Archive.{archive_of};
 ghost use Rattle.btreearc.specs.Faults.{IsBuildFault};
-ghost use Rattle.btreearc.specs.Grammar.{AreShort};
 ghost use Rattle.btreearc.specs.Opening.{IsArchive};
 
 use crate::fault::ProgramFault;
@@ -40,7 +39,7 @@ impl<'x> Iterator for Entries<'x> {
 #[tactic(auto, using(crate::proofs::Built::numbers_fit))]
 pub fn archive(alloc: Global, entries: &[(u32, u32)]) -> Result<Vec<u8>, ProgramFault>
     ensures ok { IfOk result (λ bytes. bytes.items ≡ archive_of entries.now) }
-    ensures accepted { AreShort entries.now → IfOk result (λ bytes. IsArchive bytes.items entries.now) }
+    ensures accepted { IfOk result (λ bytes. IsArchive bytes.items entries.now) }
     ensures err { IfErr result (IsBuildFault entries.now) }
 {
     let mut writer = VecWriter::new(alloc);

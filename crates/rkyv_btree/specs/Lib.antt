@@ -1,3 +1,4 @@
+pub mod Deserializing
 pub mod Native
 pub mod Node
 pub mod Path

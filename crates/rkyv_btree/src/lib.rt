@@ -5,6 +5,7 @@ pub use rkyv_btree_base as base;
 
 pub mod compare;
 pub mod debug;
+pub mod deserialize;
 pub mod entry;
 pub mod iter;
 pub mod map;

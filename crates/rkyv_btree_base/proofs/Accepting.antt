@@ -15,10 +15,9 @@ use Rattle.rkyv_btree_base.specs.Spells.{root_size, Spells, Accepted}
 use Rattle.rkyv_btree_base.specs.Tree.{Tree, leaf, inner}
 use Rattle.rkyv_btree_base.specs.Writing.{Writing, position, last_end, Write, Wrote, AllReach, appended}
 use Rattle.rkyv_btree_base.specs.laws.Widen.{map_widens}
-use Rattle.rkyv_btree_base.proofs.Held.{Holds-front, Holds-back}
+use Rattle.rkyv_btree_base.specs.laws.Holding.{Holds-front, Holds-back, appended-append}
 use Rattle.rkyv_btree_base.proofs.Leaves.{length-padding}
-use Rattle.rkyv_btree_base.proofs.WriteRuns.{appended-append}
-use Rattle.rkyv_btree_base.proofs.HeldNumbers.{held_number, held_pointer}
+use Rattle.rkyv_btree_base.specs.laws.HeldNumbers.{held_number, held_pointer}
 
 reached : (at root : ℕ) → offset_fits at root ≡ true → FitsOffset at root
 reached at root h = (grind (arith, nat_tests), grind (arith, nat_tests))

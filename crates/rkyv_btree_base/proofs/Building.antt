@@ -1,23 +1,30 @@
 -- What building leaves, from what its parts leave.
-use Rattle.std.proofs.Common.{◌≡◌, ◌≢◌, ℕ, ◌+◌, ◌<◌, ◌≤◌, ◌∙◌, Bool, IsTrue, List, [], ◌∷◌, ◌++◌, length, map, take, Bor, Option, refl, sym, subst, ap, arith}
+use Rattle.std.proofs.Common.{◌≡◌, ◌≢◌, ℕ, ◌+◌, ◌<◌, ◌≤◌, ◌∙◌, Bool, IsTrue, List, [], ◌∷◌, ◌++◌, length, map, take, Bor, Option, unwrap_or, inl, inr, refl, sym, subst, ap, arith}
 use Rattle.std.specs.Iterator.{Yields, Drains}
 use Rattle.std.proofs.lemmas.List.{length-append, append-nil, nil_from_length, take_at}
-use Rattle.rkyv_btree_base.specs.Image.{padding, tree_image, child_image, child_end, root_bytes, root_reaches}
-use Rattle.rkyv_btree_base.specs.InPlace.{IsOwn, OwnBytes, AreOwn, entry_of}
+use Rattle.rkyv_btree_base.specs.Archiving.{Archival, IsArchived, Matches}
+use Rattle.rkyv_btree_base.specs.Bytes.{Holds}
+use Rattle.rkyv_btree_base.specs.Image.{padding, leaf_image, inner_image, root_bytes, root_reaches}
+use Rattle.rkyv_btree_base.specs.InPlace.{OwnBytes}
 use Rattle.rkyv_btree_base.specs.Kind.{Kind, IsLawful}
-use Rattle.rkyv_btree_base.specs.Layout.{shape, are_fitting}
+use Rattle.rkyv_btree_base.specs.Layout.{Shape, shape, are_fitting, leaf_size, inner_size}
+use Rattle.rkyv_btree_base.specs.Plan.{plan, planned_alone}
 use Rattle.rkyv_btree_base.specs.Rounding.{round_up}
-use Rattle.rkyv_btree_base.specs.Serialising.{own_of, meaning_of, built, Built, Spelled, Miscounted, Refusal, RootRefusal}
-use Rattle.rkyv_btree_base.specs.Plan.{plan}
+use Rattle.rkyv_btree_base.specs.Serialising.{meaning_of, Built, Spelled, Miscounted, Refusal, RootRefusal}
 use Rattle.rkyv_btree_base.specs.Spells.{Spells}
-use Rattle.rkyv_btree_base.specs.Tree.{list}
-use Rattle.rkyv_btree_base.specs.Writing.{Writing, position, Write, appended, Wrote, Refused, Stopped, last_end}
+use Rattle.rkyv_btree_base.specs.Tree.{Tree, leaf, inner, Row, last, step, Child, absent, child, row_entries, list}
+use Rattle.rkyv_btree_base.specs.Writing.{Writing, position, Write, Wrote, Refused, last_end}
+use Rattle.rkyv_btree_base.specs.Written.{AreUnserialised, NodeStopped, in_entries, in_padding, past_end, in_own_bytes, in_node, TreeStopped, RowStopped, ChildStopped, ChildWritten, as_fault, now_of}
 use Rattle.rkyv_btree_base.specs.laws.Sizes.{room_of}
+use Rattle.rkyv_btree_base.specs.declared.fault.IteratorLengthMismatch.{IteratorLengthMismatch}
 use Rattle.rkyv_btree_base.specs.declared.fault.Fault.{Fault}
 use Rattle.rkyv_btree_base.specs.declared.fault.Fault.TheVariants.{Length, LengthOverflow, PositionOverflow, OffsetOverflow, Writer, Memory, Entry}
+use Rattle.rkyv_btree_base.specs.declared.fault.ResolveFault.{ResolveFault}
+use Rattle.rkyv_btree_base.specs.declared.fault.ResolveFault.TheVariants as resolving
+use Rattle.rkyv_btree_base.proofs.EntriesWritten.{meant, since}
 use Rattle.rkyv_btree_base.proofs.Mapped.{map_tree, plan_mapped, list_mapped, height_mapped}
 use Rattle.rkyv_btree_base.proofs.Smallest.{plan_is_left_complete, left_complete_is_smallest}
-use Rattle.rkyv_btree_base.proofs.Spelling.{tree_spelled}
+use Rattle.rkyv_btree_base.proofs.TreesWritten.{tree_grown, tree_spelled}
 use Rattle.rkyv_btree_base.proofs.WriteRuns.{stopped-behind, stopped-one}
 
 -- what was taken, and then the rest
@@ -32,10 +39,44 @@ pub drained : {S A : Type 0} (steps : S → Option A → S → Type 0) (s : S) (
 drained steps s xs t ys n y d is none =
     subst (Drains steps s) (ap (λ zs. xs ++ zs) (nil_from_length ys (sym is ∙ none)) ∙ append-nil xs) (Drains-behind steps s xs t ys y d)
 
-module _ {M N S : Type 0} (K V : Kind) (E : ℕ) (key : M → List ℕ) (value : N → List ℕ) (steps : S → Option (Bor M × Bor N) → S → Type 0) where
-  pub miscounted_of : (iter : S) (claim more : ℕ) (s t : Writing) (xs : List (Bor M × Bor N)) (rest : S) (ys : List (Bor M × Bor N)) →
-      Yields steps iter xs rest → Drains steps rest ys → more ≡ length ys → more ≢ 0 → length xs ≡ claim → Wrote s (child_image (shape K V E) (position s) (built (shape K V E) (map (own_of key value) xs))) t → Miscounted K V E key value steps iter claim claim (claim + more) s t
-  miscounted_of iter claim more s t xs rest ys y d is many n wrote =
+-- a tree isn't stopped by a wrong count
+module _ (X : Type 0) {M N R S : Type 0} (s : Shape) (KA : Archival M R) (VA : Archival N S) (m : IteratorLengthMismatch) where
+  uncounted_entries : (from : Writing) (xs : List (M × N)) (t : Writing) → AreUnserialised KA VA {E = X} from xs (Length m) t → ⊥
+  uncounted_entries from [] t h = h
+  uncounted_entries from (x ∷ xs) t (inl h) = h
+  uncounted_entries from (x ∷ xs) t (inr (inl h)) = h.3
+  uncounted_entries from (x ∷ xs) t (inr (inr h)) = uncounted_entries h.3 xs t h.6
+
+  uncounted_cause : (cause : ResolveFault) (fault : Fault X) → fault ≡ Length m → fault ≡ as_fault cause → ⊥
+  uncounted_cause resolving.LengthOverflow fault e h = absurd (cc (sym e ∙ h))
+  uncounted_cause resolving.OffsetOverflow fault e h = absurd (cc (sym e ∙ h))
+
+  uncounted_node : (image : ℕ → List OwnBytes → List Write) (size : ℕ) (from : Writing) (xs : List (M × N)) (t : Writing) → NodeStopped s KA VA {E = X} image size from xs (Length m) t → ⊥
+  uncounted_node image size from xs t (in_entries h) = uncounted_entries from xs t h
+  uncounted_node image size from xs t (in_padding keys values mid h stopped) = stopped.refused
+  uncounted_node image size from xs t (past_end keys values h e past) = absurd (cc e)
+  uncounted_node image size from xs t (in_own_bytes keys values h cause e u) = uncounted_cause cause (Length m) refl e
+  uncounted_node image size from xs t (in_node root owns mid h stopped) = stopped.refused
+
+  mutual
+    uncounted_tree : (from : Writing) (tree : Tree (M × N)) (t : Writing) → TreeStopped s KA VA {E = X} from tree (Length m) t → ⊥
+    uncounted_tree from (leaf xs) t h = uncounted_node (leaf_image s) (leaf_size s) from xs t h
+    uncounted_tree from (inner row) t (inl h) = uncounted_row from row t h
+    uncounted_tree from (inner row) t (inr h) = uncounted_node (λ (at : ℕ) (owns : List OwnBytes). inner_image s at owns h.0) (inner_size s) h.1 (row_entries row) t h.3
+
+    uncounted_row : (from : Writing) (row : Row (M × N)) (t : Writing) → RowStopped s KA VA {E = X} from row (Length m) t → ⊥
+    uncounted_row from (last c) t h = uncounted_child from c t h
+    uncounted_row from (step c x row) t (inl h) = uncounted_child from c t h
+    uncounted_row from (step c x row) t (inr h) = uncounted_row h.1 row t h.3
+
+    uncounted_child : (from : Writing) (c : Child (M × N)) (t : Writing) → ChildStopped s KA VA {E = X} from c (Length m) t → ⊥
+    uncounted_child from absent t h = h
+    uncounted_child from (child tree) t h = uncounted_tree from tree t h
+
+module _ {M N R S P : Type 0} (K V : Kind) (E : ℕ) (KA : Archival M R) (VA : Archival N S) (steps : P → Option (Bor M × Bor N) → P → Type 0) where
+  pub miscounted_of : (iter : P) (claim more : ℕ) (s t : Writing) (xs : List (Bor M × Bor N)) (rest : P) (ys : List (Bor M × Bor N)) (place : Option ℕ) →
+      Yields steps iter xs rest → Drains steps rest ys → more ≡ length ys → more ≢ 0 → length xs ≡ claim → ChildWritten (shape K V E) KA VA s (planned_alone E (map now_of xs)) place t → Miscounted K V E KA VA steps iter claim claim (claim + more) s t
+  miscounted_of iter claim more s t xs rest ys place y d is many n written =
       let all = length-append xs ys in
       let taken : take claim (xs ++ ys) ≡ xs = take_at xs ys claim n in
       record {
@@ -45,52 +86,51 @@ module _ {M N S : Type 0} (K V : Kind) (E : ℕ) (key : M → List ℕ) (value :
         claimed = refl;
         counted = omega (arith, all);
         few = λ less. absurd (omega (arith, all));
-        many = λ more. subst (λ zs. Wrote s (child_image (shape K V E) (position s) (built (shape K V E) (map (own_of key value) zs))) t) (sym taken) wrote;
+        many = λ more. (place, subst (λ (zs : List (Bor M × Bor N)). ChildWritten (shape K V E) KA VA s (planned_alone E (map now_of zs)) place t) (sym taken) written);
       }
 
   -- which faults stop the building, and how
-  pub refused_of : {X : Type 0} (iter : S) (claim : ℕ) (s : Writing) (fault : Fault X) (t : Writing) (items : List (Bor M × Bor N)) (rest : S) →
-      Yields steps iter items rest → length items ≡ claim → Stopped s (child_image (shape K V E) (position s) (built (shape K V E) (map (own_of key value) items))) fault t → Refusal K V E key value steps iter claim s fault t
+  pub refused_of : {X : Type 0} (iter : P) (claim : ℕ) (s : Writing) (fault : Fault X) (t : Writing) (items : List (Bor M × Bor N)) (rest : P) →
+      Yields steps iter items rest → length items ≡ claim → ChildStopped (shape K V E) KA VA s (planned_alone E (map now_of items)) fault t → Refusal K V E KA VA steps iter claim s fault t
+  refused_of {X} iter claim s (Length m) t items rest y n h = absurd (uncounted_child X (shape K V E) KA VA m s (planned_alone E (map now_of items)) t h)
+  refused_of iter claim s LengthOverflow t items rest y n h = inr (record { items = items; rest = rest; taken = y; count = n; stopped = h })
   refused_of iter claim s PositionOverflow t items rest y n h = record { items = items; rest = rest; taken = y; count = n; stopped = h }
   refused_of iter claim s OffsetOverflow t items rest y n h = record { items = items; rest = rest; taken = y; count = n; stopped = h }
   refused_of iter claim s (Writer error) t items rest y n h = record { items = items; rest = rest; taken = y; count = n; stopped = h }
-  refused_of iter claim s (Length m) t items rest y n h = absurd h.refused
-  refused_of iter claim s LengthOverflow t items rest y n h = absurd h.refused
-  refused_of iter claim s (Memory error) t items rest y n h = absurd h.refused
-  refused_of iter claim s (Entry fault) t items rest y n h = absurd h.refused
+  refused_of iter claim s (Memory error) t items rest y n h = inr (record { items = items; rest = rest; taken = y; count = n; stopped = h })
+  refused_of iter claim s (Entry fault) t items rest y n h = record { items = items; rest = rest; taken = y; count = n; stopped = h }
 
--- the own bytes of items mean them
-pub own_items : {M N : Type 0} (K V : Kind) (key : M → List ℕ) (value : N → List ℕ) → ((n : M) → IsOwn K (key n)) → ((n : N) → IsOwn V (value n)) → (xs : List (Bor M × Bor N)) → AreOwn K V (map (own_of key value) xs)
-own_items K V key value kp vp [] = tt
-own_items K V key value kp vp (x ∷ xs) = (kp x.0.now, vp x.1.now, own_items K V key value kp vp xs)
+module _ {M N R S : Type 0} (K V : Kind) (E : ℕ) (k : IsLawful K) (v : IsLawful V) (fits : IsTrue (are_fitting K V E)) (KA : Archival M R) (VA : Archival N S) (key : Matches KA.kind K) (value : Matches VA.kind V) (ka : IsArchived KA) (va : IsArchived VA) where
+  pub meaning_is : (xs : List (Bor M × Bor N)) → map (meant K V E k v fits KA VA key value ka va) (map now_of xs) ≡ map (meaning_of K V KA VA key value) xs
+  meaning_is [] = refl
+  meaning_is (x ∷ xs) = ap (λ (ys : List (K.Value × V.Value)). meaning_of K V KA VA key value x ∷ ys) (meaning_is xs)
 
-pub meaning_is : {M N : Type 0} (K V : Kind) (key : M → List ℕ) (value : N → List ℕ) (xs : List (Bor M × Bor N)) → map (entry_of K V) (map (own_of key value) xs) ≡ map (meaning_of K V key value) xs
-meaning_is K V key value [] = refl
-meaning_is K V key value (x ∷ xs) = ap (λ m. meaning_of K V key value x ∷ m) (meaning_is K V key value xs)
-
--- every buffer that holds the writes of a built tree spells it
-pub spelled_of : (K V : Kind) (E : ℕ) → IsLawful K → IsLawful V → IsTrue (are_fitting K V E) → (s : Writing) (xs : List OwnBytes) (m : List (K.Value × V.Value)) (root : ℕ) (t : Writing) → AreOwn K V xs → map (entry_of K V) xs ≡ m → 0 < length xs → length xs ≤ last_end → Built (shape K V E) s xs root t → position t ≡ child_end (shape K V E) (position s) (built (shape K V E) xs) → Spelled K V E s m root t
-spelled_of K V E k v fits s [] m root t own means some few b end = absurd (omega arith)
-spelled_of K V E k v fits s (x ∷ more) m root t own means some few b end =
-    let xs = x ∷ more in
-    let nodes = shape K V E in
-    let at = position s in
-    let e = (room_of K V E k v fits).some in
-    let tree = plan E xs in
-    let complete = plan_is_left_complete OwnBytes E e xs some in
-    let smallest = left_complete_is_smallest OwnBytes E e tree complete.0 in
-    let count : length (list tree) ≡ length xs = ap length complete.1 in
-    record {
-      tree = map_tree (entry_of K V) tree;
-      entries = list_mapped (entry_of K V) tree ∙ (ap (map (entry_of K V)) complete.1 ∙ means);
-      planned = sym (plan_mapped (entry_of K V) E xs) ∙ ap (plan E) means;
-      levels = omega (arith, height_mapped (entry_of K V) tree, smallest.height_fits (omega (arith, count, few)));
-      appended = appended (tree_image nodes at tree);
-      contents = b.wrote.done.contents;
-      spelled = λ bytes short held inside.
-          subst (λ p. Spells K V E bytes at (position t) p (map_tree (entry_of K V) tree)) (sym b.root_is)
-          (tree_spelled K V E k v fits bytes short at (position t) at tree complete.0.has_shape (subst (AreOwn K V) (sym complete.1) own) b.wrote.reach held (omega arith) (omega (arith, end)) inside);
-    }
+  -- every buffer that holds the writes of a built tree spells it
+  pub spelled_of : (s : Writing) (xs : List (M × N)) (m : List (K.Value × V.Value)) (root : ℕ) (t : Writing) → map (meant K V E k v fits KA VA key value ka va) xs ≡ m → 0 < length xs → length xs ≤ last_end → Built (shape K V E) KA VA s xs root t → Spelled K V E s m root t
+  spelled_of s [] m root t means some few b = absurd (omega arith)
+  spelled_of s (x ∷ more) m root t means some few b =
+      let xs = x ∷ more in
+      let mean = meant K V E k v fits KA VA key value ka va in
+      let e = (room_of K V E k v fits).some in
+      let tree = plan E xs in
+      let complete = plan_is_left_complete (M × N) E e xs some in
+      let smallest = left_complete_is_smallest (M × N) E e tree complete.0 in
+      let count : length (list tree) ≡ length xs = ap length complete.1 in
+      let place = b.written.0 in
+      let grown = tree_grown K V E k v fits KA VA key value ka va s tree place t b.written.1 in
+      let here : root ≡ place = b.root_is ∙ ap (λ (o : Option ℕ). unwrap_or o 0) b.written.2 in
+      record {
+        tree = map_tree mean tree;
+        entries = list_mapped mean tree ∙ (ap (map mean) complete.1 ∙ means);
+        planned = sym (plan_mapped mean E xs) ∙ ap (plan E) means;
+        levels = omega (arith, height_mapped mean tree, smallest.height_fits (omega (arith, count, few)));
+        appended = grown.more;
+        contents = grown.contents;
+        spelled = λ bytes short held inside.
+            subst (λ (p : ℕ). Spells K V E bytes (position s) (position t) p (map_tree mean tree)) (sym here)
+            (tree_spelled K V E k v fits KA VA key value ka va bytes short (position s) (position t) s tree place t complete.0.has_shape b.written.1
+            (subst (Holds bytes (position s)) (sym (since s t grown)) held) (omega arith) (omega arith) inside);
+      }
 
 abbrev root_write : ℕ → ℕ → ℕ → Write
 root_write at root len = record { bytes = root_bytes at root len; reaches = root_reaches at root len }

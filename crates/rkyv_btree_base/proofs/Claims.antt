@@ -28,10 +28,6 @@ pub apart : (rs : List Range) (lo hi : ℕ) → Ascend lo hi rs → PairwiseApar
 apart [] lo hi a = tt
 apart (r ∷ rs) lo hi a = (apart_from r rs r.past hi (omega arith) a.2, apart rs r.past hi a.2)
 
-pub ascend_ends : (rs : List Range) (lo hi : ℕ) → Ascend lo hi rs → lo ≤ hi
-ascend_ends [] lo hi a = a
-ascend_ends (r ∷ rs) lo hi a = let rest = ascend_ends rs r.past hi a.2 in omega (arith, a.0, a.1)
-
 pub root_inside : (K V : Kind) (E : ℕ) (b : List ℕ) (t : Tree (K.Value × V.Value)) (lo hi p : ℕ) → Spells K V E b lo hi p t → p + root_size (shape K V E) t ≤ hi
 root_inside K V E b (leaf m) lo hi p h = h.0.room
 root_inside K V E b (inner row) lo hi p h = h.0.room

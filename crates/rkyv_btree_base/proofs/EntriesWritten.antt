@@ -12,7 +12,7 @@ use Rattle.rkyv_btree_base.specs.Writing.{Writing, Write, position, Wrote, appen
 use Rattle.rkyv_btree_base.specs.Written.{IsSerialised, AreSerialised, AreResolved}
 use Rattle.rkyv_btree_base.specs.laws.Sizes.{room_of}
 use Rattle.rkyv_btree_base.proofs.Aligned.{key_aligned, value_aligned}
-use Rattle.rkyv_btree_base.proofs.Held.{Holds-front, Holds-back, Holds-at}
+use Rattle.rkyv_btree_base.specs.laws.Holding.{Holds-front, Holds-back, Holds-at}
 use Rattle.rkyv_btree_base.proofs.Leaves.{keys_of, values_of}
 
 -- state t has more behind the contents of s

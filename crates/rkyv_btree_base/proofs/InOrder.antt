@@ -12,9 +12,6 @@ pub record SerialisedSoFar (F : Type 0) {M N R S : Type 0} (K : Archival M R) (V
   pub stops : (fault : Fault F) (to : Writing) → AreUnserialised K V now xs fault to → AreUnserialised K V from all fault to
 
 module _ {M N R S : Type 0} (F : Type 0) (K : Archival M R) (V : Archival N S) (from : Writing) (all : List (M × N)) where
-  pub none_serialised : SerialisedSoFar F K V from all from all [] []
-  none_serialised = record { goes = λ ks vs to h. h; stops = λ fault to h. h }
-
   one_serialised : (now mid next : Writing) (x : M × N) (xs : List (M × N)) (r : R) (s : S) (keys : List R) (values : List S) → SerialisedSoFar F K V from all now (x ∷ xs) keys values → IsSerialised K now x.0 r mid → IsSerialised V mid x.1 s next → SerialisedSoFar F K V from all next xs (keys ++ r ∷ []) (values ++ s ∷ [])
   one_serialised now mid next x xs r s keys values so key value = record {
     goes = λ ks vs to h.
@@ -31,10 +28,6 @@ module _ {M N R S : Type 0} (F : Type 0) (K : Archival M R) (V : Archival N S) (
   next_serialised items i d item now mid next r s keys more values more2 inside is ek ev so key value =
       subst (λ zs. SerialisedSoFar F K V from all next (map now_of (drop (i + 1) items)) zs more2) (sym ek) (subst (λ zs. SerialisedSoFar F K V from all next (map now_of (drop (i + 1) items)) (keys ++ r ∷ []) zs) (sym ev)
       (one_serialised now mid next (now_of item) (map now_of (drop (i + 1) items)) r s keys values (subst (λ zs. SerialisedSoFar F K V from all now zs keys values) (cut items i d item inside is) so) key value))
-
-  pub key_unserialised : (items : List (Bor M × Bor N)) (i : ℕ) (d item : Bor M × Bor N) (now to : Writing) (keys : List R) (values : List S) (fault : Fault F) → i < length items → item ≡ get_or items i d → SerialisedSoFar F K V from all now (map now_of (drop i items)) keys values → IsUnserialised K item.0.now now fault to → AreUnserialised K V from all fault to
-  key_unserialised items i d item now to keys values fault inside is so h =
-      (subst (λ zs. SerialisedSoFar F K V from all now zs keys values) (cut items i d item inside is) so).stops fault to (inl h)
 
   pub value_unserialised : (items : List (Bor M × Bor N)) (i : ℕ) (d item : Bor M × Bor N) (now mid to : Writing) (r : R) (keys : List R) (values : List S) (fault : Fault F) → i < length items → item ≡ get_or items i d → SerialisedSoFar F K V from all now (map now_of (drop i items)) keys values → IsSerialised K now item.0.now r mid → IsUnserialised V item.1.now mid fault to → AreUnserialised K V from all fault to
   value_unserialised items i d item now mid to r keys values fault inside is so key h =

@@ -5,7 +5,7 @@ use Rattle.std.proofs.lemmas.Bool.{cases_lt}
 use Rattle.std.proofs.lemmas.List.{drop-map, take-map, length-map, map-append}
 use Rattle.rkyv_btree_base.specs.Tree.{Tree, leaf, inner, Row, last, step, Child, absent, child, list, row_list, child_list, row_entries, height, row_height, child_height}
 use Rattle.rkyv_btree_base.specs.Logarithm.{ilog}
-use Rattle.rkyv_btree_base.specs.Plan.{leaf_plan, row_plan, child_plan, plan, tree_of}
+use Rattle.rkyv_btree_base.specs.Plan.{leaf_plan, row_plan, child_plan, plan, planned_alone, tree_of}
 use Rattle.rkyv_btree_base.proofs.PlanLaws.{row_plan_step, row_plan_short, row_plan_last, child_plan_zero, child_plan_few, child_plan_many}
 
 abbrev mutual
@@ -83,3 +83,8 @@ mutual
   pub child_height_mapped : {X Y : Type 0} (f : X → Y) (c : Child X) → child_height (map_child f c) ≡ child_height c
   child_height_mapped f absent = refl
   child_height_mapped f (child t) = height_mapped f t
+
+-- and where there may be none
+pub alone_mapped : {X Y : Type 0} (f : X → Y) (E : ℕ) (xs : List X) → planned_alone E (map f xs) ≡ map_child f (planned_alone E xs)
+alone_mapped f E [] = refl
+alone_mapped f E (x ∷ xs) = ap child (plan_mapped f E (x ∷ xs))

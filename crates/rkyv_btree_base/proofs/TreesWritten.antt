@@ -18,11 +18,11 @@ use Rattle.rkyv_btree_base.specs.Written.{AreInNode, NodeWritten, TreeWritten, R
 use Rattle.rkyv_btree_base.specs.laws.Sizes.{room_of}
 use Rattle.rkyv_btree_base.proofs.Aligned.{alignment}
 use Rattle.rkyv_btree_base.proofs.EntriesWritten.{Grown, HeldSince, grown-none, grown-both, grown-wrote, grown-position, held-split, held-wrote, AreWritten, together, entries_grown, meant, sizes, entries_spelled}
-use Rattle.rkyv_btree_base.proofs.Held.{Holds-front, Holds-at, first-held}
-use Rattle.rkyv_btree_base.proofs.HeldNumbers.{held_number, held_no_pointer, held_target}
-use Rattle.rkyv_btree_base.proofs.Leaves.{keys_of, values_of, parts_length, parts_held, tail_held}
+use Rattle.rkyv_btree_base.specs.laws.Holding.{Holds-front, Holds-at, first-held, tail_held}
+use Rattle.rkyv_btree_base.specs.laws.HeldNumbers.{held_number, held_no_pointer, held_target}
+use Rattle.rkyv_btree_base.proofs.Leaves.{keys_of, values_of, parts_length, parts_held}
 use Rattle.rkyv_btree_base.proofs.Mapped.{map_tree, map_row, map_child, entries_mapped}
-use Rattle.rkyv_btree_base.proofs.Spelling.{offset_reaches, pointers_rest, reach_rest, reach_split, length-pointers, node_there}
+use Rattle.rkyv_btree_base.proofs.NodesHeld.{offset_reaches, pointers_rest, reach_rest, reach_split, length-pointers, node_there}
 
 module _ {M N R S : Type 0} (K V : Kind) (E : ℕ) (k : IsLawful K) (v : IsLawful V) (fits : IsTrue (are_fitting K V E)) (KA : Archival M R) (VA : Archival N S) (key : Matches KA.kind K) (value : Matches VA.kind V) (ka : IsArchived KA) (va : IsArchived VA) where
   in_node : (from : Writing) (xs : List (M × N)) (root : ℕ) (owns : List OwnBytes) (to : Writing) → AreInNode (shape K V E) KA VA from xs root owns to → AreWritten KA VA from (root + key_at (shape K V E) 0) (root + value_at (shape K V E) 0) xs owns to

@@ -19,7 +19,7 @@ pub record Matches (kind other : Kind) : Type 0 where
   pub fits : kind.is_fitting ≡ other.is_fitting
   pub means : (b : List ℕ) (lo hi at left : ℕ) (v : kind.Value) → kind.Means b lo hi at left v → other.Means b lo hi at left (to v)
 
-pub itself : (kind : Kind) → Matches kind kind
+abbrev pub itself : (kind : Kind) → Matches kind kind
 itself kind = record { to = λ v. v; size = refl; align = refl; fits = refl; means = λ b lo hi at left v m. m }
 
 -- what archiving the values of a type does, with what serialising tells resolving
@@ -70,9 +70,9 @@ IsUnserialised T x s (Writer error) t = StopsIn T x s (Writer error) t
 IsUnserialised T x s (Memory error) t = T.Grows x × BeginsWith t s
 IsUnserialised T x s (Entry fault) t = T.Refuses x (position s) fault × BeginsWith t s
 
--- values that lie in their own bytes alone: nothing is written before, and nothing is refused
-abbrev pub plain_archival : {X : Type 0} (kind : Kind) → (X → kind.Value) → (X → Type 0) → (X → List ℕ) → Archival X (Unit {0})
-plain_archival kind meaning IsIn own = record {
+-- values that lie in their own bytes alone, of which some may refuse themselves: nothing is written before
+abbrev pub own_archival : {X : Type 0} (kind : Kind) → (X → kind.Value) → (X → Type 0) → (X → List ℕ) → (X → ℕ → EntryFault → Type 0) → Archival X (Unit {0})
+own_archival kind meaning IsIn own Refuses = record {
   kind = kind;
   meaning = meaning;
   Writes = λ x from writes r. IsIn x × (writes ≡ []);
@@ -81,5 +81,9 @@ plain_archival kind meaning IsIn own = record {
   IsTooLong = λ x. ⊥;
   IsTooFar = λ x r at. ⊥;
   Grows = λ x. ⊥;
-  Refuses = λ x from fault. ⊥;
+  Refuses = Refuses;
 }
+
+-- and none refuses itself
+abbrev pub plain_archival : {X : Type 0} (kind : Kind) → (X → kind.Value) → (X → Type 0) → (X → List ℕ) → Archival X (Unit {0})
+plain_archival kind meaning IsIn own = own_archival kind meaning IsIn own (λ x from fault. ⊥)

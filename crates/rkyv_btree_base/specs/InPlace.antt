@@ -22,12 +22,9 @@ pub record IsOwn (kind : Kind) (own : List ℕ) : Type 0 where
   pub size : length own ≡ kind.size
   pub means : (b : List ℕ) (lo hi at : ℕ) → length b ≤ 4294967295 → lo ≤ hi → hi ≤ at → IsAligned kind.align at → at + kind.size ≤ length b → bytes_at b at kind.size ≡ own → kind.Means b lo hi at lo (value_of kind own)
 
--- the own bytes of an entry's key and value, and what they mean
+-- the own bytes of an entry's key and value
 abbrev pub OwnBytes : Type 0
 OwnBytes = List ℕ × List ℕ
-
-abbrev pub entry_of : (K V : Kind) → OwnBytes → K.Value × V.Value
-entry_of K V x = (value_of K x.0, value_of V x.1)
 
 abbrev pub AreOwn : Kind → Kind → List OwnBytes → Type 0
 AreOwn K V [] = Unit {0}

@@ -28,4 +28,6 @@ pub mod Written
 pub mod Refusing
 pub mod Faults
 pub mod Entry
+pub mod EntryArchival
 pub mod Claims
+pub mod TextArchival

@@ -24,12 +24,6 @@ alignment_positive two = omega arith
 alignment_positive four = omega arith
 alignment_positive eight = omega arith
 
-pub alignment_small : {a : ℕ} → IsAlignment a → a ≤ 8
-alignment_small one = omega arith
-alignment_small two = omega arith
-alignment_small four = omega arith
-alignment_small eight = omega arith
-
 pub round_up-aligned : (n a : ℕ) → IsAligned a (round_up n a)
 unfolding round_up
 round_up-aligned n a = mul-mod_left _ a

@@ -92,6 +92,7 @@ module _ {M N R S : Type 0} (s : Shape) (K : Archival M R) (V : Archival N S) wh
     pub mid : Writing
     pub serialised : AreSerialised K V from xs keys values mid
     pub padded : Wrote mid (padding (align s) (position mid)) to
+    pub place : position to ≡ round_up (position mid) (align s)
 
   -- why a node isn't written, and the state that is left
   pub data NodeStopped {E : Type 0} (image : ℕ → List OwnBytes → List Write) (size : ℕ) (from : Writing) (xs : List (M × N)) (fault : Fault E) (to : Writing) : Type 0 where

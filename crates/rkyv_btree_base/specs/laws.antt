@@ -1,6 +1,8 @@
 pub mod Check
 pub mod Complete
 pub mod EntryLaws
+pub mod EntryArchived
+pub mod Holding
 pub mod Local
 pub mod MapLaws
 pub mod Readings
@@ -16,3 +18,5 @@ pub mod Refused
 pub mod Refusing
 pub mod TextLaws
 pub mod Archiving
+pub mod HeldNumbers
+pub mod TextArchived

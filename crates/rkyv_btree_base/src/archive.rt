@@ -1,20 +1,24 @@
 //! Values that can be archived.
-ghost use Rattle.std.specs.Prelude.{FitsSigned, ◌≡◌, ℕ, ◌<◌, ◌^◌, List, [], length, OnOk, IfOk, IfErr};
+ghost use Rattle.std.specs.Prelude.{FitsSigned, ◌≡◌, ℕ, ◌+◌, ◌≤◌, ◌<◌, ◌^◌, List, [], length, IsTrue, OnOk, IfOk, IfErr};
 ghost use Rattle.std.specs.Int.{w8, w16, w32, w64, to_le_bytes};
+ghost use Rattle.std.specs.Int.NonZero.{non_zero_u32_get};
+ghost use Rattle.std.proofs.Math.Utf8.{scalar};
 ghost use Rattle.rkyv_btree_base.specs.Archiving.{Archival, Matches, IsArchived, IsUnresolved, IsUnserialised, itself, plain_archival};
 ghost use Rattle.rkyv_btree_base.specs.Kind.{Kind, IsLawful};
-ghost use Rattle.rkyv_btree_base.specs.Plain.{u8_kind, u16_kind, u32_kind, u64_kind, i8_kind, i16_kind, i32_kind, i64_kind, bool_kind, u8_laws, u16_laws, u32_laws, u64_laws, i8_laws, i16_laws, i32_laws, i64_laws, bool_laws};
+ghost use Rattle.rkyv_btree_base.specs.Plain.{u8_kind, u16_kind, u32_kind, u64_kind, i8_kind, i16_kind, i32_kind, i64_kind, bool_kind, unit_kind, char_kind, non_zero_kind, u8_laws, u16_laws, u32_laws, u64_laws, i8_laws, i16_laws, i32_laws, i64_laws, bool_laws, unit_laws, char_laws, non_zero_laws};
 ghost use Rattle.rkyv_btree_base.specs.Writing.{Write, Wrote, position};
-ghost use Rattle.rkyv_btree_base.specs.InPlace.{own_bool, own_signed};
-ghost use Rattle.rkyv_btree_base.specs.laws.Archiving.{u8_archived, u16_archived, u32_archived, u64_archived, i8_archived, i16_archived, i32_archived, i64_archived, bool_archived};
+ghost use Rattle.rkyv_btree_base.specs.InPlace.{own_bool, own_signed, own_char, own_non_zero};
+ghost use Rattle.rkyv_btree_base.specs.laws.Archiving.{u8_archived, u16_archived, u32_archived, u64_archived, i8_archived, i16_archived, i32_archived, i64_archived, bool_archived, unit_archived, char_archived, non_zero_archived};
 ghost use Rattle.std.proofs.Common.{refl};
 
 use crate::check::{InPlace, Portable};
 use crate::fault::{Fault, ResolveFault};
 use crate::numbers::{ArchivedU16, ArchivedU32, ArchivedU64};
 use crate::place::{Place, Writer};
+use crate::scalars::{ArchivedChar, ArchivedNonZeroU32};
 use crate::signed::{ArchivedI16, ArchivedI32, ArchivedI64};
 use std::marker::PhantomData;
+use std::num::NonZeroU32;
 
 /// A value that can be archived.
 pub trait Archive {
@@ -27,13 +31,16 @@ pub trait Archive {
     /// What archiving does.
     ghost archival: { Archival Self Self.Resolver };
 
-    /// Writes the own bytes. After an error they may be any.
+    /// Writes the own bytes, whatever the place held. It has as many bytes as the archived type, and ends at position
+    /// 4294967295 at most. After an error its bytes may be any.
     fn resolve(
         &self,
         resolver: Self::Resolver,
         out: Place<'_, Self::Archived>,
     ) -> Result<(), ResolveFault>
-        requires { length out.bytes.now ≡ Self.Archived.kind.size }
+        requires fitting { IsTrue Self.Archived.kind.is_fitting }
+        requires size { length out.bytes.now ≡ Self.Archived.kind.size }
+        requires end { out.pos + Self.Archived.kind.size ≤ 4294967295 }
         ensures ok { OnOk result (archival.Resolves self.now resolver out.entry.pos out.exit.1.0.now) }
         ensures err { IfErr result (IsUnresolved archival self.now resolver out.entry.pos) };
 
@@ -59,7 +66,9 @@ pub(crate) fn resolve_into<T: Archive>(
     pos: u32,
     bytes: &mut [u8],
 ) -> Result<(), ResolveFault>
-    requires { length bytes.old ≡ T.Archived.kind.size }
+    requires fitting { IsTrue T.Archived.kind.is_fitting }
+    requires size { length bytes.old ≡ T.Archived.kind.size }
+    requires end { pos + T.Archived.kind.size ≤ 4294967295 }
     ensures ok { OnOk result (T.archival.Resolves value.now resolver pos bytes.new) }
     ensures err { IfErr result (IsUnresolved T.archival value.now resolver pos) }
 {
@@ -332,4 +341,73 @@ impl Native for i64 {
     ghost same_own = { λ x. refl };
 
     ghost plain_archived = { i64_archived };
+}
+
+impl Native for () {
+    type Plain = ();
+
+    ghost plain_kind = { unit_kind };
+
+    ghost plain_own = { λ _. [] };
+
+    ghost value = { λ x. x };
+
+    ghost IsIn = { λ x. Unit {0} };
+
+    fn is_in(self) {}
+
+    ghost same_plain = { itself unit_kind };
+
+    ghost plain_lawful = { unit_laws };
+
+    ghost same_own = { λ x. refl };
+
+    ghost plain_archived = { unit_archived };
+}
+
+impl Native for char {
+    type Plain = ArchivedChar;
+
+    ghost plain_kind = { char_kind };
+
+    ghost plain_own = { own_char };
+
+    ghost value = { λ x. x };
+
+    ghost IsIn = { λ x. IsTrue (scalar x) };
+
+    fn is_in(self) {}
+
+    ghost same_plain = { itself char_kind };
+
+    ghost plain_lawful = { char_laws };
+
+    ghost same_own = { λ x. refl };
+
+    ghost plain_archived = { char_archived };
+}
+
+impl Native for NonZeroU32 {
+    type Plain = ArchivedNonZeroU32;
+
+    ghost plain_kind = { non_zero_kind };
+
+    ghost plain_own = { own_non_zero };
+
+    ghost value = { non_zero_u32_get };
+
+    ghost IsIn = { λ x. non_zero_u32_get x < 2 ^ 32 };
+
+    fn is_in(self) {
+        // The type of the number says how large it may be.
+        let _number = self.get();
+    }
+
+    ghost same_plain = { itself non_zero_kind };
+
+    ghost plain_lawful = { non_zero_laws };
+
+    ghost same_own = { λ x. refl };
+
+    ghost plain_archived = { non_zero_archived };
 }

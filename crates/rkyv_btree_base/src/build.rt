@@ -9,7 +9,8 @@ ghost use Rattle.rkyv_btree_base.specs.Rounding.{round_up};
 ghost use Rattle.rkyv_btree_base.specs.Serialising.{Serialised, Refusal, RootRefusal};
 ghost use Rattle.rkyv_btree_base.specs.Writing.{position, Wrote, last_end};
 
-use crate::check::{InPlace, Portable};
+use crate::archive::{Archive, Serialize};
+use crate::check::Portable;
 use crate::fault::{Fault, IteratorLengthMismatch, ResolveFault};
 use crate::layout;
 use crate::map::ArchivedBTreeMap;
@@ -17,6 +18,7 @@ use crate::place::{Place, Writer, write_offset};
 use crate::tree::{push, write_child};
 use crate::writes::{LAST_END, pad, put};
 use std::alloc::{AllocError, Allocator};
+use std::collections::VecDeque;
 use std::marker::Model;
 
 /// Where the root node of a serialised map stands. That of an empty map stands for position 0.
@@ -69,30 +71,36 @@ fn take_items<'x, M, N, A: Allocator, I: Iterator<Item = (&'x M, &'x N)>>(
 }
 
 /// Writes the tree of an iterator's items, which are claimed to be `len`, and answers where its root node stands.
-fn build_some<'x, K, V, W, A, I, const E: usize>(
+fn build_some<'x, KU, VU, K, V, W, A, I, const E: usize>(
     alloc: A,
     len: usize,
     mut iter: I,
     writer: &mut W,
 ) -> Result<BTreeMapResolver, Fault<W::Error>>
 where
-    K: InPlace,
-    V: InPlace,
+    KU: Archive<Archived = K> + Serialize<W, A> + 'x,
+    VU: Archive<Archived = V> + Serialize<W, A> + 'x,
+    K: Portable,
+    V: Portable,
     W: Writer,
     A: Allocator + Copy,
-    I: Iterator<Item = (&'x K::Native, &'x V::Native)>,
-    K::Native: 'x,
-    V::Native: 'x,
+    I: Iterator<Item = (&'x KU, &'x VU)>,
     requires fitting { IsTrue (are_fitting K.kind V.kind E) }
     requires some { 0 < len }
     requires small { len ≤ 4294967295 }
     requires can { I.can_next iter }
     requires ends { UpTo (I.remaining iter) 18446744073709551615 }
-    ensures ok { IfOk result (λ resolver. Serialised K.kind V.kind E K.own V.own I.next_gives iter len (W.state writer.old) resolver (W.state writer.new)) }
-    ensures err { IfErr result (λ fault. Refusal K.kind V.kind E K.own V.own I.next_gives iter len (W.state writer.old) fault (W.state writer.new)) }
+    ensures ok { IfOk result (λ resolver. Serialised K.kind V.kind E KU.archival VU.archival I.next_gives iter len (W.state writer.old) resolver (W.state writer.new)) }
+    ensures err { IfErr result (λ fault. Refusal K.kind V.kind E KU.archival VU.archival I.next_gives iter len (W.state writer.old) fault (W.state writer.new)) }
 {
     let waiting = waiting::<K, V, E>(len);
     let Ok(mut node) = Vec::with_capacity(alloc, layout::inner_size::<K, V, E>() as usize) else {
+        return Err(Fault::Memory(AllocError));
+    };
+    let Ok(mut keys) = VecDeque::with_capacity(alloc, E) else {
+        return Err(Fault::Memory(AllocError));
+    };
+    let Ok(mut values) = VecDeque::with_capacity(alloc, E) else {
         return Err(Fault::Memory(AllocError));
     };
     let Ok(mut entries) = Vec::with_capacity(alloc, waiting) else {
@@ -110,8 +118,11 @@ where
             actual: items.len(),
         }));
     }
-    let root = write_child::<K, V, W, A, E>(
+    let root = write_child::<KU, VU, K, V, W, A, E>(
+        alloc,
         &mut node,
+        &mut keys,
+        &mut values,
         &mut entries,
         &mut children,
         &items,
@@ -129,31 +140,32 @@ where
     })
 }
 
-impl<K: InPlace, V: InPlace, const E: usize> ArchivedBTreeMap<K, V, E> {
+impl<K: Portable, V: Portable, const E: usize> ArchivedBTreeMap<K, V, E> {
     /// Serialises the items of an iterator, in their order, as the tree of a map, and answers where its root node
-    /// stands. `len` is the claimed number of items.
+    /// stands. `len` is the claimed number of items. Before a node stands what its entries write, each key before its
+    /// value.
     ///
     /// A claim past 32 bits is refused before an item is taken. All memory is reserved before the first byte is
     /// written. After an error the writer's contents begin with the old ones, and no resolver comes out; after a
-    /// refused growth they are unchanged. Too many items are refused with all of them counted. `next` isn't called
-    /// again once it has answered `None`.
-    pub fn serialize_from_ordered_iter<'x, W, A, I>(
+    /// refused growth they are unchanged, unless a key or value asked for it. Too many items are refused with all of
+    /// them counted. `next` isn't called again once it has answered `None`.
+    pub fn serialize_from_ordered_iter<'x, KU, VU, W, A, I>(
         alloc: A,
         len: usize,
         iter: I,
         writer: &mut W,
     ) -> Result<BTreeMapResolver, Fault<W::Error>>
     where
+        KU: Archive<Archived = K> + Serialize<W, A> + 'x,
+        VU: Archive<Archived = V> + Serialize<W, A> + 'x,
         W: Writer,
         A: Allocator + Copy,
-        I: Iterator<Item = (&'x K::Native, &'x V::Native)>,
-        K::Native: 'x,
-        V::Native: 'x,
+        I: Iterator<Item = (&'x KU, &'x VU)>,
         requires fitting { IsTrue (are_fitting K.kind V.kind E) }
         requires can { I.can_next iter }
         requires ends { UpTo (I.remaining iter) 18446744073709551615 }
-        ensures ok { IfOk result (λ resolver. Serialised K.kind V.kind E K.own V.own I.next_gives iter len (W.state writer.old) resolver (W.state writer.new)) }
-        ensures err { IfErr result (λ fault. Refusal K.kind V.kind E K.own V.own I.next_gives iter len (W.state writer.old) fault (W.state writer.new)) }
+        ensures ok { IfOk result (λ resolver. Serialised K.kind V.kind E KU.archival VU.archival I.next_gives iter len (W.state writer.old) resolver (W.state writer.new)) }
+        ensures err { IfErr result (λ fault. Refusal K.kind V.kind E KU.archival VU.archival I.next_gives iter len (W.state writer.old) fault (W.state writer.new)) }
     {
         if len > 4294967295 {
             return Err(Fault::LengthOverflow);
@@ -168,7 +180,7 @@ impl<K: InPlace, V: InPlace, const E: usize> ArchivedBTreeMap<K, V, E> {
             }
             return Ok(BTreeMapResolver { root: 0 });
         }
-        build_some::<K, V, W, A, I, E>(alloc, len, iter, writer)
+        build_some::<KU, VU, K, V, W, A, I, E>(alloc, len, iter, writer)
     }
 }
 

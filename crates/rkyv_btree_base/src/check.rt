@@ -73,7 +73,7 @@ pub trait CheckBytes: Portable {
 }
 
 /// The test that the own bytes of a `T` at position `pos` lie in the buffer, aligned.
-pub(crate) fn check_place<T: Portable>(buf: &[u8], pos: u32) -> Result<(), Refusal>
+pub fn check_place<T: Portable>(buf: &[u8], pos: u32) -> Result<(), Refusal>
     requires { IsTrue T.kind.is_fitting }
     ensures ok { IfOk result (λ _. HasPlace buf.now T.kind.size T.kind.align pos) }
     ensures err { IfErr result (λ refusal. Misplaced buf.now T.kind.size T.kind.align pos refusal) }

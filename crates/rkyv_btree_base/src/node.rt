@@ -1,14 +1,20 @@
 //! The bytes of nodes, put together in room that was reserved.
-ghost use Rattle.std.specs.Prelude.{◌≡◌, ◌+◌, ◌*◌, ◌≤◌, [], ◌∷◌, ◌++◌, length, map, true, vec_len, vec_capacity, IsTrue};
+ghost use Rattle.std.specs.Prelude.{◌≡◌, ◌+◌, ◌*◌, ◌≤◌, [], ◌∷◌, ◌++◌, length, map, true, vec_len, vec_capacity, IsTrue, ℕ, List, OnOk, IfErr};
 ghost use Rattle.std.specs.List.{flat_map};
+ghost use Rattle.std.specs.VecDeque.{deque_capacity};
 ghost use Rattle.rkyv_btree_base.specs.Image.{filled, entry_bytes, leaf_bytes, pointers, pointers_reach, inner_bytes};
 ghost use Rattle.rkyv_btree_base.specs.Layout.{shape, are_fitting, values_at, len_at, leaf_size, inner_size};
-ghost use Rattle.rkyv_btree_base.specs.Serialising.{own_of};
+ghost use Rattle.rkyv_btree_base.specs.Archiving.{IsUnresolved};
+ghost use Rattle.rkyv_btree_base.specs.InPlace.{OwnBytes};
+ghost use Rattle.rkyv_btree_base.specs.Written.{AreResolved, AreUnresolved, EntriesResolved, EntriesUnresolved, InnerUnfilled, now_of};
 
-use crate::check::InPlace;
+use crate::archive::{Archive, resolve_into};
+use crate::check::Portable;
+use crate::fault::ResolveFault;
 use crate::layout;
 use crate::place::write_offset;
 use std::alloc::Allocator;
+use std::collections::VecDeque;
 
 /// Appends bytes for which there is room.
 fn append<A: Allocator>(node: &mut Vec<u8, A>, bytes: &[u8])
@@ -31,83 +37,126 @@ fn fill_up<A: Allocator>(node: &mut Vec<u8, A>, len: usize)
     node.resize(len, 0).unwrap();
 }
 
-/// Appends a value's own bytes, for which there is room.
-fn append_value<T: InPlace, A: Allocator>(node: &mut Vec<u8, A>, value: T::Native)
-    requires fitting { IsTrue T.kind.is_fitting }
-    requires room { vec_len node.old + T.kind.size ≤ vec_capacity node.old }
-    ensures items { node.new.items ≡ node.old.items ++ T.own value }
-    ensures len { vec_len node.new ≡ vec_len node.old + T.kind.size }
+/// Appends a value's own bytes, resolved at `pos`, for which there is room.
+fn append_value<T: Archive, A: Allocator>(
+    node: &mut Vec<u8, A>,
+    value: &T,
+    resolver: T::Resolver,
+    pos: u32,
+) -> Result<(), ResolveFault>
+    requires fitting { IsTrue T.Archived.kind.is_fitting }
+    requires room { vec_len node.old + T.Archived.kind.size ≤ vec_capacity node.old }
+    requires end { pos + T.Archived.kind.size ≤ 4294967295 }
+    ensures ok { OnOk result ((own : List ℕ) × T.archival.Resolves value.now resolver pos own × (node.new.items ≡ node.old.items ++ own)) }
+    ensures len { OnOk result (vec_len node.new ≡ vec_len node.old + T.Archived.kind.size) }
+    ensures err { IfErr result (IsUnresolved T.archival value.now resolver pos) }
     ensures capacity { vec_capacity node.old ≤ vec_capacity node.new }
 {
     let start = node.len();
-    fill_up(node, start + T::size() as usize);
+    fill_up(node, start + T::Archived::size() as usize);
     let bytes = node.as_mut_slice();
-    T::write(value, &mut bytes[start..]);
+    resolve_into(value, resolver, pos, &mut bytes[start..])
 }
 
-/// Appends the keys of entries.
-fn append_keys<K: InPlace, N, A: Allocator>(node: &mut Vec<u8, A>, entries: &[(&K::Native, &N)])
-    requires fitting { IsTrue K.kind.is_fitting }
-    requires room { vec_len node.old + length entries.now * K.kind.size ≤ vec_capacity node.old }
-    ensures items { node.new.items ≡ node.old.items ++ flat_map (λ x. K.own x.0.now) entries.now }
-    ensures len { vec_len node.new ≡ vec_len node.old + length entries.now * K.kind.size }
+/// Appends the keys of entries, resolved from `pos` on. Their resolvers are used up.
+fn append_keys<K: Archive, N, A: Allocator>(
+    node: &mut Vec<u8, A>,
+    entries: &[(&K, &N)],
+    resolvers: &mut VecDeque<K::Resolver, A>,
+    pos: u32,
+) -> Result<(), ResolveFault>
+    requires fitting { IsTrue K.Archived.kind.is_fitting }
+    requires count { length resolvers.old.items ≡ length entries.now }
+    requires room { vec_len node.old + length entries.now * K.Archived.kind.size ≤ vec_capacity node.old }
+    requires end { pos + length entries.now * K.Archived.kind.size ≤ 4294967295 }
+    ensures ok { OnOk result ((owns : List (List ℕ)) × AreResolved K.archival pos (map (λ x. x.0.now) entries.now) resolvers.old.items owns × (node.new.items ≡ node.old.items ++ flat_map (λ own. own) owns)) }
+    ensures len { OnOk result (vec_len node.new ≡ vec_len node.old + length entries.now * K.Archived.kind.size) }
+    ensures spent { OnOk result (resolvers.new.items ≡ []) }
+    ensures err { IfErr result (AreUnresolved K.archival pos (map (λ x. x.0.now) entries.now) resolvers.old.items) }
+    ensures kept { deque_capacity resolvers.old ≤ deque_capacity resolvers.new }
     ensures capacity { vec_capacity node.old ≤ vec_capacity node.new }
 {
+    let mut at = pos;
     for entry in entries {
-        append_value::<K, A>(node, *entry.0);
+        let resolver = resolvers.pop_front().unwrap();
+        match append_value(node, entry.0, resolver, at) {
+            Ok(()) => {}
+            Err(fault) => return Err(fault),
+        }
+        at += K::Archived::size();
     }
+    Ok(())
 }
 
-/// Appends the values of entries.
-fn append_values<V: InPlace, M, A: Allocator>(node: &mut Vec<u8, A>, entries: &[(&M, &V::Native)])
-    requires fitting { IsTrue V.kind.is_fitting }
-    requires room { vec_len node.old + length entries.now * V.kind.size ≤ vec_capacity node.old }
-    ensures items { node.new.items ≡ node.old.items ++ flat_map (λ x. V.own x.1.now) entries.now }
-    ensures len { vec_len node.new ≡ vec_len node.old + length entries.now * V.kind.size }
+/// Appends the values of entries, resolved from `pos` on. Their resolvers are used up.
+fn append_values<V: Archive, M, A: Allocator>(
+    node: &mut Vec<u8, A>,
+    entries: &[(&M, &V)],
+    resolvers: &mut VecDeque<V::Resolver, A>,
+    pos: u32,
+) -> Result<(), ResolveFault>
+    requires fitting { IsTrue V.Archived.kind.is_fitting }
+    requires count { length resolvers.old.items ≡ length entries.now }
+    requires room { vec_len node.old + length entries.now * V.Archived.kind.size ≤ vec_capacity node.old }
+    requires end { pos + length entries.now * V.Archived.kind.size ≤ 4294967295 }
+    ensures ok { OnOk result ((owns : List (List ℕ)) × AreResolved V.archival pos (map (λ x. x.1.now) entries.now) resolvers.old.items owns × (node.new.items ≡ node.old.items ++ flat_map (λ own. own) owns)) }
+    ensures len { OnOk result (vec_len node.new ≡ vec_len node.old + length entries.now * V.Archived.kind.size) }
+    ensures spent { OnOk result (resolvers.new.items ≡ []) }
+    ensures err { IfErr result (AreUnresolved V.archival pos (map (λ x. x.1.now) entries.now) resolvers.old.items) }
+    ensures kept { deque_capacity resolvers.old ≤ deque_capacity resolvers.new }
     ensures capacity { vec_capacity node.old ≤ vec_capacity node.new }
 {
+    let mut at = pos;
     for entry in entries {
-        append_value::<V, A>(node, *entry.1);
+        let resolver = resolvers.pop_front().unwrap();
+        match append_value(node, entry.1, resolver, at) {
+            Ok(()) => {}
+            Err(fault) => return Err(fault),
+        }
+        at += V::Archived::size();
     }
+    Ok(())
 }
 
-/// Puts a node's kind and entries in place of what `node` held.
-fn fill_entries<K: InPlace, V: InPlace, A: Allocator, const E: usize>(
+/// Puts a node's kind and entries in place of what `node` held. The node stands at `pos`.
+#[allow(clippy::too_many_arguments)]
+fn fill_entries<KU, VU, K, V, A, const E: usize>(
     node: &mut Vec<u8, A>,
     kind: u8,
-    entries: &[(&K::Native, &V::Native)],
-)
+    pos: u32,
+    entries: &[(&KU, &VU)],
+    keys: &mut VecDeque<KU::Resolver, A>,
+    values: &mut VecDeque<VU::Resolver, A>,
+) -> Result<(), ResolveFault>
+where
+    KU: Archive<Archived = K>,
+    VU: Archive<Archived = V>,
+    K: Portable,
+    V: Portable,
+    A: Allocator,
     requires fitting { IsTrue (are_fitting K.kind V.kind E) }
     requires count { length entries.now ≤ E }
+    requires keys { length keys.old.items ≡ length entries.now }
+    requires values { length values.old.items ≡ length entries.now }
+    requires end { pos + leaf_size (shape K.kind V.kind E) ≤ 4294967295 }
     requires room { leaf_size (shape K.kind V.kind E) ≤ vec_capacity node.old }
-    ensures items { node.new.items ≡ entry_bytes (shape K.kind V.kind E) kind (map (own_of K.own V.own) entries.now) }
-    ensures len { vec_len node.new ≡ values_at (shape K.kind V.kind E) + length entries.now * V.kind.size }
+    ensures ok { OnOk result ((owns : List OwnBytes) × EntriesResolved (shape K.kind V.kind E) KU.archival VU.archival pos (map now_of entries.now) keys.old.items values.old.items owns × (node.new.items ≡ entry_bytes (shape K.kind V.kind E) kind owns)) }
+    ensures len { OnOk result (vec_len node.new ≡ values_at (shape K.kind V.kind E) + length entries.now * V.kind.size) }
+    ensures spent { OnOk result ((keys.new.items ≡ []) × (values.new.items ≡ [])) }
+    ensures key_room { deque_capacity keys.old ≤ deque_capacity keys.new }
+    ensures value_room { deque_capacity values.old ≤ deque_capacity values.new }
+    ensures err { IfErr result (EntriesUnresolved (shape K.kind V.kind E) KU.archival VU.archival pos (map now_of entries.now) keys.old.items values.old.items) }
     ensures capacity { vec_capacity node.old ≤ vec_capacity node.new }
 {
     node.clear();
     append(node, &[kind]);
     fill_up(node, layout::key_at::<K, V, E>(0) as usize);
-    append_keys::<K, V::Native, A>(node, entries);
+    match append_keys(node, entries, keys, pos + layout::key_at::<K, V, E>(0)) {
+        Ok(()) => {}
+        Err(fault) => return Err(fault),
+    }
     fill_up(node, layout::value_at::<K, V, E>(0) as usize);
-    append_values::<V, K::Native, A>(node, entries);
-}
-
-/// Puts a leaf in place of what `node` held.
-pub(crate) fn fill_leaf<K: InPlace, V: InPlace, A: Allocator, const E: usize>(
-    node: &mut Vec<u8, A>,
-    entries: &[(&K::Native, &V::Native)],
-)
-    requires fitting { IsTrue (are_fitting K.kind V.kind E) }
-    requires count { length entries.now ≤ E }
-    requires room { leaf_size (shape K.kind V.kind E) ≤ vec_capacity node.old }
-    ensures items { node.new.items ≡ leaf_bytes (shape K.kind V.kind E) (map (own_of K.own V.own) entries.now) }
-    ensures len { vec_len node.new ≡ leaf_size (shape K.kind V.kind E) }
-    ensures capacity { vec_capacity node.old ≤ vec_capacity node.new }
-{
-    fill_entries::<K, V, A, E>(node, 0, entries);
-    fill_up(node, layout::len_at::<K, V, E>() as usize);
-    append(node, &(entries.len() as u32).to_le_bytes());
-    fill_up(node, layout::leaf_size::<K, V, E>() as usize);
+    append_values(node, entries, values, pos + layout::value_at::<K, V, E>(0))
 }
 
 /// Appends a pointer that stands at `pos` to a child, if it reaches the child.
@@ -145,32 +194,86 @@ fn append_pointers<A: Allocator>(node: &mut Vec<u8, A>, pos: u32, children: &[Op
     true
 }
 
-/// Puts an inner node that stands at `pos` in place of what `node` held, if each of its pointers reaches its child.
-pub(crate) fn fill_inner<K: InPlace, V: InPlace, A: Allocator, const E: usize>(
+/// Puts a leaf that stands at `pos` in place of what `node` held.
+pub(crate) fn fill_leaf<KU, VU, K, V, A, const E: usize>(
     node: &mut Vec<u8, A>,
     pos: u32,
-    entries: &[(&K::Native, &V::Native)],
+    entries: &[(&KU, &VU)],
+    keys: &mut VecDeque<KU::Resolver, A>,
+    values: &mut VecDeque<VU::Resolver, A>,
+) -> Result<(), ResolveFault>
+where
+    KU: Archive<Archived = K>,
+    VU: Archive<Archived = V>,
+    K: Portable,
+    V: Portable,
+    A: Allocator,
+    requires fitting { IsTrue (are_fitting K.kind V.kind E) }
+    requires count { length entries.now ≤ E }
+    requires keys { length keys.old.items ≡ length entries.now }
+    requires values { length values.old.items ≡ length entries.now }
+    requires end { pos + leaf_size (shape K.kind V.kind E) ≤ 4294967295 }
+    requires room { leaf_size (shape K.kind V.kind E) ≤ vec_capacity node.old }
+    ensures ok { OnOk result ((owns : List OwnBytes) × EntriesResolved (shape K.kind V.kind E) KU.archival VU.archival pos (map now_of entries.now) keys.old.items values.old.items owns × (node.new.items ≡ leaf_bytes (shape K.kind V.kind E) owns)) }
+    ensures len { OnOk result (vec_len node.new ≡ leaf_size (shape K.kind V.kind E)) }
+    ensures spent { OnOk result ((keys.new.items ≡ []) × (values.new.items ≡ [])) }
+    ensures key_room { deque_capacity keys.old ≤ deque_capacity keys.new }
+    ensures value_room { deque_capacity values.old ≤ deque_capacity values.new }
+    ensures err { IfErr result (EntriesUnresolved (shape K.kind V.kind E) KU.archival VU.archival pos (map now_of entries.now) keys.old.items values.old.items) }
+    ensures capacity { vec_capacity node.old ≤ vec_capacity node.new }
+{
+    match fill_entries::<KU, VU, K, V, A, E>(node, 0, pos, entries, keys, values) {
+        Ok(()) => {}
+        Err(fault) => return Err(fault),
+    }
+    fill_up(node, layout::len_at::<K, V, E>() as usize);
+    append(node, &(entries.len() as u32).to_le_bytes());
+    fill_up(node, layout::leaf_size::<K, V, E>() as usize);
+    Ok(())
+}
+
+/// Puts an inner node that stands at `pos` in place of what `node` held, if each of its pointers reaches its child.
+pub(crate) fn fill_inner<KU, VU, K, V, A, const E: usize>(
+    node: &mut Vec<u8, A>,
+    pos: u32,
+    entries: &[(&KU, &VU)],
+    keys: &mut VecDeque<KU::Resolver, A>,
+    values: &mut VecDeque<VU::Resolver, A>,
     children: &[Option<u32>],
     last: Option<u32>,
-) -> bool
+) -> Result<(), ResolveFault>
+where
+    KU: Archive<Archived = K>,
+    VU: Archive<Archived = V>,
+    K: Portable,
+    V: Portable,
+    A: Allocator,
     requires fitting { IsTrue (are_fitting K.kind V.kind E) }
     requires entries { length entries.now ≡ E }
+    requires keys { length keys.old.items ≡ E }
+    requires values { length values.old.items ≡ E }
     requires children { length children.now ≡ E }
     requires end { pos + inner_size (shape K.kind V.kind E) ≤ 4294967295 }
     requires room { inner_size (shape K.kind V.kind E) ≤ vec_capacity node.old }
-    ensures reach { result ≡ pointers_reach (pos + len_at (shape K.kind V.kind E)) (children.now ++ last ∷ []) }
-    ensures items { result ≡ true → node.new.items ≡ inner_bytes (shape K.kind V.kind E) pos (map (own_of K.own V.own) entries.now) (children.now ++ last ∷ []) }
-    ensures len { result ≡ true → vec_len node.new ≡ inner_size (shape K.kind V.kind E) }
+    ensures ok { OnOk result ((owns : List OwnBytes) × EntriesResolved (shape K.kind V.kind E) KU.archival VU.archival pos (map now_of entries.now) keys.old.items values.old.items owns × (node.new.items ≡ inner_bytes (shape K.kind V.kind E) pos owns (children.now ++ last ∷ [])) × (pointers_reach (pos + len_at (shape K.kind V.kind E)) (children.now ++ last ∷ []) ≡ true)) }
+    ensures len { OnOk result (vec_len node.new ≡ inner_size (shape K.kind V.kind E)) }
+    ensures spent { OnOk result ((keys.new.items ≡ []) × (values.new.items ≡ [])) }
+    ensures key_room { deque_capacity keys.old ≤ deque_capacity keys.new }
+    ensures value_room { deque_capacity values.old ≤ deque_capacity values.new }
+    ensures err { IfErr result (InnerUnfilled (shape K.kind V.kind E) KU.archival VU.archival pos (map now_of entries.now) keys.old.items values.old.items (children.now ++ last ∷ [])) }
     ensures capacity { vec_capacity node.old ≤ vec_capacity node.new }
 {
-    fill_entries::<K, V, A, E>(node, 1, entries);
+    match fill_entries::<KU, VU, K, V, A, E>(node, 1, pos, entries, keys, values) {
+        Ok(()) => {}
+        Err(fault) => return Err(fault),
+    }
     fill_up(node, layout::lesser_at::<K, V, E>(0) as usize);
     if !append_pointers(node, pos + layout::lesser_at::<K, V, E>(0), children) {
-        return false;
+        return Err(ResolveFault::OffsetOverflow);
     }
     if !append_pointer(node, pos + layout::greater_at::<K, V, E>(), last) {
-        return false;
+        return Err(ResolveFault::OffsetOverflow);
     }
     fill_up(node, layout::inner_size::<K, V, E>() as usize);
-    true
+    Ok(())
 }

@@ -2,6 +2,7 @@
 ghost use Rattle.std.specs.Iterator.{YieldsFirstBy, item_count};
 ghost use Rattle.std.specs.Prelude.{◌≤◌, ◌<◌, ◌^◌};
 
+use crate::archive::{Archive, Serialize};
 use crate::build::BTreeMapResolver;
 use crate::bytes::{num32, target};
 use crate::check::{CheckBytes, InPlace, Portable, Window};
@@ -15,7 +16,9 @@ use crate::scalars::{ArchivedChar, ArchivedNonZeroU32};
 use crate::signed::{ArchivedI16, ArchivedI32, ArchivedI64};
 use crate::text::ArchivedText;
 use crate::util::{Entry, EntryAdapter, EntryResolver, value_offset};
+use crate::verify::verify;
 use std::alloc::{AllocError, Global};
+use std::marker::PhantomData;
 use std::num::NonZeroU32;
 use std::process::Abort;
 use std::test::Fail;
@@ -109,6 +112,39 @@ fn the_length_stands_behind_the_padding_of_the_values(rt: HostRuntime) -> Result
         0, 0, 0xE0, 0xFF, 0xFF, 0xFF, 1, 0, 0, 0,
     ];
     assert_eq!(rt; writer.bytes(), want.as_slice());
+    Ok(())
+}
+
+#[test]
+fn keys_other_than_0_are_archived_as_numbers(rt: HostRuntime) -> Result<(), Fail> {
+    type Map = ArchivedBTreeMap<ArchivedNonZeroU32, ArchivedU32, 5>;
+    assert!(rt; layout::fits::<ArchivedNonZeroU32, ArchivedU32, 5>());
+    let mut writer = VecWriter::new(rt.alloc());
+    let seven = NonZeroU32::new(7).ok_or("7 is 0")?;
+    let entries = [(seven, 11u32)];
+    let items = entries.iter().map(|entry| (&entry.0, &entry.1));
+    let root = Map::serialize_from_ordered_iter(rt.alloc(), 1, items, &mut writer)?;
+    assert_eq!(rt; Map::write_root(1, root, &mut writer)?, 48);
+    assert_eq!(rt; writer.bytes(), one_entry().as_slice());
+    Ok(())
+}
+
+#[test]
+fn characters_and_nothing_are_archived(rt: HostRuntime) -> Result<(), Fail> {
+    type Map = ArchivedBTreeMap<ArchivedChar, (), 2>;
+    assert!(rt; layout::fits::<ArchivedChar, (), 2>());
+    let mut writer = VecWriter::new(rt.alloc());
+    let entries = [('a', ()), ('\u{10FFFF}', ())];
+    let items = entries.iter().map(|entry| (&entry.0, &entry.1));
+    let root = Map::serialize_from_ordered_iter(rt.alloc(), 2, items, &mut writer)?;
+    let pos = Map::write_root(2, root, &mut writer)?;
+    let want = [
+        0, 0, 0, 0, 97, 0, 0, 0, 0xFF, 0xFF, 0x10, 0, 2, 0, 0, 0, // leaf
+        0xF0, 0xFF, 0xFF, 0xFF, 2, 0, 0, 0, // map
+    ];
+    assert_eq!(rt; pos, 16);
+    assert_eq!(rt; writer.bytes(), want.as_slice());
+    assert!(rt; Map::check(writer.bytes(), pos, Window { lo: 0, hi: pos }).is_ok());
     Ok(())
 }
 
@@ -490,7 +526,7 @@ fn no_write_ends_past_the_last_position(rt: HostRuntime) -> Result<(), Fail> {
 /// The resolver of a leaf at position 0.
 fn resolver(rt: &impl Abort, alloc: Global) -> Result<BTreeMapResolver, Fault<AllocError>> {
     assert!(rt; layout::fits::<ArchivedU32, ArchivedU32, 5>());
-    let entry = [(7, 11)];
+    let entry = [(7u32, 11u32)];
     let items = entry.iter().map(|entry| (&entry.0, &entry.1));
     Numbers::serialize_from_ordered_iter(alloc, 1, items, &mut VecWriter::new(alloc))
 }
@@ -685,7 +721,7 @@ fn the_value_has_the_window_that_the_key_leaves(rt: HostRuntime) {
 fn entries_compare_key_first(rt: HostRuntime) {
     let entry = |key: u8, value: u8| Entry { key, value };
     assert!(rt; entry(1, 9) < entry(2, 0));
-    assert!(rt; entry(1, 1) < entry(1, 2));
+    assert!(rt; entry(1, 2) < entry(1, 3));
     assert!(rt; entry(1, 1) == entry(1, 1));
     assert!(rt; entry(1, 1) != entry(2, 1));
     assert!(rt; entry(1, 1) != entry(1, 2));
@@ -706,6 +742,76 @@ fn parts_of_entries_have_names(rt: HostRuntime) -> Result<(), Fail> {
     assert_eq!(rt; (*adapter.key, *adapter.value), (1, true));
     let resolver = EntryResolver { key, value };
     assert_eq!(rt; (resolver.key, resolver.value), (1, true));
+    let told = format!(in rt.alloc(); "{resolver:?}")?;
+    assert_eq!(rt; told.as_str(), "EntryResolver { key: 1, value: true }");
+    Ok(())
+}
+
+#[test]
+fn an_entry_is_its_key_then_its_value(rt: HostRuntime) -> Result<(), Fail> {
+    let (key, value) = (1u8, 513u16);
+    let entry = EntryAdapter::new(&key, &value);
+    let mut writer = VecWriter::new(rt.alloc());
+    let resolver = entry
+        .serialize(rt.alloc(), &mut writer)
+        .expect(&rt, "numbers are always serialised");
+    assert!(rt; writer.bytes().is_empty());
+    assert!(rt; Entry::<u8, ArchivedU16>::fits());
+    assert_eq!(rt; Entry::<u8, ArchivedU16>::size(), 4);
+    let mut bytes = [0xFF; 4];
+    let out = Place {
+        pos: 0,
+        bytes: &mut bytes,
+        of: PhantomData,
+    };
+    assert!(rt; entry.resolve(resolver, out).is_ok());
+    assert_eq!(rt; bytes, [1, 0, 1, 2]);
+    Ok(())
+}
+
+type Nested = Entry<Entry<u8, ArchivedU16>, bool>;
+
+#[test]
+fn an_entry_of_an_entry_is_padded_behind_both(rt: HostRuntime) -> Result<(), Fail> {
+    let (key, value, flag) = (1u8, 513u16, true);
+    let inner = EntryAdapter::new(&key, &value);
+    let entry = EntryAdapter::new(&inner, &flag);
+    let mut writer = VecWriter::new(rt.alloc());
+    let resolver = entry
+        .serialize(rt.alloc(), &mut writer)
+        .expect(&rt, "numbers are always serialised");
+    assert!(rt; Nested::fits());
+    assert_eq!(rt; Nested::size(), 6);
+    let mut bytes = [0xFF; 6];
+    let out = Place {
+        pos: 4294967288,
+        bytes: &mut bytes,
+        of: PhantomData,
+    };
+    assert!(rt; entry.resolve(resolver, out).is_ok());
+    assert_eq!(rt; bytes, [1, 0, 1, 2, 1, 0]);
+    Ok(())
+}
+
+type Entries = ArchivedBTreeMap<ArchivedU32, Entry<u8, ArchivedU16>, 1>;
+
+#[test]
+fn entries_are_values_of_a_map(rt: HostRuntime) -> Result<(), Fail> {
+    let (key, value) = (1u8, 513u16);
+    let items = [(7u32, EntryAdapter::new(&key, &value))];
+    let mut writer = VecWriter::new(rt.alloc());
+    assert!(rt; layout::fits::<ArchivedU32, Entry<u8, ArchivedU16>, 1>());
+    let root = Entries::serialize_from_ordered_iter(
+        rt.alloc(),
+        1,
+        items.iter().map(|item| (&item.0, &item.1)),
+        &mut writer,
+    )?;
+    assert_eq!(rt; Entries::write_root(1, root, &mut writer)?, 16);
+    let want = [
+        0, 0, 0, 0, 7, 0, 0, 0, 1, 0, 1, 2, 1, 0, 0, 0, 0xF0, 0xFF, 0xFF, 0xFF, 1, 0, 0, 0,
+    ];
+    assert_eq!(rt; writer.bytes(), want.as_slice());
     Ok(())
 }
 
@@ -890,7 +996,7 @@ fn a_failing_writer_is_named(rt: HostRuntime) -> Result<(), Fail> {
         bytes: [1, 2].to_vec(rt.alloc())?,
         failures: 0,
     };
-    let entry = [(7, 11)];
+    let entry = [(7u32, 11u32)];
     let items = entry.iter().map(|entry| (&entry.0, &entry.1));
     let refused = Numbers::serialize_from_ordered_iter(rt.alloc(), 1, items, &mut writer);
     assert!(rt; matches!(refused, Err(Fault::Writer(_))));
@@ -900,5 +1006,178 @@ fn a_failing_writer_is_named(rt: HostRuntime) -> Result<(), Fail> {
     let Failing { bytes, failures } = writer;
     assert_eq!(rt; failures, 2);
     assert_eq!(rt; bytes.as_slice(), [1, 2, 0, 0].as_slice());
+    Ok(())
+}
+
+/// Each text with its value.
+fn with_texts<V: Copy + Drop>(
+    alloc: Global,
+    entries: &[(&str, V)],
+) -> Result<Vec<(String, V)>, AllocError> {
+    let mut owned = Vec::new(alloc);
+    for (text, value) in entries {
+        owned.push((String::from_str(alloc, text)?, *value))?;
+    }
+    Ok(owned)
+}
+
+/// Writes the tree and the root of a map of texts, and answers where the root stands.
+fn archive_texts<VU, V, const E: usize>(
+    rt: &impl Abort,
+    alloc: Global,
+    entries: &[(String, VU)],
+    writer: &mut VecWriter,
+) -> Result<u32, Fault<AllocError>>
+where
+    VU: Archive<Archived = V> + Serialize<VecWriter, Global>,
+    V: Portable,
+{
+    assert!(rt; layout::fits::<ArchivedText, V, E>());
+    let root = ArchivedBTreeMap::<ArchivedText, V, E>::serialize_from_ordered_iter(
+        alloc,
+        entries.len(),
+        entries.iter().map(|entry| (&entry.0, &entry.1)),
+        writer,
+    )?;
+    ArchivedBTreeMap::<ArchivedText, V, E>::write_root(entries.len(), root, writer)
+}
+
+#[test]
+fn texts_stand_before_their_node(rt: HostRuntime) -> Result<(), Fail> {
+    let empty = [("", 5u32)];
+    let mut writer = VecWriter::new(rt.alloc());
+    let entries = with_texts(rt.alloc(), &empty)?;
+    let root = archive_texts::<u32, ArchivedU32, 1>(&rt, rt.alloc(), &entries, &mut writer)?;
+    assert_eq!(rt; root, 20);
+    let want = [
+        0, 0, 0, 0, // kind
+        0xFC, 0xFF, 0xFF, 0xFF, 0, 0, 0, 0, // key
+        5, 0, 0, 0, // value
+        1, 0, 0, 0, // length
+        0xEC, 0xFF, 0xFF, 0xFF, 1, 0, 0, 0, // root
+    ];
+    assert_eq!(rt; writer.bytes(), want.as_slice());
+    Ok(())
+}
+
+#[test]
+fn texts_of_an_inner_node_stand_behind_its_children(rt: HostRuntime) -> Result<(), Fail> {
+    let two = [("a", 1u32), ("bc", 2)];
+    let mut writer = VecWriter::new(rt.alloc());
+    let entries = with_texts(rt.alloc(), &two)?;
+    let root = archive_texts::<u32, ArchivedU32, 1>(&rt, rt.alloc(), &entries, &mut writer)?;
+    assert_eq!(rt; root, 52);
+    let want = [
+        97, 0, 0, 0, // a
+        0, 0, 0, 0, 0xF8, 0xFF, 0xFF, 0xFF, 1, 0, 0, 0, 1, 0, 0, 0, 1, 0, 0, 0, // leaf
+        98, 99, 0, 0, // bc
+        1, 0, 0, 0, 0xF8, 0xFF, 0xFF, 0xFF, 2, 0, 0, 0, 2, 0, 0, 0, // inner node
+        0xD8, 0xFF, 0xFF, 0xFF, 1, 0, 0, 0, // pointers
+        0xE8, 0xFF, 0xFF, 0xFF, 2, 0, 0, 0, // root
+    ];
+    assert_eq!(rt; writer.bytes(), want.as_slice());
+    Ok(())
+}
+
+#[test]
+fn texts_of_a_leaf_stand_one_behind_another(rt: HostRuntime) -> Result<(), Fail> {
+    let four = [("bar", 20i32), ("bat", 80), ("baz", 40), ("foo", 10)];
+    let mut writer = VecWriter::new(rt.alloc());
+    let entries = with_texts(rt.alloc(), &four)?;
+    let root = archive_texts::<i32, ArchivedI32, 5>(&rt, rt.alloc(), &entries, &mut writer)?;
+    assert_eq!(rt; root, 80);
+    let want = [
+        b'b', b'a', b'r', b'b', b'a', b't', b'b', b'a', b'z', b'f', b'o', b'o', // texts
+        0, 0, 0, 0, // kind
+        0xF0, 0xFF, 0xFF, 0xFF, 3, 0, 0, 0, // bar
+        0xEB, 0xFF, 0xFF, 0xFF, 3, 0, 0, 0, // bat
+        0xE6, 0xFF, 0xFF, 0xFF, 3, 0, 0, 0, // baz
+        0xE1, 0xFF, 0xFF, 0xFF, 3, 0, 0, 0, // foo
+        0, 0, 0, 0, 0, 0, 0, 0, // no key
+        20, 0, 0, 0, 80, 0, 0, 0, 40, 0, 0, 0, 10, 0, 0, 0, 0, 0, 0, 0, // values
+        4, 0, 0, 0, // length
+        0xBC, 0xFF, 0xFF, 0xFF, 4, 0, 0, 0, // root
+    ];
+    assert_eq!(rt; writer.bytes(), want.as_slice());
+    Ok(())
+}
+
+#[test]
+fn written_texts_are_accepted(rt: HostRuntime) -> Result<(), Fail> {
+    let mut long = String::new(rt.alloc());
+    for _ in 0..7000 {
+        long.push_str("ten bytes.")?;
+    }
+    let texts = [
+        ("", 1u32),
+        ("a", 2),
+        ("\u{E9}", 3),
+        ("\u{20AC}", 4),
+        ("a\u{1F600}", 5),
+        (long.as_str(), 6),
+        ("", 7),
+    ];
+    let entries = with_texts(rt.alloc(), &texts)?;
+    assert!(rt; layout::fits::<ArchivedText, ArchivedU32, 2>());
+    for count in 0..=entries.len() {
+        let mut writer = VecWriter::new(rt.alloc());
+        let some = &entries[..count];
+        let hi = archive_texts::<u32, ArchivedU32, 2>(&rt, rt.alloc(), some, &mut writer)?;
+        let left = verify::<ArchivedText, ArchivedU32, 2>(writer.bytes(), hi, Window { lo: 0, hi });
+        assert_eq!(rt; left, Ok(Window { lo: hi, hi }));
+    }
+    Ok(())
+}
+
+#[test]
+fn texts_start_and_end_at_a_position(rt: HostRuntime) -> Result<(), Fail> {
+    let rows = [
+        (4294967295, "", Some(4294967295), 0),
+        (4294967294, "a", Some(4294967294), 1),
+        (4294967292, "abc", Some(4294967292), 3),
+        (4294967295, "a", None, 0),
+        (4294967293, "abc", None, 0),
+        (4294967296, "", None, 0),
+        (4294967296, "a", None, 0),
+    ];
+    for (base, text, answer, count) in rows {
+        let text = String::from_str(rt.alloc(), text)?;
+        let mut writer = VecWriter::with_base(rt.alloc(), base);
+        match text.serialize(rt.alloc(), &mut writer) {
+            Ok(start) => assert_eq!(rt; Some(start), answer),
+            Err(Fault::PositionOverflow) => assert_eq!(rt; None, answer),
+            Err(_) => assert!(rt; false),
+        }
+        assert_eq!(rt; writer.bytes().len(), count);
+    }
+    Ok(())
+}
+
+#[test]
+fn a_text_too_far_is_refused(rt: HostRuntime) -> Result<(), Fail> {
+    let text = String::from_str(rt.alloc(), "abc")?;
+    let mut bytes = [9; 8];
+    let near = text.resolve(0, Place::new(2147483648, &mut bytes));
+    assert_eq!(rt; near, Ok(()));
+    assert_eq!(rt; bytes, [0, 0, 0, 0x80, 3, 0, 0, 0]);
+    let far = text.resolve(0, Place::new(2147483652, &mut bytes));
+    assert_eq!(rt; far, Err(ResolveFault::OffsetOverflow));
+    Ok(())
+}
+
+#[test]
+fn the_empty_text_makes_no_write(rt: HostRuntime) -> Result<(), Fail> {
+    let mut writer = Failing {
+        bytes: [1, 2].to_vec(rt.alloc())?,
+        failures: 0,
+    };
+    let empty = String::new(rt.alloc());
+    assert!(rt; matches!(empty.serialize(rt.alloc(), &mut writer), Ok(2)));
+    assert_eq!(rt; writer.failures, 0);
+    let text = String::from_str(rt.alloc(), "abc")?;
+    let refused = text.serialize(rt.alloc(), &mut writer);
+    assert!(rt; matches!(refused, Err(Fault::Writer(_))));
+    assert_eq!(rt; writer.failures, 1);
+    assert_eq!(rt; writer.bytes.as_slice(), [1, 2, b'a'].as_slice());
     Ok(())
 }

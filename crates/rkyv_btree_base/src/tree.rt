@@ -1,17 +1,20 @@
 //! Writing a tree by plain recursion over the sizes of its subtrees.
-ghost use Rattle.std.specs.Prelude.{◌≡◌, ℕ, ◌+◌, ◌*◌, ◌-◌, ◌^◌, ◌≤◌, ◌<◌, [], ◌∷◌, ◌++◌, length, map, vec_len, vec_capacity, OnOk, IfOk, IfErr, IsTrue};
-ghost use Rattle.rkyv_btree_base.specs.Image.{child_image};
+ghost use Rattle.std.specs.Prelude.{◌≡◌, ◌+◌, ◌*◌, ◌-◌, ◌^◌, ◌≤◌, ◌<◌, [], ◌∷◌, ◌++◌, length, map, vec_len, vec_capacity, OnOk, IfOk, IfErr, IsTrue};
+ghost use Rattle.std.specs.VecDeque.{deque_capacity};
 ghost use Rattle.rkyv_btree_base.specs.Layout.{shape, are_fitting, inner_size};
 ghost use Rattle.rkyv_btree_base.specs.Logarithm.{ilog};
-ghost use Rattle.rkyv_btree_base.specs.Serialising.{own_of, built, ChildWritten};
-ghost use Rattle.rkyv_btree_base.specs.Writing.{position, Stopped, last_end};
+ghost use Rattle.rkyv_btree_base.specs.Plan.{planned_alone};
+ghost use Rattle.rkyv_btree_base.specs.Writing.{position, last_end};
+ghost use Rattle.rkyv_btree_base.specs.Written.{ChildWritten, ChildStopped, now_of};
 
-use crate::check::{InPlace, Portable};
+use crate::archive::{Archive, Serialize};
+use crate::check::Portable;
 use crate::fault::Fault;
 use crate::layout;
 use crate::place::Writer;
 use crate::writes::{write_inner, write_leaf};
 use std::alloc::Allocator;
+use std::collections::VecDeque;
 
 /// Appends a value for which there is room.
 pub(crate) fn push<T: Drop, A: Allocator>(values: &mut Vec<T, A>, value: T)
@@ -24,7 +27,7 @@ pub(crate) fn push<T: Drop, A: Allocator>(values: &mut Vec<T, A>, value: T)
 }
 
 /// One more than the entries that each child of a tree's root has above the tree's last level.
-pub(crate) fn child_base<const E: usize>(entries: usize) -> usize
+fn child_base<const E: usize>(entries: usize) -> usize
     requires some { 1 ≤ E }
     requires small { E ≤ 1073741823 }
     requires more { E < entries }
@@ -37,44 +40,49 @@ pub(crate) fn child_base<const E: usize>(entries: usize) -> usize
     (E + 1).pow(layout::entries_to_height::<E>(entries as u64) - 2)
 }
 
-/// Writes the tree of these entries, and answers where its root node stands; nothing for no entries. `node` has room
-/// for each node, and `entries` and `children` for what waits on each level until a node's children are written.
-pub(crate) fn write_child<'x, K, V, W, A, const E: usize>(
+/// Writes the tree of these entries with what they write, and answers where its root node stands; nothing for no
+/// entries. `node` has room for each node, `keys` and `values` for the resolvers of one, and `waiting` and `children`
+/// for what waits on each level until a node's children are written.
+pub(crate) fn write_child<'x, KU, VU, K, V, W, A, const E: usize>(
+    alloc: A,
     node: &mut Vec<u8, A>,
-    entries: &mut Vec<(&'x K::Native, &'x V::Native), A>,
+    keys: &mut VecDeque<KU::Resolver, A>,
+    values: &mut VecDeque<VU::Resolver, A>,
+    waiting: &mut Vec<(&'x KU, &'x VU), A>,
     children: &mut Vec<Option<u32>, A>,
-    items: &[(&'x K::Native, &'x V::Native)],
+    items: &[(&'x KU, &'x VU)],
     writer: &mut W,
 ) -> Result<Option<u32>, Fault<W::Error>>
 where
-    K: InPlace,
-    V: InPlace,
+    KU: Archive<Archived = K> + Serialize<W, A> + 'x,
+    VU: Archive<Archived = V> + Serialize<W, A> + 'x,
+    K: Portable,
+    V: Portable,
     W: Writer,
-    A: Allocator,
-    K::Native: 'x,
-    V::Native: 'x,
+    A: Allocator + Copy,
     requires fitting { IsTrue (are_fitting K.kind V.kind E) }
     requires count { length items.now ≤ 4294967295 }
+    requires no_keys { keys.old.items ≡ [] }
+    requires no_values { values.old.items ≡ [] }
+    requires key_room { E ≤ deque_capacity keys.old }
+    requires value_room { E ≤ deque_capacity values.old }
     requires node_room { inner_size (shape K.kind V.kind E) ≤ vec_capacity node.old }
-    requires entry_room { vec_len entries.old + E * ilog (E + 1) (length items.now) ≤ vec_capacity entries.old }
+    requires waiting_room { vec_len waiting.old + E * ilog (E + 1) (length items.now) ≤ vec_capacity waiting.old }
     requires child_room { vec_len children.old + E * ilog (E + 1) (length items.now) ≤ vec_capacity children.old }
-    ensures ok { IfOk result (λ root. ChildWritten (shape K.kind V.kind E) (W.state writer.old) (built (shape K.kind V.kind E) (map (own_of K.own V.own) items.now)) root (W.state writer.new)) }
-    ensures err { IfErr result (λ fault. Stopped (W.state writer.old) (child_image (shape K.kind V.kind E) (position (W.state writer.old)) (built (shape K.kind V.kind E) (map (own_of K.own V.own) items.now))) fault (W.state writer.new)) }
+    ensures ok { IfOk result (λ root. ChildWritten (shape K.kind V.kind E) KU.archival VU.archival (W.state writer.old) (planned_alone E (map now_of items.now)) root (W.state writer.new)) }
+    ensures err { IfErr result (λ fault. ChildStopped (shape K.kind V.kind E) KU.archival VU.archival (W.state writer.old) (planned_alone E (map now_of items.now)) fault (W.state writer.new)) }
     ensures last { OnOk result (0 < length items.now → position (W.state writer.new) ≤ last_end) }
-    ensures entries { OnOk result (entries.new.items ≡ entries.old.items) }
-    ensures children { OnOk result (children.new.items ≡ children.old.items) }
-    ensures node_room { vec_capacity node.old ≤ vec_capacity node.new }
-    ensures entry_room { vec_capacity entries.old ≤ vec_capacity entries.new }
-    ensures child_room { vec_capacity children.old ≤ vec_capacity children.new }
+    ensures kept { OnOk result ((keys.new.items ≡ []) × (values.new.items ≡ []) × (waiting.new.items ≡ waiting.old.items) × (children.new.items ≡ children.old.items)) }
+    ensures room { (vec_capacity node.old ≤ vec_capacity node.new) × (deque_capacity keys.old ≤ deque_capacity keys.new) × (deque_capacity values.old ≤ deque_capacity values.new) × (vec_capacity waiting.old ≤ vec_capacity waiting.new) × (vec_capacity children.old ≤ vec_capacity children.new) }
 {
     if items.is_empty() {
         return Ok(None);
     }
     if items.len() <= E {
-        let root = write_leaf::<K, V, W, A, E>(node, items, writer)?;
+        let root = write_leaf::<KU, VU, K, V, W, A, E>(alloc, node, keys, values, items, writer)?;
         return Ok(Some(root));
     }
-    let first = entries.len();
+    let first = waiting.len();
     let first_child = children.len();
     let base = child_base::<E>(items.len());
     let mut on_last = items.len() + 1 - base * (E + 1);
@@ -83,28 +91,43 @@ where
     while left > 0 {
         let taken = on_last.min(E * base);
         let end = start + (base - 1 + taken);
-        let child = write_child::<K, V, W, A, E>(
+        let child = write_child::<KU, VU, K, V, W, A, E>(
+            alloc,
             node,
-            entries,
+            keys,
+            values,
+            waiting,
             children,
             &items[start..end],
             writer,
         )?;
         push(children, child);
-        push(entries, items[end]);
+        push(waiting, items[end]);
         start = end + 1;
         on_last -= taken;
         left -= 1;
     }
-    let last = write_child::<K, V, W, A, E>(node, entries, children, &items[start..], writer)?;
-    let root = write_inner::<K, V, W, A, E>(
+    let last = write_child::<KU, VU, K, V, W, A, E>(
+        alloc,
         node,
-        &entries[first..],
+        keys,
+        values,
+        waiting,
+        children,
+        &items[start..],
+        writer,
+    )?;
+    let root = write_inner::<KU, VU, K, V, W, A, E>(
+        alloc,
+        node,
+        keys,
+        values,
+        &waiting[first..],
         &children[first_child..],
         last,
         writer,
     )?;
-    entries.truncate(first);
+    waiting.truncate(first);
     children.truncate(first_child);
     Ok(Some(root))
 }

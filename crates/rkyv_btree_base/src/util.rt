@@ -1,10 +1,16 @@
 //! A key with its value.
-ghost use Rattle.std.specs.Prelude.{◌≡◌, ◌+◌, ◌≤◌, ◌<◌, ◌^◌, IsTrue};
+ghost use Rattle.std.specs.Prelude.{◌≡◌, ◌+◌, ◌≤◌, ◌<◌, ◌^◌, length, IsTrue, OnOk, IfErr};
+ghost use Rattle.rkyv_btree_base.specs.Archiving.{IsUnresolved};
+ghost use Rattle.rkyv_btree_base.specs.EntryArchival.{EntryResolves, entry_archival};
 ghost use Rattle.rkyv_btree_base.specs.Entry.{value_offset, entry_size, entry_kind, RefusesEntry};
 ghost use Rattle.rkyv_btree_base.specs.laws.EntryLaws.{entry_laws, entry_refusals};
+ghost use Rattle.rkyv_btree_base.specs.laws.EntryArchived.{same_entry, entry_archived};
 
+use crate::archive::{Archive, Serialize, resolve_into};
 use crate::check::{CheckBytes, Portable, Window, check_part, check_place};
+use crate::fault::{Fault, ResolveFault};
 use crate::layout::round_up;
+use crate::place::{Place, Writer};
 use crate::refusal::Refusal;
 
 /// A key with its value, compared, ordered and hashed key first. As an archived type it is the key, then the value at the
@@ -16,13 +22,13 @@ pub struct Entry<K, V> {
 }
 
 /// The resolvers of a key and of its value.
-#[derive(Drop)]
+#[derive(Debug, Drop)]
 pub struct EntryResolver<K, V> {
     pub key: K,
     pub value: V,
 }
 
-/// A key with its value, by references.
+/// A key with its value, by references. It is archived as an `Entry`.
 #[derive_where(Clone, Copy)]
 pub struct EntryAdapter<'r, K, V> {
     pub key: &'r K,
@@ -99,4 +105,55 @@ impl<K: CheckBytes, V: CheckBytes> CheckBytes for Entry<K, V> {
     }
 
     ghost refusals = { λ _. entry_refusals K.kind V.kind K.laws V.laws };
+}
+
+impl<'r, KU: Archive, VU: Archive> Archive for EntryAdapter<'r, KU, VU> {
+    type Archived = Entry<KU::Archived, VU::Archived>;
+
+    type Resolver = EntryResolver<KU::Resolver, VU::Resolver>;
+
+    ghost archival = { entry_archival KU.archival VU.archival };
+
+    /// Resolves the key, and then the value. The bytes between and behind them become zero.
+    fn resolve(
+        &self,
+        resolver: EntryResolver<KU::Resolver, VU::Resolver>,
+        out: Place<'_, Entry<KU::Archived, VU::Archived>>,
+    ) -> Result<(), ResolveFault>
+        requires fitting { IsTrue (entry_kind KU.Archived.kind VU.Archived.kind).is_fitting }
+        requires size { length out.bytes.now ≡ entry_size KU.Archived.kind VU.Archived.kind }
+        requires end { out.pos + entry_size KU.Archived.kind VU.Archived.kind ≤ 4294967295 }
+        ensures ok { OnOk result (EntryResolves KU.archival VU.archival self.now resolver out.entry.pos out.exit.1.0.now) }
+        ensures err { IfErr result (IsUnresolved (entry_archival KU.archival VU.archival) self.now resolver out.entry.pos) }
+    {
+        let Place { pos, bytes, of: _ } = out;
+        let EntryResolver { key, value } = resolver;
+        let offset = value_offset::<KU::Archived, VU::Archived>();
+        bytes.fill(0);
+        let (front, back) = bytes.split_at_mut(offset as usize);
+        let front = &mut front[..KU::Archived::size() as usize];
+        let back = &mut back[..VU::Archived::size() as usize];
+        resolve_into(self.key, key, pos, front)?;
+        resolve_into(self.value, value, pos + offset, back)
+    }
+
+    ghost same_kind = { same_entry KU.archival.kind VU.archival.kind KU.Archived.kind VU.Archived.kind KU.same_kind VU.same_kind };
+
+    ghost lawful = { entry_laws KU.archival.kind VU.archival.kind KU.lawful VU.lawful };
+
+    ghost archived = { entry_archived KU.archival VU.archival KU.lawful VU.lawful KU.archived VU.archived };
+}
+
+impl<'r, W: Writer, A: Copy, KU: Serialize<W, A>, VU: Serialize<W, A>> Serialize<W, A>
+    for EntryAdapter<'r, KU, VU> {
+    /// Makes the key's writes, and then the value's. Where the value is refused, the key's are made.
+    fn serialize(
+        &self,
+        alloc: A,
+        writer: &mut W,
+    ) -> Result<EntryResolver<KU::Resolver, VU::Resolver>, Fault<W::Error>> {
+        let key = self.key.serialize(alloc, writer)?;
+        let value = self.value.serialize(alloc, writer)?;
+        Ok(EntryResolver { key, value })
+    }
 }

@@ -1,17 +1,22 @@
 //! The writes of zeros and of whole nodes.
-ghost use Rattle.std.specs.Prelude.{◌≡◌, ◌+◌, ◌<◌, ◌≤◌, [], ◌∷◌, ◌++◌, length, map, vec_capacity, OnOk, IfOk, IfErr, IsTrue};
+ghost use Rattle.std.specs.Prelude.{ℕ, List, ◌≡◌, ◌+◌, ◌<◌, ◌≤◌, [], ◌∷◌, ◌++◌, length, map, vec_capacity, OnOk, IfOk, IfErr, IsTrue};
+ghost use Rattle.std.specs.VecDeque.{deque_capacity};
 ghost use Rattle.rkyv_btree_base.specs.Image.{padding, leaf_image, inner_image};
-ghost use Rattle.rkyv_btree_base.specs.Layout.{shape, are_fitting, align, leaf_size, inner_size};
+ghost use Rattle.rkyv_btree_base.specs.InPlace.{OwnBytes};
+ghost use Rattle.rkyv_btree_base.specs.Layout.{shape, are_fitting, leaf_size, inner_size};
 ghost use Rattle.rkyv_btree_base.specs.Rounding.{round_up};
-ghost use Rattle.rkyv_btree_base.specs.Serialising.{own_of};
-ghost use Rattle.rkyv_btree_base.specs.Writing.{position, Appended, Wrote, Refused, Stopped, last_end};
+ghost use Rattle.rkyv_btree_base.specs.Writing.{Write, position, Appended, Wrote, Refused, Stopped, last_end};
+ghost use Rattle.rkyv_btree_base.specs.Written.{IsPadded, NodeWritten, NodeStopped, as_fault, now_of};
 
-use crate::check::{InPlace, Portable};
-use crate::fault::Fault;
+use crate::archive::{Archive, Serialize};
+use crate::check::Portable;
+use crate::entries::serialize_entries;
+use crate::fault::{Fault, ResolveFault};
 use crate::layout;
 use crate::node::{fill_inner, fill_leaf};
 use crate::place::Writer;
 use std::alloc::Allocator;
+use std::collections::VecDeque;
 
 /// No write ends past this position.
 pub(crate) const LAST_END: u64 = 4294967295;
@@ -53,63 +58,150 @@ pub(crate) fn pad<W: Writer>(writer: &mut W, align: u32) -> Result<u64, Fault<W:
     }
 }
 
-/// Writes a leaf of these entries, and answers its position. `node` has room for it.
-pub(crate) fn write_leaf<K: InPlace, V: InPlace, W: Writer, A: Allocator, const E: usize>(
-    node: &mut Vec<u8, A>,
-    entries: &[(&K::Native, &V::Native)],
+/// The fault of serialising that a fault of resolving is.
+fn fault_of<E>(fault: ResolveFault) -> Fault<E>
+    ensures { result ≡ as_fault fault }
+{
+    match fault {
+        ResolveFault::LengthOverflow => Fault::LengthOverflow,
+        ResolveFault::OffsetOverflow => Fault::OffsetOverflow,
+    }
+}
+
+/// Writes what the entries of a node of `size` bytes write, and the padding before the node, and answers the node's
+/// position, from which it ends at a position in 32 bits.
+fn begin_node<KU, VU, K, V, W, A, const E: usize>(
+    alloc: A,
+    size: u32,
+    entries: &[(&KU, &VU)],
+    keys: &mut VecDeque<KU::Resolver, A>,
+    values: &mut VecDeque<VU::Resolver, A>,
     writer: &mut W,
 ) -> Result<u32, Fault<W::Error>>
+where
+    KU: Archive<Archived = K> + Serialize<W, A>,
+    VU: Archive<Archived = V> + Serialize<W, A>,
+    K: Portable,
+    V: Portable,
+    W: Writer,
+    A: Allocator + Copy,
     requires fitting { IsTrue (are_fitting K.kind V.kind E) }
-    requires count { length entries.now ≤ E }
-    requires room { leaf_size (shape K.kind V.kind E) ≤ vec_capacity node.old }
-    ensures root { IfOk result (λ root. root ≡ round_up (position (W.state writer.old)) (align (shape K.kind V.kind E))) }
-    ensures ok { OnOk result (Wrote (W.state writer.old) (leaf_image (shape K.kind V.kind E) (position (W.state writer.old)) (map (own_of K.own V.own) entries.now)) (W.state writer.new)) }
-    ensures end { IfOk result (λ root. position (W.state writer.new) ≡ root + leaf_size (shape K.kind V.kind E)) }
-    ensures last { OnOk result (position (W.state writer.new) ≤ last_end) }
-    ensures err { IfErr result (λ fault. Stopped (W.state writer.old) (leaf_image (shape K.kind V.kind E) (position (W.state writer.old)) (map (own_of K.own V.own) entries.now)) fault (W.state writer.new)) }
-    ensures capacity { vec_capacity node.old ≤ vec_capacity node.new }
+    requires no_keys { keys.old.items ≡ [] }
+    requires no_values { values.old.items ≡ [] }
+    requires key_room { length entries.now ≤ deque_capacity keys.old }
+    requires value_room { length entries.now ≤ deque_capacity values.old }
+    ensures ok { OnOk result (IsPadded (shape K.kind V.kind E) KU.archival VU.archival (W.state writer.old) (map now_of entries.now) keys.new.items values.new.items (W.state writer.new)) }
+    ensures place { IfOk result (λ root. root ≡ position (W.state writer.new)) }
+    ensures end { IfOk result (λ root. root + size ≤ last_end) }
+    ensures err { IfErr result (λ fault. (image : ℕ → List OwnBytes → List Write) → NodeStopped (shape K.kind V.kind E) KU.archival VU.archival image size (W.state writer.old) (map now_of entries.now) fault (W.state writer.new)) }
+    ensures keys { OnOk result (length keys.new.items ≡ length entries.now) }
+    ensures values { OnOk result (length values.new.items ≡ length entries.now) }
+    ensures key_room { deque_capacity keys.old ≤ deque_capacity keys.new }
+    ensures value_room { deque_capacity values.old ≤ deque_capacity values.new }
 {
+    match serialize_entries(alloc, entries, keys, values, writer) {
+        Ok(()) => {}
+        Err(fault) => return Err(fault),
+    }
     let pos = match pad(writer, layout::align::<K, V, E>()) {
         Ok(pos) => pos,
         Err(fault) => return Err(fault),
     };
-    fill_leaf::<K, V, A, E>(node, entries);
+    if pos > LAST_END || u64::from(size) > LAST_END - pos {
+        return Err(Fault::PositionOverflow);
+    }
+    Ok(pos as u32)
+}
+
+/// Writes a leaf of these entries behind what they write, and answers its position.
+pub(crate) fn write_leaf<KU, VU, K, V, W, A, const E: usize>(
+    alloc: A,
+    node: &mut Vec<u8, A>,
+    keys: &mut VecDeque<KU::Resolver, A>,
+    values: &mut VecDeque<VU::Resolver, A>,
+    entries: &[(&KU, &VU)],
+    writer: &mut W,
+) -> Result<u32, Fault<W::Error>>
+where
+    KU: Archive<Archived = K> + Serialize<W, A>,
+    VU: Archive<Archived = V> + Serialize<W, A>,
+    K: Portable,
+    V: Portable,
+    W: Writer,
+    A: Allocator + Copy,
+    requires fitting { IsTrue (are_fitting K.kind V.kind E) }
+    requires count { length entries.now ≤ E }
+    requires no_keys { keys.old.items ≡ [] }
+    requires no_values { values.old.items ≡ [] }
+    requires key_room { E ≤ deque_capacity keys.old }
+    requires value_room { E ≤ deque_capacity values.old }
+    requires room { leaf_size (shape K.kind V.kind E) ≤ vec_capacity node.old }
+    ensures ok { IfOk result (λ root. NodeWritten (shape K.kind V.kind E) KU.archival VU.archival (leaf_image (shape K.kind V.kind E)) (leaf_size (shape K.kind V.kind E)) (W.state writer.old) (map now_of entries.now) root (W.state writer.new)) }
+    ensures last { OnOk result (position (W.state writer.new) ≤ last_end) }
+    ensures err { IfErr result (λ fault. NodeStopped (shape K.kind V.kind E) KU.archival VU.archival (leaf_image (shape K.kind V.kind E)) (leaf_size (shape K.kind V.kind E)) (W.state writer.old) (map now_of entries.now) fault (W.state writer.new)) }
+    ensures spent { OnOk result ((keys.new.items ≡ []) × (values.new.items ≡ [])) }
+    ensures room { (vec_capacity node.old ≤ vec_capacity node.new) × (deque_capacity keys.old ≤ deque_capacity keys.new) × (deque_capacity values.old ≤ deque_capacity values.new) }
+{
+    let size = layout::leaf_size::<K, V, E>();
+    let root = match begin_node::<KU, VU, K, V, W, A, E>(
+        alloc, size, entries, keys, values, writer,
+    ) {
+        Ok(root) => root,
+        Err(fault) => return Err(fault),
+    };
+    match fill_leaf::<KU, VU, K, V, A, E>(node, root, entries, keys, values) {
+        Ok(()) => {}
+        Err(fault) => return Err(fault_of(fault)),
+    }
     match put(writer, node.as_slice()) {
-        Ok(()) => Ok(pos as u32),
+        Ok(()) => Ok(root),
         Err(fault) => Err(fault),
     }
 }
 
-/// Writes an inner node over written children, and answers its position. `node` has room for it.
-pub(crate) fn write_inner<K: InPlace, V: InPlace, W: Writer, A: Allocator, const E: usize>(
+/// Writes an inner node of these entries over written children, behind what the entries write, and answers its
+/// position.
+pub(crate) fn write_inner<KU, VU, K, V, W, A, const E: usize>(
+    alloc: A,
     node: &mut Vec<u8, A>,
-    entries: &[(&K::Native, &V::Native)],
+    keys: &mut VecDeque<KU::Resolver, A>,
+    values: &mut VecDeque<VU::Resolver, A>,
+    entries: &[(&KU, &VU)],
     children: &[Option<u32>],
     last: Option<u32>,
     writer: &mut W,
 ) -> Result<u32, Fault<W::Error>>
+where
+    KU: Archive<Archived = K> + Serialize<W, A>,
+    VU: Archive<Archived = V> + Serialize<W, A>,
+    K: Portable,
+    V: Portable,
+    W: Writer,
+    A: Allocator + Copy,
     requires fitting { IsTrue (are_fitting K.kind V.kind E) }
     requires entries { length entries.now ≡ E }
     requires children { length children.now ≡ E }
+    requires no_keys { keys.old.items ≡ [] }
+    requires no_values { values.old.items ≡ [] }
+    requires key_room { E ≤ deque_capacity keys.old }
+    requires value_room { E ≤ deque_capacity values.old }
     requires room { inner_size (shape K.kind V.kind E) ≤ vec_capacity node.old }
-    ensures root { IfOk result (λ root. root ≡ round_up (position (W.state writer.old)) (align (shape K.kind V.kind E))) }
-    ensures ok { OnOk result (Wrote (W.state writer.old) (inner_image (shape K.kind V.kind E) (position (W.state writer.old)) (map (own_of K.own V.own) entries.now) (children.now ++ last ∷ [])) (W.state writer.new)) }
-    ensures end { IfOk result (λ root. position (W.state writer.new) ≡ root + inner_size (shape K.kind V.kind E)) }
+    ensures ok { IfOk result (λ root. NodeWritten (shape K.kind V.kind E) KU.archival VU.archival (λ at owns. inner_image (shape K.kind V.kind E) at owns (children.now ++ last ∷ [])) (inner_size (shape K.kind V.kind E)) (W.state writer.old) (map now_of entries.now) root (W.state writer.new)) }
     ensures last { OnOk result (position (W.state writer.new) ≤ last_end) }
-    ensures err { IfErr result (λ fault. Stopped (W.state writer.old) (inner_image (shape K.kind V.kind E) (position (W.state writer.old)) (map (own_of K.own V.own) entries.now) (children.now ++ last ∷ [])) fault (W.state writer.new)) }
-    ensures capacity { vec_capacity node.old ≤ vec_capacity node.new }
+    ensures err { IfErr result (λ fault. NodeStopped (shape K.kind V.kind E) KU.archival VU.archival (λ at owns. inner_image (shape K.kind V.kind E) at owns (children.now ++ last ∷ [])) (inner_size (shape K.kind V.kind E)) (W.state writer.old) (map now_of entries.now) fault (W.state writer.new)) }
+    ensures spent { OnOk result ((keys.new.items ≡ []) × (values.new.items ≡ [])) }
+    ensures room { (vec_capacity node.old ≤ vec_capacity node.new) × (deque_capacity keys.old ≤ deque_capacity keys.new) × (deque_capacity values.old ≤ deque_capacity values.new) }
 {
-    let pos = match pad(writer, layout::align::<K, V, E>()) {
-        Ok(pos) => pos,
+    let size = layout::inner_size::<K, V, E>();
+    let root = match begin_node::<KU, VU, K, V, W, A, E>(
+        alloc, size, entries, keys, values, writer,
+    ) {
+        Ok(root) => root,
         Err(fault) => return Err(fault),
     };
-    let size = u64::from(layout::inner_size::<K, V, E>());
-    if pos > LAST_END || size > LAST_END - pos {
-        return Err(Fault::PositionOverflow);
-    }
-    let root = pos as u32;
-    if !fill_inner::<K, V, A, E>(node, root, entries, children, last) {
-        return Err(Fault::OffsetOverflow);
+    match fill_inner::<KU, VU, K, V, A, E>(node, root, entries, keys, values, children, last) {
+        Ok(()) => {}
+        Err(fault) => return Err(fault_of(fault)),
     }
     match put(writer, node.as_slice()) {
         Ok(()) => Ok(root),

@@ -36,7 +36,7 @@ fitting_entry K V fits =
     record { key = f.0; value = f.1; size = below (entry_size K V) (2 ^ 32) f.2 }
 
 module _ (K V : Kind) (k : IsLawful K) (v : IsLawful V) where
-  key_inside : K.size ≤ value_offset K V
+  pub key_inside : K.size ≤ value_offset K V
   key_inside = le-round_up K.size V.align (alignment_positive v.alignment)
 
   pub value_inside : value_offset K V + V.size ≤ entry_size K V

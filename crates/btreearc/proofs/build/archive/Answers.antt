@@ -1,10 +1,8 @@
-use Rattle.std.proofs.Common.{◌≡◌, ℕ, List, ◌∙◌, map, refl, sym, ap, subst, arith}
-use Rattle.std.specs.Int.{w32, to_le_bytes}
-use Rattle.rkyv_btree_base.specs.InPlace.{OwnBytes}
-use Rattle.rkyv_btree_base.specs.Serialising.{Built, own_of}
-use Rattle.btreearc.specs.Archive.{own, five}
+use Rattle.std.proofs.Common.{◌≡◌, List, ℕ, ◌∙◌, map, refl, sym, ap, subst, arith}
+use Rattle.rkyv_btree_base.specs.Archiving.{itself}
+use Rattle.rkyv_btree_base.specs.Plain.{u32_kind}
 use Rattle.btreearc.specs.Opening.{IsArchive}
-use Rattle.btreearc.proofs.Built.{pair, nothing_written, drained_pairs, own_pairs, archive_written, archive_accepted, unbuilt, unbuilt_root}
+use Rattle.btreearc.proofs.Built.{pair, drained_pairs, tree_is, archive_written, archive_accepted, unbuilt, unbuilt_root}
 use Rattle.btreearc.proofs.build.archive.Goals as goal
 
 pub returns-in-Ok-write_root : goal.returns-in-Ok-write_root
@@ -14,15 +12,12 @@ returns-in-Ok-write_root c =
     let s = c.serialize_from_ordered_iter.new.writer in
     let t = c.write_root.new.writer in
     let are : map pair made.items ≡ entries = drained_pairs (λ e. e.rest.now) _ made.items made.all in
-    let owned : map (own_of (to_le_bytes w32) (to_le_bytes w32)) made.items ≡ map own entries = own_pairs made.items ∙ ap (map own) are in
-    let built : Built (five) nothing_written (map own entries) c.in-Ok.root s =
-    subst (λ (ys : List OwnBytes). Built (five) nothing_written ys c.in-Ok.root s) owned
-    (subst (λ from. Built (five) from (map (own_of (to_le_bytes w32) (to_le_bytes w32)) made.items) c.in-Ok.root s) c.new-writer.ensures made.built) in
+    let tree = tree_is entries made.items c.in-Ok.root _ s c.new-writer.ensures are made.built in
     record {
-      ok = c.into_vec.ensures ∙ archive_written entries c.in-Ok.root s t built c.in-Ok-write_root.ensures.ok;
-      accepted = λ short. subst (λ (bytes : List ℕ). IsArchive bytes entries) (sym c.into_vec.ensures)
-          (archive_accepted entries made.items c.in-Ok.root _ s t (ap (λ w. w.base) c.new-writer.ensures) built.wrote.done.base are short (omega (arith, made.count, c.in-Ok-write_root.ensures.len))
-          (λ some. made.spelled (omega (arith, made.count))) c.in-Ok-write_root.ensures.ok c.in-Ok-write_root.ensures.last);
+      ok = c.into_vec.ensures ∙ archive_written entries c.in-Ok.root s t tree c.in-Ok-write_root.ensures.ok;
+      accepted = subst (λ (bytes : List ℕ). IsArchive bytes entries) (sym c.into_vec.ensures)
+          (archive_accepted entries made.items c.in-Ok.root _ s t (ap (λ w. w.base) c.new-writer.ensures) tree.wrote.done.base are (omega (arith, made.count, c.in-Ok-write_root.ensures.len))
+          (λ some. made.spelled (omega (arith, made.count)) (itself u32_kind) (itself u32_kind)) c.in-Ok-write_root.ensures.ok c.in-Ok-write_root.ensures.last);
       err = tt;
     }
 
@@ -36,8 +31,4 @@ returns-in-Err-write_root-clause-err c =
     let entries = c.args.entries.now in
     let s = c.serialize_from_ordered_iter.new.writer in
     let are : map pair made.items ≡ entries = drained_pairs (λ e. e.rest.now) _ made.items made.all in
-    let owned : map (own_of (to_le_bytes w32) (to_le_bytes w32)) made.items ≡ map own entries = own_pairs made.items ∙ ap (map own) are in
-    let built : Built five nothing_written (map own entries) c.in-Ok.root s =
-    subst (λ (ys : List OwnBytes). Built five nothing_written ys c.in-Ok.root s) owned
-    (subst (λ from. Built five from (map (own_of (to_le_bytes w32) (to_le_bytes w32)) made.items) c.in-Ok.root s) c.new-writer.ensures made.built) in
-    unbuilt_root entries c.in-Ok.root s built c.in-Err-write_root.fault _ c.in-Err-write_root.ensures.err
+    unbuilt_root entries c.in-Ok.root s (tree_is entries made.items c.in-Ok.root _ s c.new-writer.ensures are made.built) c.in-Err-write_root.fault _ c.in-Err-write_root.ensures.err

@@ -1,9 +1,9 @@
 use Rattle.std.proofs.Common.{ℕ, List, ◌∙◌, refl, sym, ap, subst}
 use Rattle.std.specs.Io.KnownBytes.{Appends}
 use Rattle.btreearc.specs.Archive.{archive_of}
-use Rattle.btreearc.specs.Grammar.{IsLines, AreShort}
+use Rattle.btreearc.specs.Grammar.{IsLines}
 use Rattle.btreearc.specs.Opening.{IsArchive}
-use Rattle.btreearc.proofs.Built.{lines_are_short, output_built}
+use Rattle.btreearc.proofs.Built.{output_built}
 use Rattle.btreearc.proofs.program.build.Goals as goal
 
 pub returns-clause-done : goal.returns-clause-done
@@ -12,7 +12,7 @@ returns-clause-done g c =
     let archive = c.in_ok-archive.archive.items in
     let lines = subst (λ (bytes : List ℕ). IsLines bytes entries) c.deref.ensures.value c.in_ok-entries.ensures.ok in
     let same = c.deref-2.ensures.value in
-    let accepted = c.in_ok-archive.ensures.accepted (subst AreShort (sym same) (lines_are_short _ entries lines)) in (
+    let accepted = c.in_ok-archive.ensures.accepted in (
       refl,
       output_built (g.R.Read.remaining c.args.input.now) (g.W.Write.contents c.args.output.now) (g.W.Write.contents c.write_all.new.output) c.in_ok-text.text.items archive entries c.in_ok-text.ensures.all
           lines

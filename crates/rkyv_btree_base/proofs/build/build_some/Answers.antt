@@ -1,10 +1,11 @@
-use Rattle.std.proofs.Common.{◌≡◌, ◌∙◌, length, map, sym, subst, ap, arith, unwrap_or}
+use Rattle.std.proofs.Common.{◌≡◌, ◌∙◌, length, map, sym, subst, ap, arith}
 use Rattle.std.proofs.lemmas.List.{length-map}
 use Rattle.std.proofs.lemmas.Result.{err_from_is_err_and}
 use Rattle.std.specs.Iterator.{Yields}
 use Rattle.rkyv_btree_base.specs.Layout.{shape}
-use Rattle.rkyv_btree_base.specs.Serialising.{own_of, meaning_of, Built}
-use Rattle.rkyv_btree_base.proofs.Building.{drained, miscounted_of, refused_of, own_items, meaning_is, spelled_of}
+use Rattle.rkyv_btree_base.specs.Serialising.{meaning_of, Built}
+use Rattle.rkyv_btree_base.specs.Written.{now_of}
+use Rattle.rkyv_btree_base.proofs.Building.{drained, miscounted_of, refused_of, meaning_is, spelled_of}
 use Rattle.rkyv_btree_base.proofs.build.build_some.Goals as goal
 
 pub returns-in_err-root-clause-err : goal.returns-in_err-root-clause-err
@@ -12,7 +13,7 @@ returns-in_err-root-clause-err g c =
     let steps = g.I.Iterator.next_gives in
     let took = c.if-not-take_items.false in
     let p = err_from_is_err_and c.from_residual.result c.from_residual.ensures.1 in
-    rw (p.1, p.2) (refused_of _ _ g.row.E g.K.InPlace.own g.V.InPlace.own steps c.args.iter c.args.len _ c.in_err-root.field-0.0 _ c.deref.result.now c.take_items.new.iter
+    rw (p.1, p.2) (refused_of g.K.Portable.kind g.V.Portable.kind g.row.E g.KU.Archive.archival g.VU.Archive.archival steps c.args.iter c.args.len _ c.in_err-root.field-0.0 _ c.deref.result.now c.take_items.new.iter
     (subst (λ zs. Yields steps c.args.iter zs c.take_items.new.iter) (sym c.deref.ensures.value) (c.take_items.ensures.all took))
     (ap length c.deref.ensures.value ∙ c.take_items.ensures.len took)
     c.in_err-root.ensures.err)
@@ -22,28 +23,30 @@ returns-then-more-ne0-clause-err g c =
     let steps = g.I.Iterator.next_gives in
     let took = c.if-not-take_items.false in
     let ran = c.count-more.ensures.ran in
-    miscounted_of _ _ g.row.E g.K.InPlace.own g.V.InPlace.own steps c.args.iter c.args.len c.count-more.result _ _ c.deref.result.now c.take_items.new.iter ran.0
+    miscounted_of g.K.Portable.kind g.V.Portable.kind g.row.E g.KU.Archive.archival g.VU.Archive.archival steps c.args.iter c.args.len c.count-more.result _ _ c.deref.result.now c.take_items.new.iter ran.0 c.in_ok-root.root
     (subst (λ zs. Yields steps c.args.iter zs c.take_items.new.iter) (sym c.deref.ensures.value) (c.take_items.ensures.all took))
     ran.1 ran.2 c.if-more-ne0.true
     (ap length c.deref.ensures.value ∙ c.take_items.ensures.len took)
-    c.in_ok-root.ensures.ok.wrote
+    c.in_ok-root.ensures.ok
 
 pub returns-clause-ok : goal.returns-clause-ok
 returns-clause-ok g c =
+    let K = g.K.Portable.kind in
+    let V = g.V.Portable.kind in
+    let E = g.row.E in
     let from = g.W.Writer.state c.args.writer.now in
     let to = g.W.Writer.state c.write_child.new.writer in
-    let nodes = shape g.K.Portable.kind g.V.Portable.kind g.row.E in
     let steps = g.I.Iterator.next_gives in
     let took = c.if-not-take_items.false in
     let ran = c.count-more.ensures.ran in
     let items = c.deref.result.now in
-    let own = own_of g.K.InPlace.own g.V.InPlace.own in
     let count : length items ≡ c.args.len = ap length c.deref.ensures.value ∙ c.take_items.ensures.len took in
-    let n = length-map items own in
+    let n = length-map items (now_of {M = g.row.KU.Denot} {N = g.row.VU.Denot}) in
     let wrote = c.in_ok-root.ensures in
-    let built : Built nodes from (map own items) c.unwrap_or.result to = record {
-      wrote = wrote.ok.wrote;
-      root_is = c.unwrap_or.ensures ∙ ap (λ root. unwrap_or root 0) wrote.ok.place;
+    let built : Built (shape K V E) g.KU.Archive.archival g.VU.Archive.archival from (map now_of items) c.unwrap_or.result to = record {
+      place = c.in_ok-root.root;
+      written = wrote.ok;
+      root_is = c.unwrap_or.ensures;
       ends = λ some. wrote.last (omega (arith, n, some));
     } in
     record {
@@ -52,8 +55,7 @@ returns-clause-ok g c =
           (subst (λ zs. Yields steps c.args.iter zs c.take_items.new.iter) (sym c.deref.ensures.value) (c.take_items.ensures.all took)) ran.1 ran.2 c.if-more-ne0.false;
       count = count;
       built = built;
-      spelled = λ some. spelled_of g.K.Portable.kind g.V.Portable.kind g.row.E g.met.K.Portable.laws g.met.V.Portable.laws c.requires.fitting from (map own items) (map (meaning_of g.K.Portable.kind g.V.Portable.kind g.K.InPlace.own g.V.InPlace.own) items) c.unwrap_or.result to
-          (own_items g.K.Portable.kind g.V.Portable.kind g.K.InPlace.own g.V.InPlace.own g.met.K.InPlace.in_place g.met.V.InPlace.in_place items)
-          (meaning_is g.K.Portable.kind g.V.Portable.kind g.K.InPlace.own g.V.InPlace.own items)
-          (omega (arith, n, count, some)) (omega (arith, n, count, c.requires.small)) built wrote.ok.end;
+      spelled = λ some key value. spelled_of K V E g.met.K.Portable.laws g.met.V.Portable.laws c.requires.fitting g.KU.Archive.archival g.VU.Archive.archival key value g.met.KU.Archive.archived g.met.VU.Archive.archived from (map now_of items) (map (meaning_of K V g.KU.Archive.archival g.VU.Archive.archival key value) items) c.unwrap_or.result to
+          (meaning_is K V E g.met.K.Portable.laws g.met.V.Portable.laws c.requires.fitting g.KU.Archive.archival g.VU.Archive.archival key value g.met.KU.Archive.archived g.met.VU.Archive.archived items)
+          (omega (arith, n, count, some)) (omega (arith, n, count, c.requires.small)) built;
     }

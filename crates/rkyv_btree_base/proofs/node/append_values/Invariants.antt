@@ -1,10 +1,18 @@
-use Rattle.std.proofs.Common.{◌≡◌, ◌+◌, ◌*◌, ◌≤◌, ◌++◌, take, vec_len, vec_capacity}
+use Rattle.std.proofs.Common.{◌≡◌, ℕ, ◌+◌, ◌*◌, ◌≤◌, List, ◌++◌, length, map, drop, vec_len, vec_capacity}
 use Rattle.std.specs.List.{flat_map}
+use Rattle.std.specs.VecDeque.{deque_capacity}
+use Rattle.rkyv_btree_base.proofs.Resolving.{ResolvedSoFar}
 use Rattle.rkyv_btree_base.proofs.node.append_values.Given as goal
 
 abbrev pub invariant-loop-entry : goal.invariant-loop-entry
-invariant-loop-entry g l = record {
-  items : l.node.items ≡ l.fn.node.items ++ flat_map (λ x. g.V.InPlace.own x.1.now) (take l.entry-index l.entries);
-  len : vec_len l.node ≡ vec_len l.fn.node + l.entry-index * g.V.Portable.kind.size;
-  capacity : vec_capacity l.fn.node ≤ vec_capacity l.node;
-}
+invariant-loop-entry g l =
+    let size = g.V.Archived.Portable.kind.size in
+    record {
+      done : (owns : List (List ℕ)) × ResolvedSoFar g.V.Archive.archival l.pos (map (λ x. x.1.now) l.entries) l.fn.resolvers.items l.at (map (λ x. x.1.now) (drop l.entry-index l.entries)) l.resolvers.items owns
+          × (l.node.items ≡ l.fn.node.items ++ flat_map (λ b. b) owns);
+      at : l.at ≡ l.pos + l.entry-index * size;
+      len : vec_len l.node ≡ vec_len l.fn.node + l.entry-index * size;
+      left : length l.resolvers.items + l.entry-index ≡ length l.entries;
+      kept : deque_capacity l.fn.resolvers ≤ deque_capacity l.resolvers;
+      capacity : vec_capacity l.fn.node ≤ vec_capacity l.node;
+    }

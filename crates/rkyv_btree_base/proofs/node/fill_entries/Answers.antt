@@ -1,7 +1,9 @@
-use Rattle.std.proofs.Common.{arith}
+use Rattle.std.proofs.Common.{◌≡◌, ◌∙◌, ◌+◌, length, map, sym, arith}
+use Rattle.std.proofs.lemmas.List.{length-map}
+use Rattle.std.proofs.lemmas.Result.{on_ok_weaker, IfErr-weaker}
 use Rattle.rkyv_btree_base.specs.Layout.{shape}
 use Rattle.rkyv_btree_base.specs.laws.Sizes.{room_of}
-use Rattle.rkyv_btree_base.proofs.Nodes.{filled_entries}
+use Rattle.rkyv_btree_base.proofs.Resolving.{paired, resolved_length, both_resolved, key_unresolved, value_unresolved, filled_columns}
 use Rattle.rkyv_btree_base.proofs.node.fill_entries.Goals as goal
 
 pub append-requires : goal.append-requires
@@ -19,6 +21,11 @@ fill_up-requires-clause-room g c =
     let room = room_of _ _ g.row.E g.met.K.Portable.laws g.met.V.Portable.laws c.requires.fitting in
     omega (arith, room.parts)
 
+pub overflow_add-pos : goal.overflow_add-pos
+overflow_add-pos g c =
+    let room = room_of _ _ g.row.E g.met.K.Portable.laws g.met.V.Portable.laws c.requires.fitting in
+    omega (arith, room.parts)
+
 pub append_keys-requires-clause-fitting : goal.append_keys-requires-clause-fitting
 append_keys-requires-clause-fitting g c =
     let room = room_of _ _ g.row.E g.met.K.Portable.laws g.met.V.Portable.laws c.requires.fitting in
@@ -29,13 +36,27 @@ append_keys-requires-clause-room g c =
     let room = room_of _ _ g.row.E g.met.K.Portable.laws g.met.V.Portable.laws c.requires.fitting in
     omega (arith, room.parts, room.key_at _ c.requires.count)
 
-pub fill_up-requires-2-clause-shorter : goal.fill_up-requires-2-clause-shorter
-fill_up-requires-2-clause-shorter g c =
+pub append_keys-requires-clause-end : goal.append_keys-requires-clause-end
+append_keys-requires-clause-end g c =
     let room = room_of _ _ g.row.E g.met.K.Portable.laws g.met.V.Portable.laws c.requires.fitting in
     omega (arith, room.parts, room.key_at _ c.requires.count)
 
+pub returns-in-Err-clause-err : goal.returns-in-Err-clause-err
+returns-in-Err-clause-err g c =
+    key_unresolved (shape g.K.Portable.kind g.V.Portable.kind g.row.E) g.KU.Archive.archival g.VU.Archive.archival c.args.pos (c.args.pos + c.key_at-2.result) c.args.entries.now c.args.keys.now.items c.args.values.now.items c.in-Err.fault (omega arith) c.in-Err.ensures.err
+
+pub fill_up-requires-2-clause-shorter : goal.fill_up-requires-2-clause-shorter
+fill_up-requires-2-clause-shorter g c =
+    let room = room_of _ _ g.row.E g.met.K.Portable.laws g.met.V.Portable.laws c.requires.fitting in
+    omega (arith, room.parts, room.key_at _ c.requires.count, c.in-Ok.ensures.len)
+
 pub fill_up-requires-2-clause-room : goal.fill_up-requires-2-clause-room
 fill_up-requires-2-clause-room g c =
+    let room = room_of _ _ g.row.E g.met.K.Portable.laws g.met.V.Portable.laws c.requires.fitting in
+    omega (arith, room.parts)
+
+pub overflow_add-pos-2 : goal.overflow_add-pos-2
+overflow_add-pos-2 g c =
     let room = room_of _ _ g.row.E g.met.K.Portable.laws g.met.V.Portable.laws c.requires.fitting in
     omega (arith, room.parts)
 
@@ -49,7 +70,22 @@ append_values-requires-clause-room g c =
     let room = room_of _ _ g.row.E g.met.K.Portable.laws g.met.V.Portable.laws c.requires.fitting in
     omega (arith, room.parts, room.value_at _ c.requires.count)
 
-pub returns-clause-items : goal.returns-clause-items
-returns-clause-items g c =
-    filled_entries (shape g.K.Portable.kind g.V.Portable.kind g.row.E) c.args.kind c.key_at.result c.value_at.result g.K.InPlace.own g.V.InPlace.own c.args.entries.now _ _ _ _ _ _ (omega arith) (omega arith)
-    c.clear.ensures.items c.append.ensures.items c.fill_up.ensures.items c.append_keys.ensures.items c.fill_up-2.ensures.items c.append_values.ensures.items
+pub append_values-requires-clause-end : goal.append_values-requires-clause-end
+append_values-requires-clause-end g c =
+    let room = room_of _ _ g.row.E g.met.K.Portable.laws g.met.V.Portable.laws c.requires.fitting in
+    omega (arith, room.parts, room.value_at _ c.requires.count)
+
+pub returns-clause-ok : goal.returns-clause-ok
+returns-clause-ok g c =
+    let nodes = shape g.K.Portable.kind g.V.Portable.kind g.row.E in
+    let keys = c.in-Ok.ensures.ok in
+    on_ok_weaker c.append_values.result (λ values.
+    let same : length keys.0 ≡ length values.0 = resolved_length g.KU.Archive.archival (c.args.pos + c.key_at-2.result) (map (λ x. x.0.now) c.args.entries.now) c.args.keys.now.items keys.0 keys.1 ∙ (length-map c.args.entries.now (λ x. x.0.now) ∙ sym (resolved_length g.VU.Archive.archival (c.args.pos + c.value_at-2.result) (map (λ x. x.1.now) c.args.entries.now) c.args.values.now.items values.0 values.1 ∙ length-map c.args.entries.now (λ x. x.1.now))) in (
+      paired keys.0 values.0,
+      both_resolved nodes g.KU.Archive.archival g.VU.Archive.archival c.args.pos (c.args.pos + c.key_at-2.result) (c.args.pos + c.value_at-2.result) c.args.entries.now c.args.keys.now.items c.args.values.now.items keys.0 values.0 (omega arith) (omega arith) keys.1 values.1,
+      filled_columns nodes c.args.kind c.key_at.result c.value_at.result keys.0 values.0 c.clear.new.self.items c.append.new.node.items c.fill_up.new.node.items c.append_keys.new.node.items c.fill_up-2.new.node.items c.append_values.new.node.items same (omega arith) (omega arith) c.clear.ensures.items c.append.ensures.items c.fill_up.ensures.items keys.2 c.fill_up-2.ensures.items values.2,
+    )) c.append_values.ensures.ok
+
+pub returns-clause-err : goal.returns-clause-err
+returns-clause-err g c =
+    IfErr-weaker c.append_values.result _ _ (λ fault h. value_unresolved (shape g.K.Portable.kind g.V.Portable.kind g.row.E) g.KU.Archive.archival g.VU.Archive.archival c.args.pos (c.args.pos + c.value_at-2.result) c.args.entries.now c.args.keys.now.items c.args.values.now.items fault (omega arith) h) c.append_values.ensures.err

@@ -1,8 +1,9 @@
-use Rattle.std.proofs.Common.{◌≡◌, ◌+◌, ◌*◌, ◌-◌, ◌≤◌, length, map, take, drop, vec_capacity}
+use Rattle.std.proofs.Common.{◌≡◌, ◌+◌, ◌*◌, ◌-◌, ◌≤◌, [], length, map, take, drop, vec_capacity}
+use Rattle.std.specs.VecDeque.{deque_capacity}
 use Rattle.rkyv_btree_base.specs.Layout.{shape}
 use Rattle.rkyv_btree_base.specs.Plan.{planned_alone, row_plan}
-use Rattle.rkyv_btree_base.specs.Serialising.{own_of}
-use Rattle.rkyv_btree_base.proofs.Rows.{RowSoFar}
+use Rattle.rkyv_btree_base.specs.Written.{now_of}
+use Rattle.rkyv_btree_base.proofs.RowsWritten.{RowSoFar}
 use Rattle.rkyv_btree_base.proofs.tree.+write_child.Given as goal
 
 abbrev pub decreases-write_child : goal.decreases-write_child
@@ -11,22 +12,25 @@ decreases-write_child g l = length l.items.now
 abbrev pub invariant-loop-left : goal.invariant-loop-left
 invariant-loop-left g l =
     let E = g.row.E in
-    let own = own_of g.K.InPlace.own g.V.InPlace.own in
     record {
-      row : RowSoFar g.row.W-Error.Denot (shape g.K.Portable.kind g.V.Portable.kind E)
-          (row_plan (planned_alone E) l.base (E * l.base) E (length l.items + 1 - l.base * (E + 1)) (map own l.items)) (g.W.Writer.state l.fn.writer)
-          (row_plan (planned_alone E) l.base (E * l.base) l.left l.on_last (map own (drop l.start l.items))) (g.W.Writer.state l.writer)
-          (map own (drop l.first l.entries.items)) (drop l.first_child l.children.items);
+      row : RowSoFar (shape g.K.Portable.kind g.V.Portable.kind E) g.KU.Archive.archival g.VU.Archive.archival g.row.W-Error.Denot
+          (row_plan (planned_alone E) l.base (E * l.base) E (length l.items + 1 - l.base * (E + 1)) (map now_of l.items)) (g.W.Writer.state l.fn.writer)
+          (row_plan (planned_alone E) l.base (E * l.base) l.left l.on_last (map now_of (drop l.start l.items))) (g.W.Writer.state l.writer)
+          (map now_of (drop l.first l.waiting.items)) (drop l.first_child l.children.items);
       left : l.left ≤ E;
       rest : length l.items + 1 ≡ l.start + ((l.left + 1) * l.base + l.on_last);
       on_last : l.on_last ≤ (l.left + 1) * (E * l.base);
       passed : E ≤ l.start + l.left;
-      entries : take l.first l.entries.items ≡ l.fn.entries.items;
+      waiting : take l.first l.waiting.items ≡ l.fn.waiting.items;
       children : take l.first_child l.children.items ≡ l.fn.children.items;
-      entry_count : length l.entries.items + l.left ≡ l.first + E;
+      waiting_count : length l.waiting.items + l.left ≡ l.first + E;
       child_count : length l.children.items + l.left ≡ l.first_child + E;
+      no_keys : l.keys.items ≡ [];
+      no_values : l.values.items ≡ [];
       node_room : vec_capacity l.fn.node ≤ vec_capacity l.node;
-      entry_room : vec_capacity l.fn.entries ≤ vec_capacity l.entries;
+      key_room : deque_capacity l.fn.keys ≤ deque_capacity l.keys;
+      value_room : deque_capacity l.fn.values ≤ deque_capacity l.values;
+      waiting_room : vec_capacity l.fn.waiting ≤ vec_capacity l.waiting;
       child_room : vec_capacity l.fn.children ≤ vec_capacity l.children;
     }
 

@@ -1,22 +1,72 @@
-use Rattle.std.proofs.Common.{◌≡◌, ◌∙◌, [], ◌∷◌, ◌++◌, List, ℕ, ap, sym, subst, map}
-use Rattle.rkyv_btree_base.specs.Image.{padding, inner_write}
-use Rattle.rkyv_btree_base.specs.Layout.{shape, align}
-use Rattle.rkyv_btree_base.specs.Rounding.{round_up}
-use Rattle.rkyv_btree_base.specs.Serialising.{own_of}
-use Rattle.rkyv_btree_base.specs.Writing.{Appended, Wrote, position}
-use Rattle.rkyv_btree_base.proofs.WriteRuns.{wrote-both, wrote-one}
+use Rattle.std.proofs.Common.{◌∙◌, ◌++◌, [], ◌∷◌, List, ℕ, length, map, inl, inr, refl, ap, sym, subst, arith}
+use Rattle.rkyv_btree_base.specs.Image.{padding, inner_write, inner_image}
+use Rattle.rkyv_btree_base.specs.InPlace.{OwnBytes}
+use Rattle.rkyv_btree_base.specs.Layout.{shape, align, inner_size}
+use Rattle.rkyv_btree_base.specs.Written.{EntriesUnresolved, NodeStopped, as_fault, in_own_bytes, now_of}
+use Rattle.rkyv_btree_base.specs.Writing.{Write, Appended, Refused, position}
+use Rattle.rkyv_btree_base.specs.declared.fault.Fault.{Fault}
+use Rattle.rkyv_btree_base.specs.declared.fault.Fault.TheVariants.{OffsetOverflow}
+use Rattle.rkyv_btree_base.proofs.NodesWritten.{node_written, node_refused}
 use Rattle.rkyv_btree_base.proofs.writes.write_inner.Goals as goal
+
+pub returns-in-Err-clause-err : goal.returns-in-Err-clause-err
+returns-in-Err-clause-err g c =
+    let nodes = shape g.K.Portable.kind g.V.Portable.kind g.row.E in
+    let xs = map now_of c.args.entries.now in
+    let image : ℕ → List OwnBytes → List Write = λ at owns. inner_image nodes at owns (c.args.children.now ++ c.args.last ∷ []) in
+    subst (λ (n : ℕ). NodeStopped nodes g.KU.Archive.archival g.VU.Archive.archival image n (g.W.Writer.state c.args.writer.now) xs c.in-Err.fault (g.W.Writer.state c.begin_node.new.writer)) c.inner_size-size.ensures.value (c.in-Err.ensures.err image)
+
+pub returns-in-Err-fill_inner-clause-err : goal.returns-in-Err-fill_inner-clause-err
+returns-in-Err-fill_inner-clause-err g c =
+    let nodes = shape g.K.Portable.kind g.V.Portable.kind g.row.E in
+    let from = g.W.Writer.state c.args.writer.now in
+    let to = g.W.Writer.state c.begin_node.new.writer in
+    let keys = c.begin_node.new.keys.items in
+    let values = c.begin_node.new.values.items in
+    let xs = map now_of c.args.entries.now in
+    let roots = c.args.children.now ++ c.args.last ∷ [] in
+    let root = c.in-Ok.root in
+    let padded = c.in-Ok.ensures.ok in
+    let place = c.in-Ok.ensures.place in
+    let image = λ (at : ℕ) (owns : List OwnBytes). inner_image nodes at owns roots in
+    let cause = c.in-Err-fill_inner.fault in
+    elim c.in-Err-fill_inner.ensures.err [
+      | inl unresolved ↦ in_own_bytes keys values padded cause c.fault_of.ensures (subst (λ (n : ℕ). EntriesUnresolved nodes g.KU.Archive.archival g.VU.Archive.archival n xs keys values cause) place unresolved)
+      | inr far ↦
+          let owns = far.0 in
+          let is = ap (λ (n : ℕ). padding (align nodes) (position padded.mid) ++ inner_write nodes n owns roots ∷ []) (sym (place ∙ padded.place)) in
+          let stopped = node_refused nodes g.KU.Archive.archival g.VU.Archive.archival from to xs keys values padded root owns place far.1 image (inner_size nodes) (inner_write nodes root owns roots) is {E = g.row.W-Error.Denot} OffsetOverflow to (refl, far.3) in
+          subst (λ (f : Fault g.row.W-Error.Denot). NodeStopped nodes g.KU.Archive.archival g.VU.Archive.archival image (inner_size nodes) from xs f to) (sym (c.fault_of.ensures ∙ ap as_fault far.2)) stopped
+    ]
 
 pub returns-in-Ok-put-clause-ok : goal.returns-in-Ok-put-clause-ok
 returns-in-Ok-put-clause-ok g c =
-    let s = g.W.Writer.state c.args.writer.now in
-    let m = g.W.Writer.state c.pad.new.writer in
-    let t = g.W.Writer.state c.put.new.writer in
     let nodes = shape g.K.Portable.kind g.V.Portable.kind g.row.E in
-    let pos : c.in-Ok.pos ≡ round_up (position s) (align nodes) = c.in-Ok.ensures.pos ∙ ap (round_up (position s)) c.align.ensures.value in
-    let near = c.if-not-fill_inner.false in
-    let node = inner_write nodes c.in-Ok.pos (map (own_of g.K.InPlace.own g.V.InPlace.own) c.args.entries.now) (c.args.children.now ++ c.args.last ∷ []) in
-    subst (λ (n : ℕ). Wrote s (padding (align nodes) (position s) ++ inner_write nodes n (map (own_of g.K.InPlace.own g.V.InPlace.own) c.args.entries.now) (c.args.children.now ++ c.args.last ∷ []) ∷ []) t) pos
-    (wrote-both s (padding (align nodes) (position s)) m (node ∷ []) t
-    (subst (λ (n : ℕ). Wrote s (padding n (position s)) m) c.align.ensures.value c.in-Ok.ensures.ok)
-    (wrote-one m node t (sym c.fill_inner.ensures.reach ∙ near) (subst (λ (bytes : List ℕ). Appended m bytes t) (c.as_slice.ensures.value ∙ c.fill_inner.ensures.items near) c.in-Ok-put.ensures.ok)))
+    let from = g.W.Writer.state c.args.writer.now in
+    let to = g.W.Writer.state c.begin_node.new.writer in
+    let t = g.W.Writer.state c.put.new.writer in
+    let roots = c.args.children.now ++ c.args.last ∷ [] in
+    let root = c.in-Ok.root in
+    let padded = c.in-Ok.ensures.ok in
+    let place = c.in-Ok.ensures.place in
+    let made = c.in-Ok-fill_inner.ensures.ok in
+    let is = ap (λ (n : ℕ). padding (align nodes) (position padded.mid) ++ inner_write nodes n made.0 roots ∷ []) (sym (place ∙ padded.place)) in
+    node_written nodes g.KU.Archive.archival g.VU.Archive.archival from to (map now_of c.args.entries.now) c.begin_node.new.keys.items c.begin_node.new.values.items padded root made.0 place made.1 (λ at owns. inner_image nodes at owns roots) (inner_size nodes) (inner_write nodes root made.0 roots) is
+    t made.3 (omega (arith, ap length (sym made.2), c.in-Ok-fill_inner.ensures.len)) (subst (λ (bytes : List ℕ). Appended to bytes t) (c.as_slice.ensures.value ∙ made.2) c.in-Ok-put.ensures.ok)
+
+pub returns-in-Err-put-clause-err : goal.returns-in-Err-put-clause-err
+returns-in-Err-put-clause-err g c =
+    let nodes = shape g.K.Portable.kind g.V.Portable.kind g.row.E in
+    let from = g.W.Writer.state c.args.writer.now in
+    let to = g.W.Writer.state c.begin_node.new.writer in
+    let t = g.W.Writer.state c.put.new.writer in
+    let roots = c.args.children.now ++ c.args.last ∷ [] in
+    let root = c.in-Ok.root in
+    let padded = c.in-Ok.ensures.ok in
+    let place = c.in-Ok.ensures.place in
+    let made = c.in-Ok-fill_inner.ensures.ok in
+    let write = inner_write nodes root made.0 roots in
+    let is = ap (λ (n : ℕ). padding (align nodes) (position padded.mid) ++ inner_write nodes n made.0 roots ∷ []) (sym (place ∙ padded.place)) in
+    let fault = c.in-Err-put.fault in
+    node_refused nodes g.KU.Archive.archival g.VU.Archive.archival from to (map now_of c.args.entries.now) c.begin_node.new.keys.items c.begin_node.new.values.items padded root made.0 place made.1 (λ at owns. inner_image nodes at owns roots) (inner_size nodes) write is
+    fault t (subst (λ (bytes : List ℕ). Refused fault to (record { bytes = bytes; reaches = write.reaches }) t) (c.as_slice.ensures.value ∙ made.2) (c.in-Err-put.ensures.err write.reaches))

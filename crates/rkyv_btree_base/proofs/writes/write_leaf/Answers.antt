@@ -1,18 +1,45 @@
-use Rattle.std.proofs.Common.{◌∙◌, [], ◌∷◌, List, ℕ, refl, subst, map}
-use Rattle.rkyv_btree_base.specs.Image.{leaf_bytes, padding}
-use Rattle.rkyv_btree_base.specs.Layout.{shape, align}
-use Rattle.rkyv_btree_base.specs.Serialising.{own_of}
-use Rattle.rkyv_btree_base.specs.Writing.{Appended, Write, Wrote, position}
-use Rattle.rkyv_btree_base.proofs.WriteRuns.{wrote-both, wrote-one}
+use Rattle.std.proofs.Common.{◌∙◌, List, ℕ, true, length, map, refl, ap, sym, subst, arith}
+use Rattle.rkyv_btree_base.specs.Image.{leaf_bytes, leaf_image}
+use Rattle.rkyv_btree_base.specs.InPlace.{OwnBytes}
+use Rattle.rkyv_btree_base.specs.Layout.{shape, leaf_size}
+use Rattle.rkyv_btree_base.specs.Written.{EntriesUnresolved, NodeStopped, in_own_bytes, now_of}
+use Rattle.rkyv_btree_base.specs.Writing.{Write, Appended, Refused}
+use Rattle.rkyv_btree_base.proofs.NodesWritten.{node_written, node_refused}
 use Rattle.rkyv_btree_base.proofs.writes.write_leaf.Goals as goal
+
+pub returns-in-Err-clause-err : goal.returns-in-Err-clause-err
+returns-in-Err-clause-err g c =
+    let nodes = shape g.K.Portable.kind g.V.Portable.kind g.row.E in
+    let xs = map now_of c.args.entries.now in
+    let image : ℕ → List OwnBytes → List Write = leaf_image nodes in
+    subst (λ (n : ℕ). NodeStopped nodes g.KU.Archive.archival g.VU.Archive.archival image n (g.W.Writer.state c.args.writer.now) xs c.in-Err.fault (g.W.Writer.state c.begin_node.new.writer)) c.leaf_size-size.ensures.value (c.in-Err.ensures.err image)
+
+pub returns-in-Err-fill_leaf-clause-err : goal.returns-in-Err-fill_leaf-clause-err
+returns-in-Err-fill_leaf-clause-err g c =
+    let nodes = shape g.K.Portable.kind g.V.Portable.kind g.row.E in
+    let keys = c.begin_node.new.keys.items in
+    let values = c.begin_node.new.values.items in
+    let fault = c.in-Err-fill_leaf.fault in
+    in_own_bytes keys values c.in-Ok.ensures.ok fault c.fault_of.ensures (subst (λ (n : ℕ). EntriesUnresolved nodes g.KU.Archive.archival g.VU.Archive.archival n (map now_of c.args.entries.now) keys values fault) c.in-Ok.ensures.place c.in-Err-fill_leaf.ensures.err)
 
 pub returns-in-Ok-put-clause-ok : goal.returns-in-Ok-put-clause-ok
 returns-in-Ok-put-clause-ok g c =
-    let s = g.W.Writer.state c.args.writer.now in
-    let m = g.W.Writer.state c.pad.new.writer in
-    let t = g.W.Writer.state c.put.new.writer in
     let nodes = shape g.K.Portable.kind g.V.Portable.kind g.row.E in
-    let leaf : Write = record { bytes = leaf_bytes nodes (map (own_of g.K.InPlace.own g.V.InPlace.own) c.args.entries.now); reaches = _ } in
-    wrote-both s (padding (align nodes) (position s)) m (leaf ∷ []) t
-    (subst (λ (n : ℕ). Wrote s (padding n (position s)) m) c.align.ensures.value c.in-Ok.ensures.ok)
-    (wrote-one m leaf t refl (subst (λ (bytes : List ℕ). Appended m bytes t) (c.as_slice.ensures.value ∙ c.fill_leaf.ensures.items) c.in-Ok-put.ensures.ok))
+    let from = g.W.Writer.state c.args.writer.now in
+    let to = g.W.Writer.state c.begin_node.new.writer in
+    let t = g.W.Writer.state c.put.new.writer in
+    let made = c.in-Ok-fill_leaf.ensures.ok in
+    let own = leaf_bytes nodes made.0 in
+    node_written nodes g.KU.Archive.archival g.VU.Archive.archival from to (map now_of c.args.entries.now) c.begin_node.new.keys.items c.begin_node.new.values.items c.in-Ok.ensures.ok c.in-Ok.root made.0 c.in-Ok.ensures.place made.1 (leaf_image nodes) (leaf_size nodes) (record { bytes = own; reaches = true }) refl
+    t refl (omega (arith, ap length (sym made.2), c.in-Ok-fill_leaf.ensures.len)) (subst (λ (bytes : List ℕ). Appended to bytes t) (c.as_slice.ensures.value ∙ made.2) c.in-Ok-put.ensures.ok)
+
+pub returns-in-Err-put-clause-err : goal.returns-in-Err-put-clause-err
+returns-in-Err-put-clause-err g c =
+    let nodes = shape g.K.Portable.kind g.V.Portable.kind g.row.E in
+    let from = g.W.Writer.state c.args.writer.now in
+    let to = g.W.Writer.state c.begin_node.new.writer in
+    let t = g.W.Writer.state c.put.new.writer in
+    let made = c.in-Ok-fill_leaf.ensures.ok in
+    let fault = c.in-Err-put.fault in
+    node_refused nodes g.KU.Archive.archival g.VU.Archive.archival from to (map now_of c.args.entries.now) c.begin_node.new.keys.items c.begin_node.new.values.items c.in-Ok.ensures.ok c.in-Ok.root made.0 c.in-Ok.ensures.place made.1 (leaf_image nodes) (leaf_size nodes) (record { bytes = leaf_bytes nodes made.0; reaches = true }) refl
+    fault t (subst (λ (bytes : List ℕ). Refused fault to (record { bytes = bytes; reaches = true }) t) (c.as_slice.ensures.value ∙ made.2) (c.in-Err-put.ensures.err true))

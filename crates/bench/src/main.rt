@@ -1,0 +1,76 @@
+//! Times a map of texts to numbers: building, checking and walking it, in nanoseconds an entry. Its one argument is the
+//! number of entries. Without one it does nothing.
+#![tactic(auto)]
+
+use anyhow::{Context, ensure};
+use rkyv_btree::map::access;
+use rkyv_btree::view::View;
+use rkyv_btree_base::layout;
+use rkyv_btree_base::map::ArchivedBTreeMap;
+use rkyv_btree_base::numbers::ArchivedU32;
+use rkyv_btree_base::place::VecWriter;
+use rkyv_btree_base::text::ArchivedText;
+use std::alloc::{AllocError, Global};
+use std::ops::ControlFlow;
+use std::time::{Duration, Instant};
+use std::{env, io};
+
+type Map = ArchivedBTreeMap<ArchivedText, ArchivedU32, 5>;
+
+/// The key of a number of at most eight digits: 8 to 24 bytes.
+fn key(alloc: Global, number: u32) -> Result<String, AllocError> {
+    let mut key = format!(in alloc; "{number:08}")?;
+    for _ in 0..number % 17 {
+        key.push('x')?;
+    }
+    Ok(key)
+}
+
+/// So many entries, in the order of their keys.
+fn entries(alloc: Global, count: u32) -> Result<Vec<(String, u32)>, AllocError> {
+    let mut entries = Vec::new(alloc);
+    for number in 0..count {
+        entries.push((key(alloc, number)?, number))?;
+    }
+    Ok(entries)
+}
+
+/// Prints how long something took.
+fn tell(rt: &impl Print, what: &str, time: Duration, count: u32) -> io::Result<()> {
+    let each = time.as_nanos() / u128::from(count.max(1));
+    println!(rt; "{what} {count} text entries: {each} ns an entry")
+}
+
+/// Builds, checks and walks the map of so many entries.
+fn measure(rt: &HostRuntime, count: u32) -> anyhow::Result<()> {
+    ensure!(layout::fits::<ArchivedText, ArchivedU32, 5>(), "too large");
+    let entries = entries(rt.alloc(), count)?;
+    let mut writer = VecWriter::new(rt.alloc());
+    let start = Instant::now(rt)?;
+    let items = entries
+        .iter()
+        .map(|entry: &(String, u32)| (&entry.0, &entry.1));
+    let tree = Map::serialize_from_ordered_iter(rt.alloc(), entries.len(), items, &mut writer)?;
+    let root = Map::write_root(entries.len(), tree, &mut writer)?;
+    tell(rt, "build", start.elapsed(rt)?, count)?;
+    let start = Instant::now(rt)?;
+    let map = access::<ArchivedText, ArchivedU32, 5>(writer.bytes(), root)?;
+    tell(rt, "check", start.elapsed(rt)?, count)?;
+    let start = Instant::now(rt)?;
+    let mut met = 0u64;
+    map.visit(|key: View<ArchivedText>, value: View<ArchivedU32>| {
+        let len = key.as_str().len() as u64;
+        met = met.wrapping_add(u64::from(value.to_native()).wrapping_add(len));
+        ControlFlow::<(), ()>::Continue(())
+    });
+    tell(rt, "walk", start.elapsed(rt)?, count)?;
+    ensure!(met > 0 || count == 0, "nothing was met");
+    Ok(())
+}
+
+fn main(rt: HostRuntime) -> anyhow::Result<()> {
+    match env::args(&rt)?.nth(1) {
+        Some(count) => measure(&rt, count.parse().context("no number of entries")?),
+        None => Ok(()),
+    }
+}

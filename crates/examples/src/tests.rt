@@ -1,0 +1,162 @@
+//! Maps of versions, as a program archives and reads them.
+use crate::version::{ArchivedVersion, NO_VERSION, Version};
+use linked_list_allocator::LocalHeap;
+use rkyv_btree::base::fault::{EntryFault, Fault};
+use rkyv_btree::base::layout;
+use rkyv_btree::base::map::ArchivedBTreeMap;
+use rkyv_btree::base::numbers::ArchivedU32;
+use rkyv_btree::base::place::VecWriter;
+use rkyv_btree::base::refusal::Refusal;
+use rkyv_btree::base::text::ArchivedText;
+use rkyv_btree::deserialize::Deserialize;
+use rkyv_btree::map::access;
+use rkyv_btree::view::View;
+use std::alloc::{AllocError, Global};
+use std::hash::{DefaultHasher, Hash, Hasher};
+use std::process::Abort;
+use std::test::Fail;
+
+type Releases = ArchivedBTreeMap<ArchivedVersion, ArchivedU32, 2>;
+
+const fn version(major: u8, minor: u8, patch: u8) -> Version {
+    Version {
+        major,
+        minor,
+        patch,
+    }
+}
+
+/// Archives the years in which versions came out behind what the writer holds, and answers the map's position.
+fn archive(
+    rt: &impl Abort,
+    alloc: Global,
+    releases: &[(Version, u32)],
+    writer: &mut VecWriter,
+) -> Result<u32, Fault<AllocError>> {
+    assert!(rt; layout::fits::<ArchivedVersion, ArchivedU32, 2>());
+    let items = releases.iter().map(|release| (&release.0, &release.1));
+    let root = Releases::serialize_from_ordered_iter(alloc, releases.len(), items, writer)?;
+    Releases::write_root(releases.len(), root, writer)
+}
+
+#[test]
+fn versions_are_archived_and_read(rt: HostRuntime) -> Result<(), Fail> {
+    let releases = [
+        (version(0, 9, 1), 2019),
+        (version(1, 0, 0), 2020),
+        (version(1, 2, 10), 2023),
+    ];
+    let mut writer = VecWriter::new(rt.alloc());
+    let pos = archive(&rt, rt.alloc(), &releases, &mut writer)?;
+    assert!(rt; layout::fits::<ArchivedVersion, ArchivedU32, 2>());
+    let opened = access::<ArchivedVersion, ArchivedU32, 2>(writer.bytes(), pos);
+    let map = opened.expect(&rt, "a map");
+    let mut left = releases.as_slice();
+    for (key, year) in map.iter() {
+        let (first, rest) = left.split_first().ok_or("too many entries")?;
+        assert_eq!(rt; (key.to_native(), year.to_native()), *first);
+        let made = ArchivedVersion::deserialize(rt.alloc(), &key)?;
+        assert_eq!(rt; made, first.0);
+        left = rest;
+    }
+    assert!(rt; left.is_empty());
+    Ok(())
+}
+
+// A leaf of one entry: its kind, both keys, padding, both values, the length and the map.
+#[test]
+fn a_version_takes_three_bytes(rt: HostRuntime) -> Result<(), Fail> {
+    let mut writer = VecWriter::new(rt.alloc());
+    let pos = archive(&rt, rt.alloc(), &[(version(1, 2, 3), 9)], &mut writer)?;
+    let want = [
+        0, 1, 2, 3, 0, 0, 0, 0, 9, 0, 0, 0, 0, 0, 0, 0, 1, 0, 0, 0, // leaf
+        0xEC, 0xFF, 0xFF, 0xFF, 1, 0, 0, 0, // map
+    ];
+    assert_eq!(rt; pos, 20);
+    assert_eq!(rt; writer.bytes(), want.as_slice());
+    Ok(())
+}
+
+#[test]
+fn no_version_is_refused_when_it_is_archived(rt: HostRuntime) -> Result<(), Fail> {
+    let mut writer = VecWriter::from_vec([0xAA].to_vec(rt.alloc())?);
+    let releases = [(version(0, 0, 1), 1), (version(0, 0, 0), 2)];
+    let refused = archive(&rt, rt.alloc(), &releases, &mut writer);
+    let code = match refused {
+        Err(Fault::Entry(EntryFault { code })) => Some(code),
+        _ => None,
+    };
+    assert_eq!(rt; code, Some(NO_VERSION));
+    assert_eq!(rt; writer.bytes(), [0xAA].as_slice());
+    Ok(())
+}
+
+#[test]
+fn no_version_is_refused_when_it_is_read(rt: HostRuntime) {
+    assert!(rt; layout::fits::<ArchivedVersion, ArchivedU32, 2>());
+    let mut bytes = [
+        0, 0, 0, 1, 0, 0, 0, 0, 9, 0, 0, 0, 0, 0, 0, 0, 1, 0, 0, 0, // leaf
+        0xEC, 0xFF, 0xFF, 0xFF, 1, 0, 0, 0, // map
+    ];
+    assert!(rt; access::<ArchivedVersion, ArchivedU32, 2>(&bytes, 20).is_ok());
+    bytes[3] = 0;
+    let opened = access::<ArchivedVersion, ArchivedU32, 2>(&bytes, 20);
+    assert_eq!(rt; opened.err(), Some(Refusal::BadEntry { pos: 1 }));
+}
+
+/// What a hasher answers that was fed a value.
+fn hashed<T: Hash>(value: &T) -> u64 {
+    let mut state = DefaultHasher::new();
+    value.hash(&mut state);
+    state.finish()
+}
+
+#[test]
+fn views_of_versions_compare_as_versions(rt: HostRuntime) {
+    let bytes = [1, 2, 3, 1, 3, 0, 1, 2, 3, 2, 0, 0];
+    let versions = [
+        version(1, 2, 3),
+        version(1, 3, 0),
+        version(1, 2, 3),
+        version(2, 0, 0),
+    ];
+    for (i, left) in versions.iter().enumerate() {
+        let a = View::<ArchivedVersion>::check(&bytes, 3 * i as u32).expect(&rt, "a version");
+        assert_eq!(rt; hashed(&a), hashed(left));
+        for (j, right) in versions.iter().enumerate() {
+            let b = View::<ArchivedVersion>::check(&bytes, 3 * j as u32).expect(&rt, "a version");
+            assert_eq!(rt; a == b, left == right);
+            assert_eq!(rt; a.cmp(&b), left.cmp(right));
+        }
+    }
+}
+
+type Texts = ArchivedBTreeMap<ArchivedText, ArchivedU32, 2>;
+
+/// Each growth of building is refused in turn: the heap has room for one more of them from time to time.
+#[test]
+fn a_refused_growth_writes_nothing(rt: HostRuntime) -> Result<(), Fail> {
+    assert!(rt; layout::fits::<ArchivedText, ArchivedU32, 2>());
+    let texts = [
+        (String::from_str(rt.alloc(), "bar")?, 20u32),
+        (String::from_str(rt.alloc(), "bat")?, 80),
+        (String::from_str(rt.alloc(), "baz")?, 40),
+        (String::from_str(rt.alloc(), "foo")?, 10),
+    ];
+    for room in 0..1000 {
+        let heap = LocalHeap::new(rt.alloc(), 16 * room)?;
+        let mut writer = VecWriter::from_vec([0xAA].to_vec(rt.alloc())?);
+        let items = texts.iter().map(|entry| (&entry.0, &entry.1));
+        match Texts::serialize_from_ordered_iter(&heap, texts.len(), items, &mut writer) {
+            Ok(_) => {
+                assert!(rt; room >= 6);
+                return Ok(());
+            }
+            Err(Fault::Memory(_)) => {}
+            Err(fault) => return Err(fault.into()),
+        }
+        assert_eq!(rt; writer.bytes(), [0xAA].as_slice());
+        assert_eq!(rt; heap.used(), 0);
+    }
+    Err("no heap had room".into())
+}

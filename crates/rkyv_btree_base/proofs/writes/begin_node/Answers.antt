@@ -1,0 +1,32 @@
+use Rattle.std.proofs.Common.{◌∙◌, ◌+◌, ◌<◌, ℕ, map, refl, ap, sym, subst, arith}
+use Rattle.rkyv_btree_base.specs.Image.{padding}
+use Rattle.rkyv_btree_base.specs.Layout.{shape}
+use Rattle.rkyv_btree_base.specs.Rounding.{round_up}
+use Rattle.rkyv_btree_base.specs.Written.{IsPadded, in_padding, past_end, now_of}
+use Rattle.rkyv_btree_base.specs.Writing.{Wrote, Stopped, position, last_end}
+use Rattle.rkyv_btree_base.proofs.writes.begin_node.Goals as goal
+use Rattle.rkyv_btree_base.proofs.writes.begin_node.Goals.{then-pos-gt-LAST_END-via-then-pos-gt-LAST_END, then-pos-gt-LAST_END-via-else-pos-gt-LAST_END+then-from-pos}
+
+pub returns-in-Err-pad-clause-err : goal.returns-in-Err-pad-clause-err
+returns-in-Err-pad-clause-err g c image =
+    let mid = g.W.Writer.state c.serialize_entries.new.writer in
+    in_padding c.serialize_entries.new.keys.items c.serialize_entries.new.values.items mid c.in-Ok.ensures.ok (subst (λ (n : ℕ). Stopped mid (padding n (position mid)) c.in-Err-pad.fault (g.W.Writer.state c.pad.new.writer)) c.align.ensures.value c.in-Err-pad.ensures.err)
+
+pub returns-then-pos-gt-LAST_END-clause-err : goal.returns-then-pos-gt-LAST_END-clause-err
+returns-then-pos-gt-LAST_END-clause-err g c image =
+    let mid = g.W.Writer.state c.serialize_entries.new.writer in
+    let to = g.W.Writer.state c.pad.new.writer in
+    let keys = c.serialize_entries.new.keys.items in
+    let values = c.serialize_entries.new.values.items in
+    let padded : IsPadded (shape g.K.Portable.kind g.V.Portable.kind g.row.E) g.KU.Archive.archival g.VU.Archive.archival (g.W.Writer.state c.args.writer.now) (map now_of c.args.entries.now) keys values to = record {
+      mid = mid;
+      serialised = c.in-Ok.ensures.ok;
+      padded = subst (λ (n : ℕ). Wrote mid (padding n (position mid)) to) c.align.ensures.value c.in-Ok-pad.ensures.ok;
+      place = sym c.in-Ok-pad.ensures.end ∙ (c.in-Ok-pad.ensures.pos ∙ ap (round_up (position mid)) c.align.ensures.value);
+    } in
+    let past : last_end < position to + c.args.size =
+    elim c.then-pos-gt-LAST_END.branch [
+      | then-pos-gt-LAST_END-via-then-pos-gt-LAST_END w ↦ omega (arith, c.in-Ok-pad.ensures.end)
+      | then-pos-gt-LAST_END-via-else-pos-gt-LAST_END+then-from-pos w ↦ omega (arith, c.in-Ok-pad.ensures.end)
+    ] in
+    past_end keys values padded refl past
