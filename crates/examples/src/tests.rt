@@ -1,4 +1,4 @@
-//! Maps of versions, as a program archives and reads them.
+//! Maps of versions, as a program archives and reads them, and a map that is built in a heap of one's own.
 use crate::version::{ArchivedVersion, NO_VERSION, Version};
 use linked_list_allocator::LocalHeap;
 use rkyv_btree::base::fault::{EntryFault, Fault};
@@ -133,7 +133,7 @@ fn views_of_versions_compare_as_versions(rt: HostRuntime) {
 
 type Texts = ArchivedBTreeMap<ArchivedText, ArchivedU32, 2>;
 
-/// Each growth of building is refused in turn: the heap has room for one more of them from time to time.
+// The heap has room for one growth of building more from time to time, so each is the first to be refused.
 #[test]
 fn a_refused_growth_writes_nothing(rt: HostRuntime) -> Result<(), Fail> {
     assert!(rt; layout::fits::<ArchivedText, ArchivedU32, 2>());
