@@ -17,8 +17,6 @@ pub mod scalars;
 pub mod shape;
 pub mod signed;
 pub mod steps;
-#[cfg(test)]
-mod tests;
 pub mod text;
 mod tree;
 pub mod util;

@@ -1,0 +1,179 @@
+//! Entries as values.
+
+use rkyv_btree_base::archive::{Archive, Serialize};
+use rkyv_btree_base::check::{CheckBytes, Portable, Window};
+use rkyv_btree_base::layout;
+use rkyv_btree_base::map::ArchivedBTreeMap;
+use rkyv_btree_base::numbers::{ArchivedU16, ArchivedU32};
+use rkyv_btree_base::place::{Place, VecWriter};
+use rkyv_btree_base::refusal::Refusal;
+use rkyv_btree_base::text::ArchivedText;
+use rkyv_btree_base::util::{Entry, EntryAdapter, EntryResolver, value_offset};
+use std::marker::PhantomData;
+use std::test::Fail;
+
+type Flagged = Entry<ArchivedU32, bool>;
+
+#[test]
+fn entries_are_laid_out_as_in_c(rt: HostRuntime) {
+    assert!(rt; Entry::<u8, ArchivedU32>::fits());
+    assert_eq!(rt; Entry::<u8, ArchivedU32>::size(), 8);
+    assert_eq!(rt; Entry::<u8, ArchivedU32>::align(), 4);
+    assert_eq!(rt; value_offset::<u8, ArchivedU32>(), 4);
+    assert!(rt; Flagged::fits());
+    assert_eq!(rt; Flagged::size(), 8);
+    assert_eq!(rt; value_offset::<ArchivedU32, bool>(), 4);
+    assert!(rt; Entry::<bool, Flagged>::fits());
+    assert_eq!(rt; Entry::<bool, Flagged>::size(), 12);
+    assert_eq!(rt; value_offset::<bool, Flagged>(), 4);
+}
+
+#[test]
+fn entries_are_checked_by_themselves(rt: HostRuntime) {
+    let bytes = [7, 9, 9, 9, 1, 0, 0, 0, 2, 9, 9, 9, 2];
+    let window = Window { lo: 0, hi: 0 };
+    assert!(rt; Entry::<u8, ArchivedU32>::fits());
+    let numbers = |pos| Entry::<u8, ArchivedU32>::check(&bytes, pos, window);
+    assert_eq!(rt; numbers(0), Ok(window));
+    assert_eq!(rt; numbers(4), Ok(window));
+    assert_eq!(rt; numbers(2), Err(Refusal::Misaligned { pos: 2 }));
+    assert_eq!(rt; numbers(5), Err(Refusal::Misaligned { pos: 5 }));
+    assert_eq!(rt; numbers(6), Err(Refusal::OutOfRange { pos: 6 }));
+    assert_eq!(rt; numbers(8), Err(Refusal::OutOfRange { pos: 8 }));
+    assert!(rt; Flagged::fits());
+    let flagged = |pos| Flagged::check(&bytes, pos, window);
+    assert_eq!(rt; flagged(0), Ok(window));
+    assert_eq!(rt; flagged(4), Err(Refusal::BadEntry { pos: 8 }));
+    assert!(rt; Entry::<bool, bool>::fits());
+    let flags = |pos| Entry::<bool, bool>::check(&bytes, pos, window);
+    assert_eq!(rt; flags(5), Ok(window));
+    assert_eq!(rt; flags(7), Err(Refusal::BadEntry { pos: 8 }));
+    assert_eq!(rt; flags(8), Err(Refusal::BadEntry { pos: 8 }));
+    assert_eq!(rt; flags(12), Err(Refusal::OutOfRange { pos: 12 }));
+}
+
+#[test]
+fn a_part_of_a_part_is_refused_at_the_part(rt: HostRuntime) {
+    let bytes = [1, 0, 0, 0, 7, 0, 0, 0, 2, 0, 0, 0];
+    let window = Window { lo: 0, hi: 0 };
+    assert!(rt; Entry::<bool, Flagged>::fits());
+    let refused = Entry::<bool, Flagged>::check(&bytes, 0, window);
+    assert_eq!(rt; refused, Err(Refusal::BadEntry { pos: 4 }));
+}
+
+#[test]
+fn the_value_has_the_window_that_the_key_leaves(rt: HostRuntime) {
+    // "ab" and "c", and the entry of both at 4.
+    let mut bytes = [
+        97, 98, 99, 0, 252, 255, 255, 255, 2, 0, 0, 0, 246, 255, 255, 255, 1, 0, 0, 0,
+    ];
+    assert!(rt; Entry::<ArchivedText, ArchivedText>::fits());
+    let from = |lo, hi| Window { lo, hi };
+    let check = |bytes: &[u8], window| Entry::<ArchivedText, ArchivedText>::check(bytes, 4, window);
+    assert_eq!(rt; check(&bytes, from(0, 4)), Ok(from(3, 4)));
+    let bad_key = Err(Refusal::BadEntry { pos: 4 });
+    assert_eq!(rt; check(&bytes, from(1, 4)), bad_key);
+    let bad_value = Err(Refusal::BadEntry { pos: 12 });
+    assert_eq!(rt; check(&bytes, from(0, 2)), bad_value);
+    // The value begins with the key's last byte.
+    bytes[12] = 245;
+    assert_eq!(rt; check(&bytes, from(0, 4)), bad_value);
+}
+
+#[test]
+fn entries_compare_key_first(rt: HostRuntime) {
+    let entry = |key: u8, value: u8| Entry { key, value };
+    assert!(rt; entry(1, 9) < entry(2, 0));
+    assert!(rt; entry(1, 2) < entry(1, 3));
+    assert!(rt; entry(1, 1) == entry(1, 1));
+    assert!(rt; entry(1, 1) != entry(2, 1));
+    assert!(rt; entry(1, 1) != entry(1, 2));
+}
+
+#[test]
+fn parts_of_entries_have_names(rt: HostRuntime) -> Result<(), Fail> {
+    let told = format!(in rt.alloc();
+        "{:?}",
+        Entry {
+            key: 1u8,
+            value: true
+        }
+    )?;
+    assert_eq!(rt; told.as_str(), "Entry { key: 1, value: true }");
+    let (key, value) = (1u8, true);
+    let adapter = EntryAdapter::new(&key, &value);
+    assert_eq!(rt; (*adapter.key, *adapter.value), (1, true));
+    let resolver = EntryResolver { key, value };
+    assert_eq!(rt; (resolver.key, resolver.value), (1, true));
+    let told = format!(in rt.alloc(); "{resolver:?}")?;
+    assert_eq!(rt; told.as_str(), "EntryResolver { key: 1, value: true }");
+    Ok(())
+}
+
+#[test]
+fn an_entry_is_its_key_then_its_value(rt: HostRuntime) -> Result<(), Fail> {
+    let (key, value) = (1u8, 513u16);
+    let entry = EntryAdapter::new(&key, &value);
+    let mut writer = VecWriter::new(rt.alloc());
+    let resolver = entry
+        .serialize(rt.alloc(), &mut writer)
+        .expect(&rt, "numbers are always serialised");
+    assert!(rt; writer.bytes().is_empty());
+    assert!(rt; Entry::<u8, ArchivedU16>::fits());
+    assert_eq!(rt; Entry::<u8, ArchivedU16>::size(), 4);
+    let mut bytes = [0xFF; 4];
+    let out = Place {
+        pos: 0,
+        bytes: &mut bytes,
+        of: PhantomData,
+    };
+    assert!(rt; entry.resolve(resolver, out).is_ok());
+    assert_eq!(rt; bytes, [1, 0, 1, 2]);
+    Ok(())
+}
+
+type Nested = Entry<Entry<u8, ArchivedU16>, bool>;
+
+#[test]
+fn an_entry_of_an_entry_is_padded_behind_both(rt: HostRuntime) -> Result<(), Fail> {
+    let (key, value, flag) = (1u8, 513u16, true);
+    let inner = EntryAdapter::new(&key, &value);
+    let entry = EntryAdapter::new(&inner, &flag);
+    let mut writer = VecWriter::new(rt.alloc());
+    let resolver = entry
+        .serialize(rt.alloc(), &mut writer)
+        .expect(&rt, "numbers are always serialised");
+    assert!(rt; Nested::fits());
+    assert_eq!(rt; Nested::size(), 6);
+    let mut bytes = [0xFF; 6];
+    let out = Place {
+        pos: 4294967288,
+        bytes: &mut bytes,
+        of: PhantomData,
+    };
+    assert!(rt; entry.resolve(resolver, out).is_ok());
+    assert_eq!(rt; bytes, [1, 0, 1, 2, 1, 0]);
+    Ok(())
+}
+
+type Entries = ArchivedBTreeMap<ArchivedU32, Entry<u8, ArchivedU16>, 1>;
+
+#[test]
+fn entries_are_values_of_a_map(rt: HostRuntime) -> Result<(), Fail> {
+    let (key, value) = (1u8, 513u16);
+    let items = [(7u32, EntryAdapter::new(&key, &value))];
+    let mut writer = VecWriter::new(rt.alloc());
+    assert!(rt; layout::fits::<ArchivedU32, Entry<u8, ArchivedU16>, 1>());
+    let root = Entries::serialize_from_ordered_iter(
+        rt.alloc(),
+        1,
+        items.iter().map(|item| (&item.0, &item.1)),
+        &mut writer,
+    )?;
+    assert_eq!(rt; Entries::write_root(1, root, &mut writer)?, 16);
+    let want = [
+        0, 0, 0, 0, 7, 0, 0, 0, 1, 0, 1, 2, 1, 0, 0, 0, 0xF0, 0xFF, 0xFF, 0xFF, 1, 0, 0, 0,
+    ];
+    assert_eq!(rt; writer.bytes(), want.as_slice());
+    Ok(())
+}

@@ -1,0 +1,128 @@
+//! Values in their own bytes, and what is said of refused ones.
+
+use rkyv_btree_base::bytes::{num32, target};
+use rkyv_btree_base::check::{CheckBytes, InPlace, Window};
+use rkyv_btree_base::numbers::ArchivedU16;
+use rkyv_btree_base::place::{Place, RelPtr};
+use rkyv_btree_base::refusal::{EntriesLengthMismatch, InvalidLength, Refusal};
+use rkyv_btree_base::scalars::{ArchivedChar, ArchivedNonZeroU32};
+use rkyv_btree_base::signed::{ArchivedI16, ArchivedI32, ArchivedI64};
+use std::num::NonZeroU32;
+use std::test::Fail;
+
+#[test]
+fn pointers_are_written_and_read(rt: HostRuntime) {
+    let mut bytes = [9; 8];
+    let (front, back) = bytes.split_at_mut(4);
+    assert_eq!(rt; RelPtr::emplace(0, Place::new(48, front)), Ok(()));
+    RelPtr::emplace_invalid(Place::new(52, back));
+    assert_eq!(rt; bytes, [0xD0, 0xFF, 0xFF, 0xFF, 1, 0, 0, 0]);
+    assert_eq!(rt; num32(&bytes, 0), 0xFFFF_FFD0);
+    assert_eq!(rt; target(&bytes, 0), Some(-48));
+    assert_eq!(rt; target(&bytes, 4), None);
+}
+
+#[test]
+fn numbers_are_written_in_place(rt: HostRuntime) {
+    let mut bytes = [9; 20];
+    bool::write(true, &mut bytes[0..1]);
+    i8::write(-2, &mut bytes[1..2]);
+    ArchivedI16::write(-3, &mut bytes[2..4]);
+    ArchivedI32::write(-4, &mut bytes[4..8]);
+    ArchivedI64::write(-5, &mut bytes[8..16]);
+    ArchivedU16::write(0x0102, &mut bytes[16..18]);
+    assert_eq!(rt;
+        bytes,
+        [
+            1, 254, 253, 255, 252, 255, 255, 255, 251, 255, 255, 255, 255, 255, 255, 255, 2, 1, 9,
+            9
+        ]
+    );
+}
+
+#[test]
+fn characters_and_nothing_are_written_in_place(rt: HostRuntime) {
+    let mut bytes = [9; 9];
+    ArchivedChar::write('\u{10FFFF}', &mut bytes[0..4]);
+    ArchivedNonZeroU32::write(NonZeroU32::MIN, &mut bytes[4..8]);
+    <()>::write((), &mut bytes[8..8]);
+    assert_eq!(rt; bytes, [0xFF, 0xFF, 0x10, 0, 1, 0, 0, 0, 9]);
+}
+
+#[test]
+fn values_are_checked_by_themselves(rt: HostRuntime) {
+    let bytes = [0, 1, 2, 255, 255, 255, 255, 255];
+    let window = Window { lo: 0, hi: 0 };
+    assert_eq!(rt; bool::check(&bytes, 0, window), Ok(window));
+    assert_eq!(rt; bool::check(&bytes, 1, window), Ok(window));
+    let bad = Refusal::BadEntry { pos: 2 };
+    assert_eq!(rt; bool::check(&bytes, 2, window), Err(bad));
+    assert_eq!(rt; i8::check(&bytes, 2, window), Ok(window));
+    let odd = Refusal::Misaligned { pos: 1 };
+    assert_eq!(rt; ArchivedU16::check(&bytes, 1, window), Err(odd));
+    assert_eq!(rt; ArchivedI64::check(&bytes, 0, window), Ok(window));
+    let past = Refusal::OutOfRange { pos: 6 };
+    assert_eq!(rt; ArchivedI32::check(&bytes, 6, window), Err(past));
+    assert_eq!(rt; ArchivedI16::check(&bytes, 6, window), Ok(window));
+}
+
+#[test]
+fn the_empty_type_and_edges_of_others_are_checked(rt: HostRuntime) {
+    let window = Window { lo: 0, hi: 0 };
+    let bad = Err(Refusal::BadEntry { pos: 0 });
+    let codes = [
+        (0xD7FF, Ok(window)),
+        (0xD800, bad),
+        (0xDFFF, bad),
+        (0xE000, Ok(window)),
+        (0x10_FFFF, Ok(window)),
+        (0x11_0000, bad),
+    ];
+    for (code, answer) in codes {
+        let bytes = u32::to_le_bytes(code);
+        assert_eq!(rt; ArchivedChar::check(&bytes, 0, window), answer);
+    }
+    for (number, answer) in [(0, bad), (1, Ok(window)), (u32::MAX, Ok(window))] {
+        let bytes = u32::to_le_bytes(number);
+        assert_eq!(rt; ArchivedNonZeroU32::check(&bytes, 0, window), answer);
+    }
+    let past = Err(Refusal::OutOfRange { pos: 2 });
+    assert_eq!(rt; <()>::check(&[7], 1, window), Ok(window));
+    assert_eq!(rt; <()>::check(&[7], 2, window), past);
+}
+
+#[test]
+fn refusals_are_told(rt: HostRuntime) -> Result<(), Fail> {
+    let length = InvalidLength { len: 6, maximum: 5 };
+    let total = EntriesLengthMismatch { entries: 0, len: 1 };
+    let rows = [
+        (
+            Refusal::OutOfRange { pos: -1 },
+            "position -1 is out of range",
+        ),
+        (Refusal::Misaligned { pos: 2 }, "position 2 is misaligned"),
+        (
+            Refusal::BadKind { pos: 0, byte: 2 },
+            "position 0 holds kind 2, which is no node",
+        ),
+        (
+            Refusal::InvalidLength(length),
+            "Invalid length in B-tree node: len 6 was greater than maximum 5",
+        ),
+        (Refusal::BadEntry { pos: 4 }, "entry at position 4 is bad"),
+        (
+            Refusal::TooDeep { pos: 0 },
+            "node at position 0 is deeper than 32 levels",
+        ),
+        (
+            Refusal::EntriesLengthMismatch(total),
+            "B-tree map claimed to have 1 entries, but actually had 0",
+        ),
+        (Refusal::TooLong, "buffer is longer than 4294967295 bytes"),
+    ];
+    for (refusal, text) in rows {
+        let told = format!(in rt.alloc(); "{refusal}")?;
+        assert_eq!(rt; told.as_str(), text);
+    }
+    Ok(())
+}
