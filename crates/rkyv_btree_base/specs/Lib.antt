@@ -31,3 +31,4 @@ pub mod Entry
 pub mod EntryArchival
 pub mod Claims
 pub mod TextArchival
+pub mod Determined

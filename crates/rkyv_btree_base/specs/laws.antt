@@ -20,3 +20,4 @@ pub mod TextLaws
 pub mod Archiving
 pub mod HeldNumbers
 pub mod TextArchived
+pub mod Determined

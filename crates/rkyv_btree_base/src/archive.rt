@@ -4,6 +4,7 @@ ghost use Rattle.std.specs.Int.{w8, w16, w32, w64, to_le_bytes};
 ghost use Rattle.std.specs.Int.NonZero.{non_zero_u32_get};
 ghost use Rattle.std.proofs.Math.Utf8.{scalar};
 ghost use Rattle.rkyv_btree_base.specs.Archiving.{Archival, Matches, IsArchived, IsUnresolved, IsUnserialised, itself, plain_archival};
+ghost use Rattle.rkyv_btree_base.specs.Determined.{IsDetermined};
 ghost use Rattle.rkyv_btree_base.specs.Kind.{Kind, IsLawful};
 ghost use Rattle.rkyv_btree_base.specs.Plain.{u8_kind, u16_kind, u32_kind, u64_kind, i8_kind, i16_kind, i32_kind, i64_kind, bool_kind, unit_kind, char_kind, non_zero_kind, u8_laws, u16_laws, u32_laws, u64_laws, i8_laws, i16_laws, i32_laws, i64_laws, bool_laws, unit_laws, char_laws, non_zero_laws};
 ghost use Rattle.rkyv_btree_base.specs.Writing.{Write, Wrote, position};
@@ -144,6 +145,11 @@ impl<W: Writer, A: Drop, T: Native> Serialize<W, A> for T {
         Ok(())
     }
 }
+
+/// What archiving a native value writes follows from the value.
+pub fn natives_are_determined<T: Native>()
+    ensures { IsDetermined (plain_archival T.plain_kind T.value T.IsIn T.plain_own) }
+{}
 
 impl Native for u8 {
     type Plain = u8;

@@ -1,6 +1,8 @@
 //! Archived text.
 ghost use Rattle.std.specs.Prelude.{◌≡◌, ℕ, ◌+◌, ◌≤◌, ◌<◌, length, string_bytes, IfSome, IfNone, OnOk, IfErr, IsErrOf, ◌↔◌};
+ghost use Rattle.std.specs.declared.alloc.Global.{Global};
 ghost use Rattle.rkyv_btree_base.specs.Archiving.{IsUnresolved, itself};
+ghost use Rattle.rkyv_btree_base.specs.Determined.{IsDetermined};
 ghost use Rattle.rkyv_btree_base.specs.Pointers.{FitsOffset};
 ghost use Rattle.rkyv_btree_base.specs.Refusing.{RefusesWhole};
 ghost use Rattle.rkyv_btree_base.specs.Text.{IsTextRange, text_kind};
@@ -135,3 +137,8 @@ impl<W: Writer, A: Drop> Serialize<W, A> for String {
         }
     }
 }
+
+/// What archiving a text writes follows from the text, its position and the place.
+pub fn texts_are_determined()
+    ensures { IsDetermined (text_archival (string_bytes {Z = Global})) }
+{}

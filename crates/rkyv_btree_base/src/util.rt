@@ -1,6 +1,7 @@
 //! A key with its value.
 ghost use Rattle.std.specs.Prelude.{◌≡◌, ◌+◌, ◌≤◌, ◌<◌, ◌^◌, length, IsTrue, OnOk, IfErr};
 ghost use Rattle.rkyv_btree_base.specs.Archiving.{IsUnresolved};
+ghost use Rattle.rkyv_btree_base.specs.Determined.{IsDetermined};
 ghost use Rattle.rkyv_btree_base.specs.EntryArchival.{EntryResolves, entry_archival};
 ghost use Rattle.rkyv_btree_base.specs.Entry.{value_offset, entry_size, entry_kind, RefusesEntry};
 ghost use Rattle.rkyv_btree_base.specs.laws.EntryLaws.{entry_laws, entry_refusals};
@@ -157,3 +158,8 @@ impl<'r, W: Writer, A: Copy, KU: Serialize<W, A>, VU: Serialize<W, A>> Serialize
         Ok(EntryResolver { key, value })
     }
 }
+
+/// Where what archiving a key and a value writes follows from each and from positions, so does what both write.
+pub fn entries_are_determined<KU: Archive, VU: Archive>()
+    ensures { IsDetermined KU.archival → IsDetermined VU.archival → IsDetermined (entry_archival KU.archival VU.archival) }
+{}

@@ -1,0 +1,5 @@
+use Rattle.rkyv_btree_base.specs.laws.Determined.{own_determined}
+use Rattle.rkyv_btree_base.proofs.archive.natives_are_determined.Goals as goal
+
+pub returns : goal.returns
+returns g c = own_determined _ _ _ _ _
