@@ -3,14 +3,20 @@ use Rattle.std.specs.Prelude.{◌≡◌, ℕ, List}
 use Rattle.rkyv_btree_base.specs.Archiving.{Archival}
 use Rattle.rkyv_btree_base.specs.Layout.{Shape}
 use Rattle.rkyv_btree_base.specs.Serialising.{Built}
-use Rattle.rkyv_btree_base.specs.Writing.{Writing, Write}
+use Rattle.rkyv_btree_base.specs.Writing.{Writing, position, Appended, Write}
 
 -- a value and a position determine its writes and what serialising tells, and this and a place its own bytes
 pub record IsDetermined {X R : Type 0} (T : Archival X R) : Type 0 where
   pub serialised : (x : X) (from : ℕ) (writes others : List Write) (r q : R) → T.Writes x from writes r → T.Writes x from others q → (writes ≡ others) × (r ≡ q)
   pub resolved : (x : X) (r : R) (at : ℕ) (own other : List ℕ) → T.Resolves x r at own → T.Resolves x r at other → own ≡ other
 
--- from one state the tree of a list leads to one state, with one root
-abbrev pub BuildsOne : {M N R S : Type 0} → Shape → Archival M R → Archival N S → Type 0
-BuildsOne {M} {N} s K V =
-    (from to other : Writing) (xs : List (M × N)) (root place : ℕ) → Built s K V from xs root to → Built s K V from xs place other → (root ≡ place) × (to ≡ other)
+-- what leads from one state to another, and what leads from a third to a fourth, appends the same bytes
+pub record AppendAlike (from to start end : Writing) : Type 0 where
+  pub bytes : List ℕ
+  pub first : Appended from bytes to
+  pub second : Appended start bytes end
+
+-- from one position, one list appends the same bytes by every writer, and has the same root
+abbrev pub BuildsAlike : {M N R S : Type 0} → Shape → Archival M R → Archival N S → Type 0
+BuildsAlike {M} {N} s K V =
+    (from to start end : Writing) (xs : List (M × N)) (root place : ℕ) → position from ≡ position start → Built s K V from xs root to → Built s K V start xs place end → (root ≡ place) × AppendAlike from to start end

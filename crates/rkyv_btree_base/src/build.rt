@@ -2,7 +2,7 @@
 ghost use Rattle.std.specs.Prelude.{◌≡◌, ℕ, ◌+◌, ◌*◌, ◌<◌, ◌≤◌, ◌↔◌, [], length, true, false, vec_capacity, IsOk, OnOk, OnErr, IfOk, IfErr, IsErrOf, IsTrue};
 ghost use Rattle.std.specs.Iterator.{Yields, Drains, IsFinite, UpTo, size};
 ghost use Rattle.rkyv_btree_base.specs.Archives.{SerialisedIsAccepted, EmptyIsAccepted};
-ghost use Rattle.rkyv_btree_base.specs.Determined.{IsDetermined, BuildsOne};
+ghost use Rattle.rkyv_btree_base.specs.Determined.{IsDetermined, BuildsAlike};
 ghost use Rattle.rkyv_btree_base.specs.Image.{root_bytes, root_reaches, root_image};
 ghost use Rattle.rkyv_btree_base.specs.Layout.{shape, are_fitting};
 ghost use Rattle.rkyv_btree_base.specs.Logarithm.{ilog};
@@ -267,8 +267,8 @@ pub fn archives_are_accepted<K: Portable, V: Portable, const E: usize>()
     ensures none { EmptyIsAccepted K.kind V.kind E }
 {}
 
-/// Where what archiving keys and values writes follows from them and from positions, one list gives one tree, byte for
-/// byte.
+/// Where what archiving keys and values writes follows from them and from positions, two builds of one list from one
+/// position append the same bytes, whatever the writers, and have one root.
 pub fn trees_are_determined<KU: Archive, VU: Archive, const E: usize>()
-    ensures { IsDetermined KU.archival → IsDetermined VU.archival → BuildsOne (shape KU.Archived.kind VU.Archived.kind E) KU.archival VU.archival }
+    ensures { IsDetermined KU.archival → IsDetermined VU.archival → BuildsAlike (shape KU.Archived.kind VU.Archived.kind E) KU.archival VU.archival }
 {}
