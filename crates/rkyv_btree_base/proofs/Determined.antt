@@ -1,5 +1,5 @@
 -- Where archiving keys and values is a function, so is the writing of nodes and trees.
-use Rattle.std.proofs.Common.{◌≡◌, ℕ, ◌+◌, List, [], ◌∷◌, ◌++◌, length, map, Option, Some, unwrap_or, refl, sym, ap, subst, ◌∙◌, arith}
+use Rattle.std.proofs.Common.{◌≡◌, ℕ, ◌+◌, List, [], ◌∷◌, ◌++◌, map, Option, Some, unwrap_or, refl, sym, ap, subst, ◌∙◌, arith}
 use Rattle.rkyv_btree_base.specs.Archiving.{Archival}
 use Rattle.rkyv_btree_base.specs.Determined.{IsDetermined, BuildsAlike}
 use Rattle.rkyv_btree_base.specs.Image.{leaf_image, inner_image}

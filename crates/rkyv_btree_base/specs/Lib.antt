@@ -32,3 +32,4 @@ pub mod EntryArchival
 pub mod Claims
 pub mod TextArchival
 pub mod Determined
+pub mod Scratch

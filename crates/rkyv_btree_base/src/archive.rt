@@ -404,10 +404,7 @@ impl Native for NonZeroU32 {
 
     ghost IsIn = { λ x. non_zero_u32_get x < 2 ^ 32 };
 
-    fn is_in(self) {
-        // The type of the number says how large it may be.
-        let _number = self.get();
-    }
+    fn is_in(self) {}
 
     ghost same_plain = { itself non_zero_kind };
 

@@ -17,7 +17,7 @@ use crate::layout;
 use crate::map::ArchivedBTreeMap;
 use crate::place::{Place, Writer, write_offset};
 use crate::tree::{push, write_child};
-use crate::writes::{LAST_END, pad, put};
+use crate::writes::{LAST_END, Scratch, pad, put};
 use std::alloc::{AllocError, Allocator};
 use std::collections::VecDeque;
 use std::marker::Model;
@@ -95,13 +95,13 @@ where
     ensures err { IfErr result (λ fault. Refusal K.kind V.kind E KU.archival VU.archival I.next_gives iter len (W.state writer.old) fault (W.state writer.new)) }
 {
     let waiting = waiting::<K, V, E>(len);
-    let Ok(mut node) = Vec::with_capacity(alloc, layout::inner_size::<K, V, E>() as usize) else {
+    let Ok(node) = Vec::with_capacity(alloc, layout::inner_size::<K, V, E>() as usize) else {
         return Err(Fault::Memory(AllocError));
     };
-    let Ok(mut keys) = VecDeque::with_capacity(alloc, E) else {
+    let Ok(keys) = VecDeque::with_capacity(alloc, E) else {
         return Err(Fault::Memory(AllocError));
     };
-    let Ok(mut values) = VecDeque::with_capacity(alloc, E) else {
+    let Ok(values) = VecDeque::with_capacity(alloc, E) else {
         return Err(Fault::Memory(AllocError));
     };
     let Ok(mut entries) = Vec::with_capacity(alloc, waiting) else {
@@ -121,9 +121,7 @@ where
     }
     let root = write_child::<KU, VU, K, V, W, A, E>(
         alloc,
-        &mut node,
-        &mut keys,
-        &mut values,
+        &mut Scratch { node, keys, values },
         &mut entries,
         &mut children,
         &items,

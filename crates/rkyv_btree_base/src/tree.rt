@@ -1,9 +1,9 @@
 //! Writing a tree by plain recursion over the sizes of its subtrees.
 ghost use Rattle.std.specs.Prelude.{◌≡◌, ◌+◌, ◌*◌, ◌-◌, ◌^◌, ◌≤◌, ◌<◌, [], ◌∷◌, ◌++◌, length, map, vec_len, vec_capacity, OnOk, IfOk, IfErr, IsTrue};
-ghost use Rattle.std.specs.VecDeque.{deque_capacity};
-ghost use Rattle.rkyv_btree_base.specs.Layout.{shape, are_fitting, inner_size};
+ghost use Rattle.rkyv_btree_base.specs.Layout.{shape, are_fitting};
 ghost use Rattle.rkyv_btree_base.specs.Logarithm.{ilog};
 ghost use Rattle.rkyv_btree_base.specs.Plan.{planned_alone};
+ghost use Rattle.rkyv_btree_base.specs.Scratch.{IsFree};
 ghost use Rattle.rkyv_btree_base.specs.Writing.{position, last_end};
 ghost use Rattle.rkyv_btree_base.specs.Written.{ChildWritten, ChildStopped, now_of};
 
@@ -12,9 +12,8 @@ use crate::check::Portable;
 use crate::fault::Fault;
 use crate::layout;
 use crate::place::Writer;
-use crate::writes::{write_inner, write_leaf};
+use crate::writes::{Scratch, write_inner, write_leaf};
 use std::alloc::Allocator;
-use std::collections::VecDeque;
 
 /// Appends a value for which there is room.
 pub(crate) fn push<T: Drop, A: Allocator>(values: &mut Vec<T, A>, value: T)
@@ -41,13 +40,10 @@ fn child_base<const E: usize>(entries: usize) -> usize
 }
 
 /// Writes the tree of these entries with what they write, and answers where its root node stands; nothing for no
-/// entries. `node` has room for each node, `keys` and `values` for the resolvers of one, and `waiting` and `children`
-/// for what waits on each level until a node's children are written.
+/// entries. `waiting` and `children` have room for what waits on each level until a node's children are written.
 pub(crate) fn write_child<'x, KU, VU, K, V, W, A, const E: usize>(
     alloc: A,
-    node: &mut Vec<u8, A>,
-    keys: &mut VecDeque<KU::Resolver, A>,
-    values: &mut VecDeque<VU::Resolver, A>,
+    scratch: &mut Scratch<KU::Resolver, VU::Resolver, A>,
     waiting: &mut Vec<(&'x KU, &'x VU), A>,
     children: &mut Vec<Option<u32>, A>,
     items: &[(&'x KU, &'x VU)],
@@ -62,24 +58,21 @@ where
     A: Allocator + Copy,
     requires fitting { IsTrue (are_fitting K.kind V.kind E) }
     requires count { length items.now ≤ 4294967295 }
-    requires no_keys { keys.old.items ≡ [] }
-    requires no_values { values.old.items ≡ [] }
-    requires key_room { E ≤ deque_capacity keys.old }
-    requires value_room { E ≤ deque_capacity values.old }
-    requires node_room { inner_size (shape K.kind V.kind E) ≤ vec_capacity node.old }
+    requires free { IsFree (shape K.kind V.kind E) scratch.old }
     requires waiting_room { vec_len waiting.old + E * ilog (E + 1) (length items.now) ≤ vec_capacity waiting.old }
     requires child_room { vec_len children.old + E * ilog (E + 1) (length items.now) ≤ vec_capacity children.old }
     ensures ok { IfOk result (λ root. ChildWritten (shape K.kind V.kind E) KU.archival VU.archival (W.state writer.old) (planned_alone E (map now_of items.now)) root (W.state writer.new)) }
     ensures err { IfErr result (λ fault. ChildStopped (shape K.kind V.kind E) KU.archival VU.archival (W.state writer.old) (planned_alone E (map now_of items.now)) fault (W.state writer.new)) }
     ensures last { OnOk result (0 < length items.now → position (W.state writer.new) ≤ last_end) }
-    ensures kept { OnOk result ((keys.new.items ≡ []) × (values.new.items ≡ []) × (waiting.new.items ≡ waiting.old.items) × (children.new.items ≡ children.old.items)) }
-    ensures room { (vec_capacity node.old ≤ vec_capacity node.new) × (deque_capacity keys.old ≤ deque_capacity keys.new) × (deque_capacity values.old ≤ deque_capacity values.new) × (vec_capacity waiting.old ≤ vec_capacity waiting.new) × (vec_capacity children.old ≤ vec_capacity children.new) }
+    ensures free { OnOk result (IsFree (shape K.kind V.kind E) scratch.new) }
+    ensures kept { OnOk result ((waiting.new.items ≡ waiting.old.items) × (children.new.items ≡ children.old.items)) }
+    ensures room { (vec_capacity waiting.old ≤ vec_capacity waiting.new) × (vec_capacity children.old ≤ vec_capacity children.new) }
 {
     if items.is_empty() {
         return Ok(None);
     }
     if items.len() <= E {
-        let root = write_leaf::<KU, VU, K, V, W, A, E>(alloc, node, keys, values, items, writer)?;
+        let root = write_leaf::<KU, VU, K, V, W, A, E>(alloc, scratch, items, writer)?;
         return Ok(Some(root));
     }
     let first = waiting.len();
@@ -93,9 +86,7 @@ where
         let end = start + (base - 1 + taken);
         let child = write_child::<KU, VU, K, V, W, A, E>(
             alloc,
-            node,
-            keys,
-            values,
+            scratch,
             waiting,
             children,
             &items[start..end],
@@ -109,9 +100,7 @@ where
     }
     let last = write_child::<KU, VU, K, V, W, A, E>(
         alloc,
-        node,
-        keys,
-        values,
+        scratch,
         waiting,
         children,
         &items[start..],
@@ -119,9 +108,7 @@ where
     )?;
     let root = write_inner::<KU, VU, K, V, W, A, E>(
         alloc,
-        node,
-        keys,
-        values,
+        scratch,
         &waiting[first..],
         &children[first_child..],
         last,

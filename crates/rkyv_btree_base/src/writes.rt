@@ -5,6 +5,7 @@ ghost use Rattle.rkyv_btree_base.specs.Image.{padding, leaf_image, inner_image};
 ghost use Rattle.rkyv_btree_base.specs.InPlace.{OwnBytes};
 ghost use Rattle.rkyv_btree_base.specs.Layout.{shape, are_fitting, leaf_size, inner_size};
 ghost use Rattle.rkyv_btree_base.specs.Rounding.{round_up};
+ghost use Rattle.rkyv_btree_base.specs.Scratch.{IsFree};
 ghost use Rattle.rkyv_btree_base.specs.Writing.{Write, position, Appended, Wrote, Refused, Stopped, last_end};
 ghost use Rattle.rkyv_btree_base.specs.Written.{IsPadded, NodeWritten, NodeStopped, as_fault, now_of};
 
@@ -17,6 +18,14 @@ use crate::node::{fill_inner, fill_leaf};
 use crate::place::Writer;
 use std::alloc::Allocator;
 use std::collections::VecDeque;
+
+/// What writing a node takes: a list for its bytes, and lists of what resolving its keys and values needs.
+#[derive(Drop)]
+pub(crate) struct Scratch<R, S, A: Allocator> {
+    pub(crate) node: Vec<u8, A>,
+    pub(crate) keys: VecDeque<R, A>,
+    pub(crate) values: VecDeque<S, A>,
+}
 
 /// No write ends past this position.
 pub(crate) const LAST_END: u64 = 4294967295;
@@ -116,9 +125,7 @@ where
 /// Writes a leaf of these entries behind what they write, and answers its position.
 pub(crate) fn write_leaf<KU, VU, K, V, W, A, const E: usize>(
     alloc: A,
-    node: &mut Vec<u8, A>,
-    keys: &mut VecDeque<KU::Resolver, A>,
-    values: &mut VecDeque<VU::Resolver, A>,
+    scratch: &mut Scratch<KU::Resolver, VU::Resolver, A>,
     entries: &[(&KU, &VU)],
     writer: &mut W,
 ) -> Result<u32, Fault<W::Error>>
@@ -131,29 +138,35 @@ where
     A: Allocator + Copy,
     requires fitting { IsTrue (are_fitting K.kind V.kind E) }
     requires count { length entries.now ≤ E }
-    requires no_keys { keys.old.items ≡ [] }
-    requires no_values { values.old.items ≡ [] }
-    requires key_room { E ≤ deque_capacity keys.old }
-    requires value_room { E ≤ deque_capacity values.old }
-    requires room { leaf_size (shape K.kind V.kind E) ≤ vec_capacity node.old }
+    requires free { IsFree (shape K.kind V.kind E) scratch.old }
     ensures ok { IfOk result (λ root. NodeWritten (shape K.kind V.kind E) KU.archival VU.archival (leaf_image (shape K.kind V.kind E)) (leaf_size (shape K.kind V.kind E)) (W.state writer.old) (map now_of entries.now) root (W.state writer.new)) }
     ensures last { OnOk result (position (W.state writer.new) ≤ last_end) }
     ensures err { IfErr result (λ fault. NodeStopped (shape K.kind V.kind E) KU.archival VU.archival (leaf_image (shape K.kind V.kind E)) (leaf_size (shape K.kind V.kind E)) (W.state writer.old) (map now_of entries.now) fault (W.state writer.new)) }
-    ensures spent { OnOk result ((keys.new.items ≡ []) × (values.new.items ≡ [])) }
-    ensures room { (vec_capacity node.old ≤ vec_capacity node.new) × (deque_capacity keys.old ≤ deque_capacity keys.new) × (deque_capacity values.old ≤ deque_capacity values.new) }
+    ensures free { OnOk result (IsFree (shape K.kind V.kind E) scratch.new) }
 {
     let size = layout::leaf_size::<K, V, E>();
     let root = match begin_node::<KU, VU, K, V, W, A, E>(
-        alloc, size, entries, keys, values, writer,
+        alloc,
+        size,
+        entries,
+        &mut scratch.keys,
+        &mut scratch.values,
+        writer,
     ) {
         Ok(root) => root,
         Err(fault) => return Err(fault),
     };
-    match fill_leaf::<KU, VU, K, V, A, E>(node, root, entries, keys, values) {
+    match fill_leaf::<KU, VU, K, V, A, E>(
+        &mut scratch.node,
+        root,
+        entries,
+        &mut scratch.keys,
+        &mut scratch.values,
+    ) {
         Ok(()) => {}
         Err(fault) => return Err(fault_of(fault)),
     }
-    match put(writer, node.as_slice()) {
+    match put(writer, scratch.node.as_slice()) {
         Ok(()) => Ok(root),
         Err(fault) => Err(fault),
     }
@@ -163,9 +176,7 @@ where
 /// position.
 pub(crate) fn write_inner<KU, VU, K, V, W, A, const E: usize>(
     alloc: A,
-    node: &mut Vec<u8, A>,
-    keys: &mut VecDeque<KU::Resolver, A>,
-    values: &mut VecDeque<VU::Resolver, A>,
+    scratch: &mut Scratch<KU::Resolver, VU::Resolver, A>,
     entries: &[(&KU, &VU)],
     children: &[Option<u32>],
     last: Option<u32>,
@@ -181,29 +192,37 @@ where
     requires fitting { IsTrue (are_fitting K.kind V.kind E) }
     requires entries { length entries.now ≡ E }
     requires children { length children.now ≡ E }
-    requires no_keys { keys.old.items ≡ [] }
-    requires no_values { values.old.items ≡ [] }
-    requires key_room { E ≤ deque_capacity keys.old }
-    requires value_room { E ≤ deque_capacity values.old }
-    requires room { inner_size (shape K.kind V.kind E) ≤ vec_capacity node.old }
+    requires free { IsFree (shape K.kind V.kind E) scratch.old }
     ensures ok { IfOk result (λ root. NodeWritten (shape K.kind V.kind E) KU.archival VU.archival (λ at owns. inner_image (shape K.kind V.kind E) at owns (children.now ++ last ∷ [])) (inner_size (shape K.kind V.kind E)) (W.state writer.old) (map now_of entries.now) root (W.state writer.new)) }
     ensures last { OnOk result (position (W.state writer.new) ≤ last_end) }
     ensures err { IfErr result (λ fault. NodeStopped (shape K.kind V.kind E) KU.archival VU.archival (λ at owns. inner_image (shape K.kind V.kind E) at owns (children.now ++ last ∷ [])) (inner_size (shape K.kind V.kind E)) (W.state writer.old) (map now_of entries.now) fault (W.state writer.new)) }
-    ensures spent { OnOk result ((keys.new.items ≡ []) × (values.new.items ≡ [])) }
-    ensures room { (vec_capacity node.old ≤ vec_capacity node.new) × (deque_capacity keys.old ≤ deque_capacity keys.new) × (deque_capacity values.old ≤ deque_capacity values.new) }
+    ensures free { OnOk result (IsFree (shape K.kind V.kind E) scratch.new) }
 {
     let size = layout::inner_size::<K, V, E>();
     let root = match begin_node::<KU, VU, K, V, W, A, E>(
-        alloc, size, entries, keys, values, writer,
+        alloc,
+        size,
+        entries,
+        &mut scratch.keys,
+        &mut scratch.values,
+        writer,
     ) {
         Ok(root) => root,
         Err(fault) => return Err(fault),
     };
-    match fill_inner::<KU, VU, K, V, A, E>(node, root, entries, keys, values, children, last) {
+    match fill_inner::<KU, VU, K, V, A, E>(
+        &mut scratch.node,
+        root,
+        entries,
+        &mut scratch.keys,
+        &mut scratch.values,
+        children,
+        last,
+    ) {
         Ok(()) => {}
         Err(fault) => return Err(fault_of(fault)),
     }
-    match put(writer, node.as_slice()) {
+    match put(writer, scratch.node.as_slice()) {
         Ok(()) => Ok(root),
         Err(fault) => Err(fault),
     }

@@ -11,11 +11,6 @@ use Rattle.rkyv_btree_base.proofs.Rows.{turn-inside, turn-rest, drop-push, take-
 use Rattle.rkyv_btree_base.proofs.RowsWritten.{row-more, row-stopped, last-stopped, inner-stopped, inner-written, turn-so-far, last-so-far, so-far-as}
 use Rattle.rkyv_btree_base.proofs.tree.+write_child.Goals as goal
 
-pub write_leaf-requires-clause-room : goal.write_leaf-requires-clause-room
-write_leaf-requires-clause-room g t c =
-    let room = room_of _ _ g.row.E g.met.K.Portable.laws g.met.V.Portable.laws c.requires.fitting in
-    omega (arith, room.parts, c.requires.node_room)
-
 pub child_base-base-requires-clause-some : goal.child_base-base-requires-clause-some
 child_base-base-requires-clause-some g t c =
     let room = room_of _ _ g.row.E g.met.K.Portable.laws g.met.V.Portable.laws c.requires.fitting in
@@ -91,31 +86,27 @@ loop-left-preserved g t c =
     let size_is : size ≡ (base - 1) + took = omega arith in
     let waiting_low : c.len-first.result ≤ length c.loop-left.waiting.items = omega (arith, before.waiting_count, before.left) in
     let children_low : c.len-first_child.result ≤ length c.loop-left.children.items = omega (arith, before.child_count, before.left) in
-    let waiting_more : length c.push-in-loop-left.new.values.items ≡ length c.loop-left.waiting.items + 1 = length-pushed c.loop-left.waiting.items _ _ _ c.in_ok-child.ensures.kept.2 c.push-in-loop-left.ensures.items in
-    let children_more : length c.push.new.values.items ≡ length c.loop-left.children.items + 1 = length-pushed c.loop-left.children.items _ _ _ c.in_ok-child.ensures.kept.3 c.push.ensures.items in
+    let waiting_more : length c.push-in-loop-left.new.values.items ≡ length c.loop-left.waiting.items + 1 = length-pushed c.loop-left.waiting.items _ _ _ c.in_ok-child.ensures.kept.0 c.push-in-loop-left.ensures.items in
+    let children_more : length c.push.new.values.items ≡ length c.loop-left.children.items + 1 = length-pushed c.loop-left.children.items _ _ _ c.in_ok-child.ensures.kept.1 c.push.ensures.items in
     record {
       row =
           let more = row-more nodes g.KU.Archive.archival g.VU.Archive.archival c.in_ok-child.child
           (turn-so-far nodes g.KU.Archive.archival g.VU.Archive.archival own (planned_alone E) base (E * base) c.loop-left.on_last c.loop-left.left start size took end items _ c.loop-left-test.true c.min-taken.ensures size_is (omega arith) inside before.row)
           c.in_ok-child.ensures.ok in
           so-far-as nodes g.KU.Archive.archival g.VU.Archive.archival more
-          (ap (map own) (drop-push c.len-first.result c.loop-left.waiting.items c.push-in-loop-left.new.values.items _ _ waiting_low c.in_ok-child.ensures.kept.2 c.push-in-loop-left.ensures.items) ∙ map_push own _ _ ∙ ap (λ x. map own (drop c.len-first.result c.loop-left.waiting.items) ++ own x ∷ []) c.index-items-end.is)
-          (drop-push c.len-first_child.result c.loop-left.children.items c.push.new.values.items _ _ children_low c.in_ok-child.ensures.kept.3 c.push.ensures.items);
+          (ap (map own) (drop-push c.len-first.result c.loop-left.waiting.items c.push-in-loop-left.new.values.items _ _ waiting_low c.in_ok-child.ensures.kept.0 c.push-in-loop-left.ensures.items) ∙ map_push own _ _ ∙ ap (λ x. map own (drop c.len-first.result c.loop-left.waiting.items) ++ own x ∷ []) c.index-items-end.is)
+          (drop-push c.len-first_child.result c.loop-left.children.items c.push.new.values.items _ _ children_low c.in_ok-child.ensures.kept.1 c.push.ensures.items);
       left = omega arith;
       rest = turn-rest (length items) start c.loop-left.left base c.loop-left.on_last took before.rest c.loop-left-test.true c.child_base-base.ensures.positive few;
       on_last = less_on_last c.loop-left.left c.loop-left.on_last (E * base) took c.min-taken.ensures c.loop-left-test.true before.on_last;
       passed = omega (arith, before.passed, c.loop-left-test.true);
-      waiting = take-push c.len-first.result c.loop-left.waiting.items c.push-in-loop-left.new.values.items _ _ _ waiting_low c.in_ok-child.ensures.kept.2 c.push-in-loop-left.ensures.items before.waiting;
-      children = take-push c.len-first_child.result c.loop-left.children.items c.push.new.values.items _ _ _ children_low c.in_ok-child.ensures.kept.3 c.push.ensures.items before.children;
+      waiting = take-push c.len-first.result c.loop-left.waiting.items c.push-in-loop-left.new.values.items _ _ _ waiting_low c.in_ok-child.ensures.kept.0 c.push-in-loop-left.ensures.items before.waiting;
+      children = take-push c.len-first_child.result c.loop-left.children.items c.push.new.values.items _ _ _ children_low c.in_ok-child.ensures.kept.1 c.push.ensures.items before.children;
       waiting_count = omega (arith, waiting_more, before.waiting_count);
       child_count = omega (arith, children_more, before.child_count);
-      no_keys = c.in_ok-child.ensures.kept.0;
-      no_values = c.in_ok-child.ensures.kept.1;
-      key_room = omega (arith, before.key_room, c.in_ok-child.ensures.room.1);
-      value_room = omega (arith, before.value_room, c.in_ok-child.ensures.room.2);
-      node_room = omega (arith, before.node_room, c.in_ok-child.ensures.room.0);
-      waiting_room = omega (arith, before.waiting_room, c.in_ok-child.ensures.room.3, c.push-in-loop-left.ensures.capacity);
-      child_room = omega (arith, before.child_room, c.in_ok-child.ensures.room.4, c.push.ensures.capacity);
+      free = c.in_ok-child.ensures.free;
+      waiting_room = omega (arith, before.waiting_room, c.in_ok-child.ensures.room.0, c.push-in-loop-left.ensures.capacity);
+      child_room = omega (arith, before.child_room, c.in_ok-child.ensures.room.1, c.push.ensures.capacity);
     }
 
 pub returns-in_err-last-clause-err : goal.returns-in_err-last-clause-err
@@ -149,8 +140,8 @@ returns-in_err-root-2-clause-err g t c =
     let inner_is = alone_inner E base own items room.some c.if-items.false c.child_base-base.ensures.value in
     let so_far = last-so-far nodes g.KU.Archive.archival g.VU.Archive.archival own (planned_alone E) base (E * base) c.loop-left.on_last c.loop-left.left start items c.loop-left-test.false before.row in
     let here = so-far-as nodes g.KU.Archive.archival g.VU.Archive.archival so_far
-    (ap (map own) (take_rest c.deref.result.now c.len-first.result ∙ ap (drop c.len-first.result) (c.deref.ensures.value ∙ c.in_ok-last.ensures.kept.2)))
-    (take_rest c.deref-2.result.now c.len-first_child.result ∙ ap (drop c.len-first_child.result) (c.deref-2.ensures.value ∙ c.in_ok-last.ensures.kept.3)) in
+    (ap (map own) (take_rest c.deref.result.now c.len-first.result ∙ ap (drop c.len-first.result) (c.deref.ensures.value ∙ c.in_ok-last.ensures.kept.0)))
+    (take_rest c.deref-2.result.now c.len-first_child.result ∙ ap (drop c.len-first_child.result) (c.deref-2.ensures.value ∙ c.in_ok-last.ensures.kept.1)) in
     let p = err_from_is_err_and c.from_residual-in_err-root-2.result c.from_residual-in_err-root-2.ensures.1 in
     rw (p.1, p.2) (subst (λ z. ChildStopped nodes g.KU.Archive.archival g.VU.Archive.archival s z c.in_err-root-2.field-0.0 (g.W.Writer.state c.write_inner.new.writer)) (sym inner_is)
     (inner-stopped nodes g.KU.Archive.archival g.VU.Archive.archival c.in_ok-last.last here c.in_ok-last.ensures.ok c.in_err-root-2.ensures.err))
@@ -169,8 +160,8 @@ returns-clause-ok g t c =
     let inner_is = alone_inner E base own items room.some c.if-items.false c.child_base-base.ensures.value in
     let so_far = last-so-far nodes g.KU.Archive.archival g.VU.Archive.archival own (planned_alone E) base (E * base) c.loop-left.on_last c.loop-left.left start items c.loop-left-test.false before.row in
     let here = so-far-as nodes g.KU.Archive.archival g.VU.Archive.archival so_far
-    (ap (map own) (take_rest c.deref.result.now c.len-first.result ∙ ap (drop c.len-first.result) (c.deref.ensures.value ∙ c.in_ok-last.ensures.kept.2)))
-    (take_rest c.deref-2.result.now c.len-first_child.result ∙ ap (drop c.len-first_child.result) (c.deref-2.ensures.value ∙ c.in_ok-last.ensures.kept.3)) in
+    (ap (map own) (take_rest c.deref.result.now c.len-first.result ∙ ap (drop c.len-first.result) (c.deref.ensures.value ∙ c.in_ok-last.ensures.kept.0)))
+    (take_rest c.deref-2.result.now c.len-first_child.result ∙ ap (drop c.len-first_child.result) (c.deref-2.ensures.value ∙ c.in_ok-last.ensures.kept.1)) in
     subst (λ z. ChildWritten nodes g.KU.Archive.archival g.VU.Archive.archival s z (Some c.in_ok-root-2.root) (g.W.Writer.state c.write_inner.new.writer)) (sym inner_is)
     (inner-written nodes g.KU.Archive.archival g.VU.Archive.archival c.in_ok-last.last c.in_ok-root-2.root here c.in_ok-last.ensures.ok c.in_ok-root-2.ensures.ok)
 
@@ -187,7 +178,7 @@ push-requires g t c =
     let size = end - start in
     let size_is : size ≡ (base - 1) + took = omega arith in
     let wait = waiting E (length items) size base room.some c.if-items.false c.child_base-base.ensures.value (subst (λ n. n < base * (E + 1)) (sym size_is) (child_small base E c.loop-left.on_last took c.min-taken.ensures c.child_base-base.ensures.positive)) in
-    omega (arith, wait, before.child_count, before.left, before.child_room, c.requires.child_room, ap length c.in_ok-child.ensures.kept.3, c.in_ok-child.ensures.room.4, c.loop-left-test.true)
+    omega (arith, wait, before.child_count, before.left, before.child_room, c.requires.child_room, ap length c.in_ok-child.ensures.kept.1, c.in_ok-child.ensures.room.1, c.loop-left-test.true)
 
 pub bounds-items-end : goal.bounds-items-end
 bounds-items-end g t c =
@@ -214,7 +205,7 @@ push-requires-in-loop-left g t c =
     let size = end - start in
     let size_is : size ≡ (base - 1) + took = omega arith in
     let wait = waiting E (length items) size base room.some c.if-items.false c.child_base-base.ensures.value (subst (λ n. n < base * (E + 1)) (sym size_is) (child_small base E c.loop-left.on_last took c.min-taken.ensures c.child_base-base.ensures.positive)) in
-    omega (arith, wait, before.waiting_count, before.left, before.waiting_room, c.requires.waiting_room, ap length c.in_ok-child.ensures.kept.2, c.in_ok-child.ensures.room.3, c.loop-left-test.true)
+    omega (arith, wait, before.waiting_count, before.left, before.waiting_room, c.requires.waiting_room, ap length c.in_ok-child.ensures.kept.0, c.in_ok-child.ensures.room.0, c.loop-left-test.true)
 
 pub write_child-requires : goal.write_child-requires
 write_child-requires g t c κs within =
@@ -234,7 +225,7 @@ write_child-requires g t c κs within =
     let len : length part ≡ (base - 1) + took = omega (arith, length-take size (drop start items), length-drop start items, inside, size_is) in
     let small : length part < base * (E + 1) = subst (λ n. n < base * (E + 1)) (sym len) (child_small base E c.loop-left.on_last took c.min-taken.ensures c.child_base-base.ensures.positive) in
     let wait = waiting E (length items) (length part) base room.some c.if-items.false c.child_base-base.ensures.value small in
-    (omega (arith, len, inside), (within.0, (within.1.0, (within.1.1.0, (within.1.1.1.0, (within.1.1.1.1.0, (within.1.1.1.1.1.0, (λ a m. absurd (not-mem-nil m), (within.1.1.1.1.1.1.0, (within.1.1.1.1.1.1.1.0, (within.1.1.1.1.1.1.1.1, (c.requires.fitting, (omega (arith, len, inside, c.requires.count), (before.no_keys, (before.no_values, (omega (arith, before.key_room, c.requires.key_room), (omega (arith, before.value_room, c.requires.value_room), (omega (arith, before.node_room, c.requires.node_room), (omega (arith, wait, before.waiting_count, before.waiting_room, c.requires.waiting_room, c.loop-left-test.true), omega (arith, wait, before.child_count, before.child_room, c.requires.child_room, c.loop-left-test.true))))))))))))))))))))
+    (omega (arith, len, inside), (within.0, (within.1.0, (within.1.1.0, (within.1.1.1.0, (within.1.1.1.1.0, (within.1.1.1.1.1.0, (λ a m. absurd (not-mem-nil m), (within.1.1.1.1.1.1.0, (within.1.1.1.1.1.1.1.0, (within.1.1.1.1.1.1.1.1, (c.requires.fitting, (omega (arith, len, inside, c.requires.count), (before.free, (omega (arith, wait, before.waiting_count, before.waiting_room, c.requires.waiting_room, c.loop-left-test.true), omega (arith, wait, before.child_count, before.child_room, c.requires.child_room, c.loop-left-test.true))))))))))))))))
 
 pub write_child-requires-2 : goal.write_child-requires-2
 write_child-requires-2 g t c κs within =
@@ -251,4 +242,4 @@ write_child-requires-2 g t c κs within =
     let passed : 0 < start = omega (arith, before.passed, c.loop-left-test.false, room.some) in
     let small : length part < base * (E + 1) = omega (arith, len, rest, fits, c.child_base-base.ensures.positive) in
     let wait = waiting E (length items) (length part) base room.some c.if-items.false c.child_base-base.ensures.value small in
-    (omega (arith, len, passed), (within.0, (within.1.0, (within.1.1.0, (within.1.1.1.0, (within.1.1.1.1.0, (within.1.1.1.1.1.0, (λ a m. absurd (not-mem-nil m), (within.1.1.1.1.1.1.0, (within.1.1.1.1.1.1.1.0, (within.1.1.1.1.1.1.1.1, (c.requires.fitting, (omega (arith, len, passed, c.requires.count), (before.no_keys, (before.no_values, (omega (arith, before.key_room, c.requires.key_room), (omega (arith, before.value_room, c.requires.value_room), (omega (arith, before.node_room, c.requires.node_room), (omega (arith, wait, before.waiting_count, before.waiting_room, c.requires.waiting_room, c.loop-left-test.false), omega (arith, wait, before.child_count, before.child_room, c.requires.child_room, c.loop-left-test.false))))))))))))))))))))
+    (omega (arith, len, passed), (within.0, (within.1.0, (within.1.1.0, (within.1.1.1.0, (within.1.1.1.1.0, (within.1.1.1.1.1.0, (λ a m. absurd (not-mem-nil m), (within.1.1.1.1.1.1.0, (within.1.1.1.1.1.1.1.0, (within.1.1.1.1.1.1.1.1, (c.requires.fitting, (omega (arith, len, passed, c.requires.count), (before.free, (omega (arith, wait, before.waiting_count, before.waiting_room, c.requires.waiting_room, c.loop-left-test.false), omega (arith, wait, before.child_count, before.child_room, c.requires.child_room, c.loop-left-test.false))))))))))))))))

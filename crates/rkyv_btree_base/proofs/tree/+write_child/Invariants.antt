@@ -1,7 +1,7 @@
-use Rattle.std.proofs.Common.{◌≡◌, ◌+◌, ◌*◌, ◌-◌, ◌≤◌, [], length, map, take, drop, vec_capacity}
-use Rattle.std.specs.VecDeque.{deque_capacity}
+use Rattle.std.proofs.Common.{◌≡◌, ◌+◌, ◌*◌, ◌-◌, ◌≤◌, length, map, take, drop, vec_capacity}
 use Rattle.rkyv_btree_base.specs.Layout.{shape}
 use Rattle.rkyv_btree_base.specs.Plan.{planned_alone, row_plan}
+use Rattle.rkyv_btree_base.specs.Scratch.{IsFree}
 use Rattle.rkyv_btree_base.specs.Written.{now_of}
 use Rattle.rkyv_btree_base.proofs.RowsWritten.{RowSoFar}
 use Rattle.rkyv_btree_base.proofs.tree.+write_child.Given as goal
@@ -25,11 +25,7 @@ invariant-loop-left g l =
       children : take l.first_child l.children.items ≡ l.fn.children.items;
       waiting_count : length l.waiting.items + l.left ≡ l.first + E;
       child_count : length l.children.items + l.left ≡ l.first_child + E;
-      no_keys : l.keys.items ≡ [];
-      no_values : l.values.items ≡ [];
-      node_room : vec_capacity l.fn.node ≤ vec_capacity l.node;
-      key_room : deque_capacity l.fn.keys ≤ deque_capacity l.keys;
-      value_room : deque_capacity l.fn.values ≤ deque_capacity l.values;
+      free : IsFree (shape g.K.Portable.kind g.V.Portable.kind E) l.scratch;
       waiting_room : vec_capacity l.fn.waiting ≤ vec_capacity l.waiting;
       child_room : vec_capacity l.fn.children ≤ vec_capacity l.children;
     }

@@ -70,3 +70,12 @@ returns-in-Err-put-clause-err g c =
     let fault = c.in-Err-put.fault in
     node_refused nodes g.KU.Archive.archival g.VU.Archive.archival from to (map now_of c.args.entries.now) c.begin_node.new.keys.items c.begin_node.new.values.items padded root made.0 place made.1 (λ at owns. inner_image nodes at owns roots) (inner_size nodes) write is
     fault t (subst (λ (bytes : List ℕ). Refused fault to (record { bytes = bytes; reaches = write.reaches }) t) (c.as_slice.ensures.value ∙ made.2) (c.in-Err-put.ensures.err write.reaches))
+
+pub returns-in-Ok-put-clause-free : goal.returns-in-Ok-put-clause-free
+returns-in-Ok-put-clause-free g c = record {
+  no_keys = c.in-Ok-fill_inner.ensures.spent.0;
+  no_values = c.in-Ok-fill_inner.ensures.spent.1;
+  key_room = omega (arith, c.requires.free.key_room, c.begin_node.ensures.key_room, c.fill_inner.ensures.key_room);
+  value_room = omega (arith, c.requires.free.value_room, c.begin_node.ensures.value_room, c.fill_inner.ensures.value_room);
+  node_room = omega (arith, c.requires.free.node_room, c.fill_inner.ensures.capacity);
+}

@@ -4,8 +4,14 @@ use Rattle.rkyv_btree_base.specs.InPlace.{OwnBytes}
 use Rattle.rkyv_btree_base.specs.Layout.{shape, leaf_size}
 use Rattle.rkyv_btree_base.specs.Written.{EntriesUnresolved, NodeStopped, in_own_bytes, now_of}
 use Rattle.rkyv_btree_base.specs.Writing.{Write, Appended, Refused}
+use Rattle.rkyv_btree_base.specs.laws.Sizes.{room_of}
 use Rattle.rkyv_btree_base.proofs.NodesWritten.{node_written, node_refused}
 use Rattle.rkyv_btree_base.proofs.writes.write_leaf.Goals as goal
+
+pub fill_leaf-requires-clause-room : goal.fill_leaf-requires-clause-room
+fill_leaf-requires-clause-room g c =
+    let room = room_of _ _ g.row.E g.met.K.Portable.laws g.met.V.Portable.laws c.requires.fitting in
+    omega (arith, room.parts, c.requires.free.node_room)
 
 pub returns-in-Err-clause-err : goal.returns-in-Err-clause-err
 returns-in-Err-clause-err g c =
@@ -43,3 +49,12 @@ returns-in-Err-put-clause-err g c =
     let fault = c.in-Err-put.fault in
     node_refused nodes g.KU.Archive.archival g.VU.Archive.archival from to (map now_of c.args.entries.now) c.begin_node.new.keys.items c.begin_node.new.values.items c.in-Ok.ensures.ok c.in-Ok.root made.0 c.in-Ok.ensures.place made.1 (leaf_image nodes) (leaf_size nodes) (record { bytes = leaf_bytes nodes made.0; reaches = true }) refl
     fault t (subst (λ (bytes : List ℕ). Refused fault to (record { bytes = bytes; reaches = true }) t) (c.as_slice.ensures.value ∙ made.2) (c.in-Err-put.ensures.err true))
+
+pub returns-in-Ok-put-clause-free : goal.returns-in-Ok-put-clause-free
+returns-in-Ok-put-clause-free g c = record {
+  no_keys = c.in-Ok-fill_leaf.ensures.spent.0;
+  no_values = c.in-Ok-fill_leaf.ensures.spent.1;
+  key_room = omega (arith, c.requires.free.key_room, c.begin_node.ensures.key_room, c.fill_leaf.ensures.key_room);
+  value_room = omega (arith, c.requires.free.value_room, c.begin_node.ensures.value_room, c.fill_leaf.ensures.value_room);
+  node_room = omega (arith, c.requires.free.node_room, c.fill_leaf.ensures.capacity);
+}
