@@ -5,7 +5,7 @@ use Rattle.std.proofs.lemmas.Grind.{flat_map-append}
 use Rattle.std.proofs.lemmas.List.Folds.{flat_map-map}
 use Rattle.std.specs.Int.{w32, to_le_bytes}
 use Rattle.std.specs.List.{flat_map}
-use Rattle.rkyv_btree_base.specs.Archiving.{Archival}
+use Rattle.rkyv_btree_base.specs.Archiving.{Archival, IsUnresolved}
 use Rattle.rkyv_btree_base.specs.Image.{filled, entry_bytes, leaf_bytes}
 use Rattle.rkyv_btree_base.specs.InPlace.{OwnBytes}
 use Rattle.rkyv_btree_base.specs.Layout.{Shape, keys_at, values_at, key_at, value_at, len_at, leaf_size}
@@ -44,6 +44,13 @@ next_resolved T value pos all given at next i items d item r old rs own done ins
     let cut : map value (drop i items) ≡ value item ∷ map value (drop (i + 1) items) = ap (map value) (drop_more items i d inside) ∙ ap (λ y. value y ∷ map value (drop (i + 1) items)) (sym is) in
     one_more T pos all given at next (value item) (map value (drop (i + 1) items)) r rs own done
     (subst (λ ys. ResolvedSoFar T pos all given at ys (r ∷ rs) done) cut (subst (λ zs. ResolvedSoFar T pos all given at (map value (drop i items)) zs done) given_is so)) resolves place
+
+-- the next of items isn't resolved
+pub next_unresolved : {I X R : Type 0} (T : Archival X R) (value : I → X) (pos : ℕ) (all : List X) (given : List R) (at i : ℕ) (items : List I) (d item : I) (r : R) (old rs : List R) (done : List (List ℕ)) (fault : ResolveFault) → i < length items → item ≡ get_or items i d → old ≡ r ∷ rs → IsUnresolved T (value item) r at fault →
+    ResolvedSoFar T pos all given at (map value (drop i items)) old done → AreUnresolved T pos all given fault
+next_unresolved T value pos all given at i items d item r old rs done fault inside is given_is stopped so =
+    let cut : map value (drop i items) ≡ value item ∷ map value (drop (i + 1) items) = ap (map value) (drop_more items i d inside) ∙ ap (λ y. value y ∷ map value (drop (i + 1) items)) (sym is) in
+    so.stops fault (subst (λ ys. AreUnresolved T at ys old fault) (sym cut) (r, rs, given_is, inl stopped))
 
 pub all_resolved : {I X R : Type 0} (T : Archival X R) (value : I → X) (pos : ℕ) (all : List X) (given : List R) (at i : ℕ) (items : List I) (rs : List R) (done : List (List ℕ)) → length items ≤ i → length rs ≡ 0 → ResolvedSoFar T pos all given at (map value (drop i items)) rs done → AreResolved T pos all given done
 all_resolved T value pos all given at i items rs done end none so =

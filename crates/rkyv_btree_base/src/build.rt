@@ -239,10 +239,7 @@ impl<K, V, const E: usize> ArchivedBTreeMap<K, V, E> {
         if len > 4294967295 {
             return Err(Fault::LengthOverflow);
         }
-        let pos = match pad(writer, 4) {
-            Ok(pos) => pos,
-            Err(fault) => return Err(fault),
-        };
+        let pos = pad(writer, 4)?;
         if pos > LAST_END - 8 {
             return Err(Fault::PositionOverflow);
         }
@@ -251,10 +248,8 @@ impl<K, V, const E: usize> ArchivedBTreeMap<K, V, E> {
             Ok(()) => {}
             Err(_) => return Err(Fault::OffsetOverflow),
         }
-        match put(writer, &own) {
-            Ok(()) => Ok(pos as u32),
-            Err(fault) => Err(fault),
-        }
+        put(writer, &own)?;
+        Ok(pos as u32)
     }
 }
 

@@ -44,14 +44,8 @@ where
     ensures value_room { deque_capacity values.old ≤ deque_capacity values.new }
 {
     for entry in entries {
-        let key = match entry.0.serialize(alloc, writer) {
-            Ok(key) => key,
-            Err(fault) => return Err(fault),
-        };
-        let value = match entry.1.serialize(alloc, writer) {
-            Ok(value) => value,
-            Err(fault) => return Err(fault),
-        };
+        let key = entry.0.serialize(alloc, writer)?;
+        let value = entry.1.serialize(alloc, writer)?;
         push_back(keys, key);
         push_back(values, value);
     }

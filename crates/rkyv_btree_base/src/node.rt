@@ -79,10 +79,7 @@ fn append_keys<K: Archive, N, A: Allocator>(
     let mut at = pos;
     for entry in entries {
         let resolver = resolvers.pop_front().unwrap();
-        match append_value(node, entry.0, resolver, at) {
-            Ok(()) => {}
-            Err(fault) => return Err(fault),
-        }
+        append_value(node, entry.0, resolver, at)?;
         at += K::Archived::size();
     }
     Ok(())
@@ -109,17 +106,13 @@ fn append_values<V: Archive, M, A: Allocator>(
     let mut at = pos;
     for entry in entries {
         let resolver = resolvers.pop_front().unwrap();
-        match append_value(node, entry.1, resolver, at) {
-            Ok(()) => {}
-            Err(fault) => return Err(fault),
-        }
+        append_value(node, entry.1, resolver, at)?;
         at += V::Archived::size();
     }
     Ok(())
 }
 
 /// Puts a node's kind and entries in place of what `node` held. The node stands at `pos`.
-#[allow(clippy::too_many_arguments)]
 fn fill_entries<KU, VU, K, V, A, const E: usize>(
     node: &mut Vec<u8, A>,
     kind: u8,
@@ -151,10 +144,7 @@ where
     node.clear();
     append(node, &[kind]);
     fill_up(node, layout::key_at::<K, V, E>(0) as usize);
-    match append_keys(node, entries, keys, pos + layout::key_at::<K, V, E>(0)) {
-        Ok(()) => {}
-        Err(fault) => return Err(fault),
-    }
+    append_keys(node, entries, keys, pos + layout::key_at::<K, V, E>(0))?;
     fill_up(node, layout::value_at::<K, V, E>(0) as usize);
     append_values(node, entries, values, pos + layout::value_at::<K, V, E>(0))
 }
@@ -222,10 +212,7 @@ where
     ensures err { IfErr result (EntriesUnresolved (shape K.kind V.kind E) KU.archival VU.archival pos (map now_of entries.now) keys.old.items values.old.items) }
     ensures capacity { vec_capacity node.old ≤ vec_capacity node.new }
 {
-    match fill_entries::<KU, VU, K, V, A, E>(node, 0, pos, entries, keys, values) {
-        Ok(()) => {}
-        Err(fault) => return Err(fault),
-    }
+    fill_entries::<KU, VU, K, V, A, E>(node, 0, pos, entries, keys, values)?;
     fill_up(node, layout::len_at::<K, V, E>() as usize);
     append(node, &(entries.len() as u32).to_le_bytes());
     fill_up(node, layout::leaf_size::<K, V, E>() as usize);
@@ -263,10 +250,7 @@ where
     ensures err { IfErr result (InnerUnfilled (shape K.kind V.kind E) KU.archival VU.archival pos (map now_of entries.now) keys.old.items values.old.items (children.now ++ last ∷ [])) }
     ensures capacity { vec_capacity node.old ≤ vec_capacity node.new }
 {
-    match fill_entries::<KU, VU, K, V, A, E>(node, 1, pos, entries, keys, values) {
-        Ok(()) => {}
-        Err(fault) => return Err(fault),
-    }
+    fill_entries::<KU, VU, K, V, A, E>(node, 1, pos, entries, keys, values)?;
     fill_up(node, layout::lesser_at::<K, V, E>(0) as usize);
     if !append_pointers(node, pos + layout::lesser_at::<K, V, E>(0), children) {
         return Err(ResolveFault::OffsetOverflow);

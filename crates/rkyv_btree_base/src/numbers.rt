@@ -45,10 +45,8 @@ impl CheckBytes for u8 {
     ghost Refuses = { RefusesWhole u8_kind };
 
     fn check(buf: &[u8], pos: u32, window: Window) -> Result<Window, Refusal> {
-        match check_place::<u8>(buf, pos) {
-            Ok(()) => Ok(window),
-            Err(refusal) => Err(refusal),
-        }
+        check_place::<u8>(buf, pos)?;
+        Ok(window)
     }
 
     ghost refusals = { λ _. whole_refusals u8_laws };
@@ -91,10 +89,8 @@ impl CheckBytes for ArchivedU16 {
     ghost Refuses = { RefusesWhole u16_kind };
 
     fn check(buf: &[u8], pos: u32, window: Window) -> Result<Window, Refusal> {
-        match check_place::<ArchivedU16>(buf, pos) {
-            Ok(()) => Ok(window),
-            Err(refusal) => Err(refusal),
-        }
+        check_place::<ArchivedU16>(buf, pos)?;
+        Ok(window)
     }
 
     ghost refusals = { λ _. whole_refusals u16_laws };
@@ -137,10 +133,8 @@ impl CheckBytes for ArchivedU32 {
     ghost Refuses = { RefusesWhole u32_kind };
 
     fn check(buf: &[u8], pos: u32, window: Window) -> Result<Window, Refusal> {
-        match check_place::<ArchivedU32>(buf, pos) {
-            Ok(()) => Ok(window),
-            Err(refusal) => Err(refusal),
-        }
+        check_place::<ArchivedU32>(buf, pos)?;
+        Ok(window)
     }
 
     ghost refusals = { λ _. whole_refusals u32_laws };
@@ -183,10 +177,8 @@ impl CheckBytes for ArchivedU64 {
     ghost Refuses = { RefusesWhole u64_kind };
 
     fn check(buf: &[u8], pos: u32, window: Window) -> Result<Window, Refusal> {
-        match check_place::<ArchivedU64>(buf, pos) {
-            Ok(()) => Ok(window),
-            Err(refusal) => Err(refusal),
-        }
+        check_place::<ArchivedU64>(buf, pos)?;
+        Ok(window)
     }
 
     ghost refusals = { λ _. whole_refusals u64_laws };

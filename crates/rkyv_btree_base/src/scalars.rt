@@ -42,10 +42,8 @@ impl CheckBytes for () {
     ghost Refuses = { RefusesWhole unit_kind };
 
     fn check(buf: &[u8], pos: u32, window: Window) -> Result<Window, Refusal> {
-        match check_place::<()>(buf, pos) {
-            Ok(()) => Ok(window),
-            Err(refusal) => Err(refusal),
-        }
+        check_place::<()>(buf, pos)?;
+        Ok(window)
     }
 
     ghost refusals = { λ _. whole_refusals unit_laws };

@@ -42,10 +42,8 @@ impl CheckBytes for i8 {
     ghost Refuses = { RefusesWhole i8_kind };
 
     fn check(buf: &[u8], pos: u32, window: Window) -> Result<Window, Refusal> {
-        match check_place::<i8>(buf, pos) {
-            Ok(()) => Ok(window),
-            Err(refusal) => Err(refusal),
-        }
+        check_place::<i8>(buf, pos)?;
+        Ok(window)
     }
 
     ghost refusals = { λ _. whole_refusals i8_laws };
@@ -88,10 +86,8 @@ impl CheckBytes for ArchivedI16 {
     ghost Refuses = { RefusesWhole i16_kind };
 
     fn check(buf: &[u8], pos: u32, window: Window) -> Result<Window, Refusal> {
-        match check_place::<ArchivedI16>(buf, pos) {
-            Ok(()) => Ok(window),
-            Err(refusal) => Err(refusal),
-        }
+        check_place::<ArchivedI16>(buf, pos)?;
+        Ok(window)
     }
 
     ghost refusals = { λ _. whole_refusals i16_laws };
@@ -134,10 +130,8 @@ impl CheckBytes for ArchivedI32 {
     ghost Refuses = { RefusesWhole i32_kind };
 
     fn check(buf: &[u8], pos: u32, window: Window) -> Result<Window, Refusal> {
-        match check_place::<ArchivedI32>(buf, pos) {
-            Ok(()) => Ok(window),
-            Err(refusal) => Err(refusal),
-        }
+        check_place::<ArchivedI32>(buf, pos)?;
+        Ok(window)
     }
 
     ghost refusals = { λ _. whole_refusals i32_laws };
@@ -180,10 +174,8 @@ impl CheckBytes for ArchivedI64 {
     ghost Refuses = { RefusesWhole i64_kind };
 
     fn check(buf: &[u8], pos: u32, window: Window) -> Result<Window, Refusal> {
-        match check_place::<ArchivedI64>(buf, pos) {
-            Ok(()) => Ok(window),
-            Err(refusal) => Err(refusal),
-        }
+        check_place::<ArchivedI64>(buf, pos)?;
+        Ok(window)
     }
 
     ghost refusals = { λ _. whole_refusals i64_laws };

@@ -131,10 +131,8 @@ impl<W: Writer, A: Drop> Serialize<W, A> for String {
         if self.is_empty() {
             return Ok(start as u32);
         }
-        match put(writer, self.as_bytes()) {
-            Ok(()) => Ok(start as u32),
-            Err(fault) => Err(fault),
-        }
+        put(writer, self.as_bytes())?;
+        Ok(start as u32)
     }
 }
 

@@ -40,10 +40,7 @@ pub(crate) fn put<W: Writer>(writer: &mut W, bytes: &[u8]) -> Result<(), Fault<W
     if pos > LAST_END || bytes.len() as u64 > LAST_END - pos {
         return Err(Fault::PositionOverflow);
     }
-    match writer.write(bytes) {
-        Ok(()) => Ok(()),
-        Err(error) => Err(Fault::Writer(error)),
-    }
+    writer.write(bytes).map_err(Fault::Writer)
 }
 
 /// Writes zeros up to a multiple of an alignment, and answers that position.
@@ -61,10 +58,8 @@ pub(crate) fn pad<W: Writer>(writer: &mut W, align: u32) -> Result<u64, Fault<W:
         return Ok(pos);
     }
     let count = align as usize - past;
-    match put(writer, &[0, 0, 0, 0, 0, 0, 0][..count]) {
-        Ok(()) => Ok(pos + count as u64),
-        Err(fault) => Err(fault),
-    }
+    put(writer, &[0, 0, 0, 0, 0, 0, 0][..count])?;
+    Ok(pos + count as u64)
 }
 
 /// The fault of serialising that a fault of resolving is.
@@ -108,14 +103,8 @@ where
     ensures key_room { deque_capacity keys.old ≤ deque_capacity keys.new }
     ensures value_room { deque_capacity values.old ≤ deque_capacity values.new }
 {
-    match serialize_entries(alloc, entries, keys, values, writer) {
-        Ok(()) => {}
-        Err(fault) => return Err(fault),
-    }
-    let pos = match pad(writer, layout::align::<K, V, E>()) {
-        Ok(pos) => pos,
-        Err(fault) => return Err(fault),
-    };
+    serialize_entries(alloc, entries, keys, values, writer)?;
+    let pos = pad(writer, layout::align::<K, V, E>())?;
     if pos > LAST_END || u64::from(size) > LAST_END - pos {
         return Err(Fault::PositionOverflow);
     }
@@ -145,17 +134,14 @@ where
     ensures free { OnOk result (IsFree (shape K.kind V.kind E) scratch.new) }
 {
     let size = layout::leaf_size::<K, V, E>();
-    let root = match begin_node::<KU, VU, K, V, W, A, E>(
+    let root = begin_node::<KU, VU, K, V, W, A, E>(
         alloc,
         size,
         entries,
         &mut scratch.keys,
         &mut scratch.values,
         writer,
-    ) {
-        Ok(root) => root,
-        Err(fault) => return Err(fault),
-    };
+    )?;
     match fill_leaf::<KU, VU, K, V, A, E>(
         &mut scratch.node,
         root,
@@ -166,10 +152,8 @@ where
         Ok(()) => {}
         Err(fault) => return Err(fault_of(fault)),
     }
-    match put(writer, scratch.node.as_slice()) {
-        Ok(()) => Ok(root),
-        Err(fault) => Err(fault),
-    }
+    put(writer, scratch.node.as_slice())?;
+    Ok(root)
 }
 
 /// Writes an inner node of these entries over written children, behind what the entries write, and answers its
@@ -199,17 +183,14 @@ where
     ensures free { OnOk result (IsFree (shape K.kind V.kind E) scratch.new) }
 {
     let size = layout::inner_size::<K, V, E>();
-    let root = match begin_node::<KU, VU, K, V, W, A, E>(
+    let root = begin_node::<KU, VU, K, V, W, A, E>(
         alloc,
         size,
         entries,
         &mut scratch.keys,
         &mut scratch.values,
         writer,
-    ) {
-        Ok(root) => root,
-        Err(fault) => return Err(fault),
-    };
+    )?;
     match fill_inner::<KU, VU, K, V, A, E>(
         &mut scratch.node,
         root,
@@ -222,8 +203,6 @@ where
         Ok(()) => {}
         Err(fault) => return Err(fault_of(fault)),
     }
-    match put(writer, scratch.node.as_slice()) {
-        Ok(()) => Ok(root),
-        Err(fault) => Err(fault),
-    }
+    put(writer, scratch.node.as_slice())?;
+    Ok(root)
 }

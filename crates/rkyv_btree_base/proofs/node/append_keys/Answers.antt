@@ -1,7 +1,8 @@
 use Rattle.std.proofs.Common.{◌≡◌, ◌+◌, ◌∙◌, [], ◌∷◌, ◌++◌, length, map, sym, ap, arith, Option}
 use Rattle.std.specs.Option.{option_to_list}
 use Rattle.std.proofs.lemmas.List.{append-nil}
-use Rattle.rkyv_btree_base.proofs.Resolving.{none_so_far, next_resolved, all_resolved, joined_more}
+use Rattle.std.proofs.lemmas.Result.{err_from_is_err_and}
+use Rattle.rkyv_btree_base.proofs.Resolving.{none_so_far, next_resolved, next_unresolved, all_resolved, joined_more}
 use Rattle.rkyv_btree_base.proofs.node.append_keys.Goals as goal
 
 pub loop-entry-init : goal.loop-entry-init
@@ -17,7 +18,7 @@ loop-entry-init g c = record {
 pub loop-entry-preserved : goal.loop-entry-preserved
 loop-entry-preserved g c =
     let before = c.loop-entry.invariant in
-    let now = c.in-Ok.ensures.ok in
+    let now = c.in_ok-append_value.ensures.ok in
     let r = c.unwrap-resolver.result in
     let rest : c.loop-entry.resolvers.items ≡ r ∷ c.pop_front.new.self.items = c.pop_front.ensures.items ∙ ap (λ (o : Option g.row.K-Resolver.Denot). option_to_list o ++ c.pop_front.new.self.items) c.unwrap-resolver.ensures in
     let size = g.met.K.Archive.same_kind.size in
@@ -29,11 +30,20 @@ loop-entry-preserved g c =
         joined_more before.done.0 now.0 c.args.node.now.items c.loop-entry.node.items c.append_value.new.node.items before.done.2 now.2,
       );
       at = omega (arith, before.at, c.size-at.ensures);
-      len = omega (arith, before.len, c.in-Ok.ensures.len);
+      len = omega (arith, before.len, c.in_ok-append_value.ensures.len);
       left = omega (arith, before.left, ap length rest);
       kept = omega (arith, before.kept, c.pop_front.ensures.capacity);
       capacity = omega (arith, before.capacity, c.append_value.ensures.capacity);
     }
+
+pub returns-in_err-append_value-clause-err : goal.returns-in_err-append_value-clause-err
+returns-in_err-append_value-clause-err g c =
+    let before = c.loop-entry.invariant in
+    let r = c.unwrap-resolver.result in
+    let rest : c.loop-entry.resolvers.items ≡ r ∷ c.pop_front.new.self.items = c.pop_front.ensures.items ∙ ap (λ (o : Option g.row.K-Resolver.Denot). option_to_list o ++ c.pop_front.new.self.items) c.unwrap-resolver.ensures in
+    let p = err_from_is_err_and c.from_residual.result c.from_residual.ensures.1 in
+    rw (p.1, p.2) (next_unresolved g.K.Archive.archival (λ x. x.0.now) c.args.pos (map (λ x. x.0.now) c.args.entries.now) c.args.resolvers.now.items c.loop-entry.at c.loop-entry.entry-index c.args.entries.now _ c.entry-item.result r c.loop-entry.resolvers.items c.pop_front.new.self.items before.done.0 c.in_err-append_value.field-0.0
+    c.loop-entry-test.true c.entry-item.is rest c.in_err-append_value.ensures.err before.done.1)
 
 pub returns-clause-ok : goal.returns-clause-ok
 returns-clause-ok g c =

@@ -1,6 +1,6 @@
 use Rattle.std.proofs.Common.{◌≡◌, ◌∙◌, ◌+◌, length, map, sym, arith}
 use Rattle.std.proofs.lemmas.List.{length-map}
-use Rattle.std.proofs.lemmas.Result.{on_ok_weaker, IfErr-weaker}
+use Rattle.std.proofs.lemmas.Result.{err_from_is_err_and, on_ok_weaker, IfErr-weaker}
 use Rattle.rkyv_btree_base.specs.Layout.{shape}
 use Rattle.rkyv_btree_base.specs.laws.Sizes.{room_of}
 use Rattle.rkyv_btree_base.proofs.Resolving.{paired, resolved_length, both_resolved, key_unresolved, value_unresolved, filled_columns}
@@ -41,14 +41,15 @@ append_keys-requires-clause-end g c =
     let room = room_of _ _ g.row.E g.met.K.Portable.laws g.met.V.Portable.laws c.requires.fitting in
     omega (arith, room.parts, room.key_at _ c.requires.count)
 
-pub returns-in-Err-clause-err : goal.returns-in-Err-clause-err
-returns-in-Err-clause-err g c =
-    key_unresolved (shape g.K.Portable.kind g.V.Portable.kind g.row.E) g.KU.Archive.archival g.VU.Archive.archival c.args.pos (c.args.pos + c.key_at-2.result) c.args.entries.now c.args.keys.now.items c.args.values.now.items c.in-Err.fault (omega arith) c.in-Err.ensures.err
+pub returns-in_err-append_keys-clause-err : goal.returns-in_err-append_keys-clause-err
+returns-in_err-append_keys-clause-err g c =
+    let p = err_from_is_err_and c.from_residual.result c.from_residual.ensures.1 in
+    rw (p.1, p.2) (key_unresolved (shape g.K.Portable.kind g.V.Portable.kind g.row.E) g.KU.Archive.archival g.VU.Archive.archival c.args.pos (c.args.pos + c.key_at-2.result) c.args.entries.now c.args.keys.now.items c.args.values.now.items c.in_err-append_keys.field-0.0 (omega arith) c.in_err-append_keys.ensures.err)
 
 pub fill_up-requires-2-clause-shorter : goal.fill_up-requires-2-clause-shorter
 fill_up-requires-2-clause-shorter g c =
     let room = room_of _ _ g.row.E g.met.K.Portable.laws g.met.V.Portable.laws c.requires.fitting in
-    omega (arith, room.parts, room.key_at _ c.requires.count, c.in-Ok.ensures.len)
+    omega (arith, room.parts, room.key_at _ c.requires.count, c.in_ok-append_keys.ensures.len)
 
 pub fill_up-requires-2-clause-room : goal.fill_up-requires-2-clause-room
 fill_up-requires-2-clause-room g c =
@@ -78,7 +79,7 @@ append_values-requires-clause-end g c =
 pub returns-clause-ok : goal.returns-clause-ok
 returns-clause-ok g c =
     let nodes = shape g.K.Portable.kind g.V.Portable.kind g.row.E in
-    let keys = c.in-Ok.ensures.ok in
+    let keys = c.in_ok-append_keys.ensures.ok in
     on_ok_weaker c.append_values.result (λ values.
     let same : length keys.0 ≡ length values.0 = resolved_length g.KU.Archive.archival (c.args.pos + c.key_at-2.result) (map (λ x. x.0.now) c.args.entries.now) c.args.keys.now.items keys.0 keys.1 ∙ (length-map c.args.entries.now (λ x. x.0.now) ∙ sym (resolved_length g.VU.Archive.archival (c.args.pos + c.value_at-2.result) (map (λ x. x.1.now) c.args.entries.now) c.args.values.now.items values.0 values.1 ∙ length-map c.args.entries.now (λ x. x.1.now))) in (
       paired keys.0 values.0,

@@ -9,7 +9,7 @@ use Rattle.rkyv_btree_base.proofs.node.fill_leaf.Goals as goal
 pub fill_up-requires-clause-shorter : goal.fill_up-requires-clause-shorter
 fill_up-requires-clause-shorter g c =
     let room = room_of _ _ g.row.E g.met.K.Portable.laws g.met.V.Portable.laws c.requires.fitting in
-    omega (arith, room.parts, room.value_at _ c.requires.count, c.in-Ok.ensures.len)
+    omega (arith, room.parts, room.value_at _ c.requires.count, c.in_ok-fill_entries.ensures.len)
 
 pub overflow_cast-entries : goal.overflow_cast-entries
 overflow_cast-entries g c =
@@ -19,7 +19,7 @@ overflow_cast-entries g c =
 pub returns-clause-ok : goal.returns-clause-ok
 returns-clause-ok g c =
     let nodes = shape g.K.Portable.kind g.V.Portable.kind g.row.E in
-    let made = c.in-Ok.ensures.ok in
+    let made = c.in_ok-fill_entries.ensures.ok in
     let count : length made.0 ≡ length c.args.entries.now = entries_length nodes g.KU.Archive.archival g.VU.Archive.archival c.args.pos (map now_of c.args.entries.now) c.args.keys.now.items c.args.values.now.items made.0 made.1 ∙ length-map c.args.entries.now now_of in (
       made.0,
       made.1,

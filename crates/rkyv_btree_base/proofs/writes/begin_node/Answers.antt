@@ -1,4 +1,5 @@
 use Rattle.std.proofs.Common.{◌∙◌, ◌+◌, ◌<◌, ℕ, map, refl, ap, sym, subst, arith}
+use Rattle.std.proofs.lemmas.Result.{err_from_is_err_and}
 use Rattle.rkyv_btree_base.specs.Image.{padding}
 use Rattle.rkyv_btree_base.specs.Layout.{shape}
 use Rattle.rkyv_btree_base.specs.Rounding.{round_up}
@@ -7,10 +8,11 @@ use Rattle.rkyv_btree_base.specs.Writing.{Wrote, Stopped, position, last_end}
 use Rattle.rkyv_btree_base.proofs.writes.begin_node.Goals as goal
 use Rattle.rkyv_btree_base.proofs.writes.begin_node.Goals.{then-pos-gt-LAST_END-via-then-pos-gt-LAST_END, then-pos-gt-LAST_END-via-else-pos-gt-LAST_END+then-from-pos}
 
-pub returns-in-Err-pad-clause-err : goal.returns-in-Err-pad-clause-err
-returns-in-Err-pad-clause-err g c image =
+pub returns-in_err-pos-clause-err : goal.returns-in_err-pos-clause-err
+returns-in_err-pos-clause-err g c =
     let mid = g.W.Writer.state c.serialize_entries.new.writer in
-    in_padding c.serialize_entries.new.keys.items c.serialize_entries.new.values.items mid c.in-Ok.ensures.ok (subst (λ (n : ℕ). Stopped mid (padding n (position mid)) c.in-Err-pad.fault (g.W.Writer.state c.pad.new.writer)) c.align.ensures.value c.in-Err-pad.ensures.err)
+    let p = err_from_is_err_and c.from_residual-in_err-pos.result c.from_residual-in_err-pos.ensures.1 in
+    rw (p.1, p.2) (λ image. in_padding c.serialize_entries.new.keys.items c.serialize_entries.new.values.items mid c.in_ok-serialize_entries.ensures.ok (subst (λ (n : ℕ). Stopped mid (padding n (position mid)) c.in_err-pos.field-0.0 (g.W.Writer.state c.pad.new.writer)) c.align.ensures.value c.in_err-pos.ensures.err))
 
 pub returns-then-pos-gt-LAST_END-clause-err : goal.returns-then-pos-gt-LAST_END-clause-err
 returns-then-pos-gt-LAST_END-clause-err g c image =
@@ -20,13 +22,13 @@ returns-then-pos-gt-LAST_END-clause-err g c image =
     let values = c.serialize_entries.new.values.items in
     let padded : IsPadded (shape g.K.Portable.kind g.V.Portable.kind g.row.E) g.KU.Archive.archival g.VU.Archive.archival (g.W.Writer.state c.args.writer.now) (map now_of c.args.entries.now) keys values to = record {
       mid = mid;
-      serialised = c.in-Ok.ensures.ok;
-      padded = subst (λ (n : ℕ). Wrote mid (padding n (position mid)) to) c.align.ensures.value c.in-Ok-pad.ensures.ok;
-      place = sym c.in-Ok-pad.ensures.end ∙ (c.in-Ok-pad.ensures.pos ∙ ap (round_up (position mid)) c.align.ensures.value);
+      serialised = c.in_ok-serialize_entries.ensures.ok;
+      padded = subst (λ (n : ℕ). Wrote mid (padding n (position mid)) to) c.align.ensures.value c.in_ok-pos.ensures.ok;
+      place = sym c.in_ok-pos.ensures.end ∙ (c.in_ok-pos.ensures.pos ∙ ap (round_up (position mid)) c.align.ensures.value);
     } in
     let past : last_end < position to + c.args.size =
     elim c.then-pos-gt-LAST_END.branch [
-      | then-pos-gt-LAST_END-via-then-pos-gt-LAST_END w ↦ omega (arith, c.in-Ok-pad.ensures.end)
-      | then-pos-gt-LAST_END-via-else-pos-gt-LAST_END+then-from-pos w ↦ omega (arith, c.in-Ok-pad.ensures.end)
+      | then-pos-gt-LAST_END-via-then-pos-gt-LAST_END w ↦ omega (arith, c.in_ok-pos.ensures.end)
+      | then-pos-gt-LAST_END-via-else-pos-gt-LAST_END+then-from-pos w ↦ omega (arith, c.in_ok-pos.ensures.end)
     ] in
     past_end keys values padded refl past

@@ -1,14 +1,16 @@
 use Rattle.std.proofs.Common.{ℕ, ◌∙◌, ap, subst}
+use Rattle.std.proofs.lemmas.Result.{err_from_is_err_and}
 use Rattle.rkyv_btree_base.specs.Image.{root_bytes}
 use Rattle.rkyv_btree_base.specs.Serialising.{RootRefusal}
 use Rattle.rkyv_btree_base.proofs.Building.{root_refused}
 use Rattle.rkyv_btree_base.proofs.map.ArchivedBTreeMap.write_root.Goals as goal
 
-pub returns-in-Err-put-clause-err : goal.returns-in-Err-put-clause-err
-returns-in-Err-put-clause-err g c =
+pub returns-in_err-put-clause-err : goal.returns-in_err-put-clause-err
+returns-in_err-put-clause-err g c =
     let root = c.resolver.inside.root in
     let s = g.W.Writer.state c.args.writer.now in
     let t = g.W.Writer.state c.put.new.writer in
-    let refused = root_refused root c.args.len s (g.W.Writer.state c.pad.new.writer) t _ c.in-Err-put.fault
-    (c.in-Ok-fill_root.ensures.ok ∙ ap (λ n. root_bytes n root c.args.len) c.in-Ok.ensures.pos) c.in-Ok.ensures.ok c.in-Err-put.ensures.err in
-    subst (λ (n : ℕ). RootRefusal n c.args.len s c.in-Err-put.fault t) c.resolver.view_is refused
+    let refused = root_refused root c.args.len s (g.W.Writer.state c.pad.new.writer) t _ c.in_err-put.field-0.0
+    (c.in-Ok.ensures.ok ∙ ap (λ n. root_bytes n root c.args.len) c.in_ok-pos.ensures.pos) c.in_ok-pos.ensures.ok c.in_err-put.ensures.err in
+    let p = err_from_is_err_and c.from_residual-in_err-put.result c.from_residual-in_err-put.ensures.1 in
+    rw (p.1, p.2) (subst (λ (n : ℕ). RootRefusal n c.args.len s c.in_err-put.field-0.0 t) c.resolver.view_is refused)
