@@ -1,4 +1,4 @@
-//! Tests of the libraries at concrete types: what is written, byte for byte, and what no contract says.
+//! Tests of the base at concrete types: what is written, byte for byte, and what no contract says.
 #![tactic(auto)]
 
 #[cfg(test)]
