@@ -4,26 +4,26 @@ use Rattle.std.proofs.lemmas.List.{length-map, length-append, append-nil, nil_fr
 use Rattle.std.specs.Int.{w32, to_le_bytes}
 use Rattle.std.specs.Io.KnownBytes.{Appends}
 use Rattle.std.specs.Iterator.{Yields, Drains, YieldsFirstBy}
-use Rattle.rkyv_btree_base.specs.Bytes.{from_le}
 use Rattle.rkyv_btree_base.specs.Image.{child_image, child_root, root_image}
 use Rattle.rkyv_btree_base.specs.InPlace.{OwnBytes}
 use Rattle.rkyv_btree_base.specs.Layout.{are_fitting, inner_size, len_at, node_size, values_at, keys_at, align, node_align}
-use Rattle.rkyv_btree_base.specs.Plain.{u32_kind, u32_laws}
+use Rattle.rkyv_btree_base.specs.Scalars.{u32_kind}
+use Rattle.rkyv_btree_base.specs.laws.Natives.{u32_faithful}
+use Rattle.rkyv_btree_base.specs.laws.Scalars.{u32_laws}
 use Rattle.rkyv_btree_base.specs.Rounding.{round_up}
-use Rattle.rkyv_btree_base.specs.Serialising.{Built, Spelled, meaning_of, StoppedBuilding, Refusal, RootRefusal}
+use Rattle.rkyv_btree_base.specs.Serialising.{Built, Spelled, meaning_of, StoppedBuilding, BuildFault, RootFault}
 use Rattle.rkyv_btree_base.specs.Archiving.{Archival, itself, plain_archival}
-use Rattle.rkyv_btree_base.specs.InPlace.{u32_own}
 use Rattle.rkyv_btree_base.specs.Plan.{planned_alone}
 use Rattle.rkyv_btree_base.specs.Tree.{Child, ChildHasShape}
-use Rattle.rkyv_btree_base.specs.Written.{now_of}
-use Rattle.rkyv_btree_base.specs.laws.Holding.{appended-append}
+use Rattle.rkyv_btree_base.specs.Entries.{now_of}
+use Rattle.rkyv_btree_base.proofs.Holding.{appended-append}
 use Rattle.rkyv_btree_base.proofs.Imaged.{child_written, child_stopped}
 use Rattle.rkyv_btree_base.proofs.Mapped.{alone_mapped}
 use Rattle.rkyv_btree_base.proofs.Smallest.{plan_is_left_complete}
 use Rattle.rkyv_btree_base.specs.Spells.{Accepted}
 use Rattle.rkyv_btree_base.specs.Writing.{Writing, position, Write, AllReach, Wrote, Stopped, appended, last_end}
-use Rattle.rkyv_btree_base.specs.declared.fault.Fault.{Fault}
-use Rattle.rkyv_btree_base.specs.declared.fault.Fault.TheVariants.{Length, LengthOverflow, PositionOverflow, OffsetOverflow, Writer, Memory, Entry}
+use Rattle.rkyv_btree_base.specs.Fault.{Fault}
+use Rattle.rkyv_btree_base.specs.Fault.TheVariants.{Length, LengthOverflow, PositionOverflow, OffsetOverflow, Writer, Memory, Entry}
 use Rattle.rkyv_btree_base.proofs.Accepting.{accepted_archive, archive_length}
 use Rattle.rkyv_btree_base.proofs.WriteRuns.{stopped_past, stopped_stray}
 use Rattle.btreearc.specs.Archive.{own, five, tree_writes, root_writes, archive_of, IsUnbuilt}
@@ -60,7 +60,7 @@ pub record TreeIs (entries : List (ℕ × ℕ)) (root : ℕ) (s : Writing) : Typ
 pub tree_is : (entries : List (ℕ × ℕ)) (items : List (Bor ℕ × Bor ℕ)) (root : ℕ) (from s : Writing) → from ≡ nothing_written → map pair items ≡ entries → Built five numbers numbers from (map now_of items) root s → TreeIs entries root s
 tree_is entries items root from s start are built =
     let tree : Built five numbers numbers nothing_written entries root s = subst (λ (xs : List (ℕ × ℕ)). Built five numbers numbers nothing_written xs root s) are (subst (λ (w : Writing). Built five numbers numbers w (map now_of items) root s) start built) in
-    let made = child_written u32_kind u32_kind 5 u32_laws u32_laws numbers_fit (λ x. x) (λ x. x) (λ x. x < 2 ^ 32) (λ x. x < 2 ^ 32) (to_le_bytes w32) (to_le_bytes w32) u32_own u32_own nothing_written (planned_alone 5 entries) tree.place s tree.written in
+    let made = child_written u32_kind u32_kind 5 u32_laws u32_laws numbers_fit (λ x. x) (λ x. x) (λ x. x < 2 ^ 32) (λ x. x < 2 ^ 32) (to_le_bytes w32) (to_le_bytes w32) u32_faithful.is_own u32_faithful.is_own nothing_written (planned_alone 5 entries) tree.place s tree.written in
     let same = alone_mapped own 5 entries in
     record {
       wrote = subst (λ (c : Child OwnBytes). Wrote nothing_written (child_image five 0 c) s) (sym same) made.0;
@@ -107,13 +107,13 @@ module _ {S : Type 0} (rest : S → List (ℕ × ℕ)) (entries : List (ℕ × �
       let taken = taken_pairs rest iter h.items h.rest h.taken ∙ is in
       let are : map pair h.items ≡ entries = all_taken (map pair h.items) (rest h.rest) entries taken (length-map h.items pair ∙ h.count) in
       let tree = planned_alone 5 (map pair h.items) in
-      let stopped = child_stopped u32_kind u32_kind 5 u32_laws u32_laws numbers_fit (λ x. x) (λ x. x) (λ x. x < 2 ^ 32) (λ x. x < 2 ^ 32) (to_le_bytes w32) (to_le_bytes w32) u32_own u32_own nothing_written tree fault t (alone_shape (map pair h.items)) h.stopped in
+      let stopped = child_stopped u32_kind u32_kind 5 u32_laws u32_laws numbers_fit (λ x. x) (λ x. x) (λ x. x < 2 ^ 32) (λ x. x < 2 ^ 32) (to_le_bytes w32) (to_le_bytes w32) u32_faithful.is_own u32_faithful.is_own nothing_written tree fault t (alone_shape (map pair h.items)) h.stopped in
       subst (λ (xs : List (ℕ × ℕ)). Stopped nothing_written (tree_writes xs) fault t) are (subst (λ (c : Child OwnBytes). Stopped nothing_written (child_image five 0 c) fault t) (sym (alone_mapped own 5 (map pair h.items))) stopped)
 
   unbuilt_past : {X : Type 0} (t : Writing) → Stopped {E = X} nothing_written (tree_writes entries) PositionOverflow t → last_end < length (archive_of entries)
   unbuilt_past t h = omega (arith, stopped_past nothing_written (tree_writes entries) t h, ap length (appended-append (tree_writes entries) (root_writes entries)), length-append (appended (tree_writes entries)) (appended (root_writes entries)))
 
-  pub unbuilt : {X : Type 0} (iter : S) (from : Writing) (fault : Fault X) (t : Writing) → from ≡ nothing_written → rest iter ≡ entries → Refusal u32_kind u32_kind 5 numbers numbers (YieldsFirstBy pair rest) iter (length entries) from fault t → IsUnbuilt entries fault
+  pub unbuilt : {X : Type 0} (iter : S) (from : Writing) (fault : Fault X) (t : Writing) → from ≡ nothing_written → rest iter ≡ entries → BuildFault u32_kind u32_kind 5 numbers numbers (YieldsFirstBy pair rest) iter (length entries) from fault t → IsUnbuilt entries fault
   unbuilt iter from LengthOverflow t start is (inl h) = h.0
   unbuilt {X} iter from LengthOverflow t start is (inr h) = absurd (stopped_tree {X = X} iter LengthOverflow t is (subst (λ s. StoppedBuilding u32_kind u32_kind 5 numbers numbers (YieldsFirstBy pair rest) {X = X} iter (length entries) s LengthOverflow t) start h)).refused
   unbuilt {X} iter from PositionOverflow t start is h = unbuilt_past t (stopped_tree {X = X} iter PositionOverflow t is (subst (λ s. StoppedBuilding u32_kind u32_kind 5 numbers numbers (YieldsFirstBy pair rest) {X = X} iter (length entries) s PositionOverflow t) start h))
@@ -139,7 +139,7 @@ module _ (entries : List (ℕ × ℕ)) (root : ℕ) (s : Writing) (tree : TreeIs
         length-append (appended (tree_writes entries)) (appended (root_writes entries)),
       )
 
-  pub unbuilt_root : {X : Type 0} (fault : Fault X) (t : Writing) → RootRefusal root (length entries) s fault t → IsUnbuilt entries fault
+  pub unbuilt_root : {X : Type 0} (fault : Fault X) (t : Writing) → RootFault root (length entries) s fault t → IsUnbuilt entries fault
   unbuilt_root LengthOverflow t h = h.0
   unbuilt_root {X} PositionOverflow t h = unbuilt_root_past t (stopped_root {X = X} PositionOverflow t h)
   unbuilt_root {X} OffsetOverflow t h = λ all. stopped_stray s (root_writes entries) t (stopped_root {X = X} OffsetOverflow t h) (reach_back (tree_writes entries) (root_writes entries) all)

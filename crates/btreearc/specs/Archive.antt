@@ -3,20 +3,20 @@ use Rattle.std.specs.Prelude.{ℕ, ◌<◌, List, ◌++◌, length, map, unwrap_
 use Rattle.std.specs.Int.{w32, to_le_bytes}
 use Rattle.rkyv_btree_base.specs.Image.{child_image, child_root, root_image}
 use Rattle.rkyv_btree_base.specs.InPlace.{OwnBytes}
-use Rattle.rkyv_btree_base.specs.Layout.{Shape, shape}
-use Rattle.rkyv_btree_base.specs.Plain.{u32_kind}
+use Rattle.rkyv_btree_base.specs.Layout.{NodeLayout, layout_of}
+use Rattle.rkyv_btree_base.specs.Scalars.{u32_kind}
 use Rattle.rkyv_btree_base.specs.Plan.{planned_alone}
 use Rattle.rkyv_btree_base.specs.Writing.{Write, appended, AllReach, last_end}
-use Rattle.rkyv_btree_base.specs.declared.fault.Fault.{Fault}
-use Rattle.rkyv_btree_base.specs.declared.fault.Fault.TheVariants.{Length, LengthOverflow, PositionOverflow, OffsetOverflow, Writer, Memory, Entry}
+use Rattle.rkyv_btree_base.specs.Fault.{Fault}
+use Rattle.rkyv_btree_base.specs.Fault.TheVariants.{Length, LengthOverflow, PositionOverflow, OffsetOverflow, Writer, Memory, Entry}
 
 -- the own bytes of an entry's key and value
 abbrev pub own : ℕ × ℕ → OwnBytes
 own x = (to_le_bytes w32 x.0, to_le_bytes w32 x.1)
 
 -- the program's nodes have five entries
-abbrev pub five : Shape
-five = shape u32_kind u32_kind 5
+abbrev pub five : NodeLayout
+five = layout_of u32_kind u32_kind 5
 
 -- the writes of the tree, and then of the map
 abbrev pub tree_writes : List (ℕ × ℕ) → List Write

@@ -14,6 +14,10 @@ IsWord text [] = ⊥
 IsWord text (word ∷ []) = string_bytes word ≡ text
 IsWord text (word ∷ other ∷ others) = ⊥
 
+-- the words are none of the commands
+abbrev pub IsNoCommand : List (String Global) → Type 0
+IsNoCommand args = (IsWord (codes "build") args → ⊥) × (IsWord (codes "list") args → ⊥) × (IsWord (codes "check") args → ⊥)
+
 -- `build` has written the archive of the input's lines, which is accepted and means them, or it names the fault and has written nothing, except where a
 -- write failed
 abbrev pub Builds : Option (List ℕ) → Option (List ℕ) → Option (List ℕ) → Result ℕ ProgramFault → Type 0

@@ -1,8 +1,8 @@
 -- What an archive is, and why other bytes are refused.
 use Rattle.std.specs.Prelude.{ℕ, ◌-◌, List, length}
-use Rattle.rkyv_btree_base.specs.declared.refusal.Refusal.{Refusal}
-use Rattle.rkyv_btree_base.specs.Faults.{Stands}
-use Rattle.rkyv_btree_base.specs.Plain.{u32_kind}
+use Rattle.rkyv_btree_base.specs.Refusal.{Refusal}
+use Rattle.rkyv_btree_base.specs.Refusals.{RefusesMap}
+use Rattle.rkyv_btree_base.specs.Scalars.{u32_kind}
 use Rattle.rkyv_btree_base.specs.Read.{read_map}
 use Rattle.rkyv_btree_base.specs.Spells.{Accepted}
 
@@ -16,7 +16,7 @@ IsArchive b entries = (left : ℕ) × Accepted u32_kind u32_kind 5 b 0 (root_of 
 
 -- the refusal of bytes that are no archive
 abbrev pub RefusesArchive : List ℕ → Refusal → Type 0
-RefusesArchive b refusal = Stands u32_kind u32_kind 5 b 0 (root_of b) (root_of b) refusal
+RefusesArchive b refusal = RefusesMap u32_kind u32_kind 5 b 0 (root_of b) (root_of b) refusal
 
 -- the entries that are read of the map at a position
 abbrev pub entries_read : List ℕ → ℕ → List (ℕ × ℕ)

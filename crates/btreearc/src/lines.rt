@@ -77,7 +77,8 @@ fn first_entry(bytes: &[u8]) -> Option<((u32, u32), &[u8])>
 pub fn parse_lines(alloc: Global, bytes: &[u8]) -> Result<Vec<(u32, u32)>, ProgramFault>
     ensures ok { IfOk result (λ found. IsLines bytes.now found.items) }
     ensures err { IfErr result (Refuses bytes.now) }
-    ensures all { (entries : List (ℕ × ℕ)) → IsLines bytes.now entries → GivesEntries (λ found. found.items) entries result }
+    ensures all { (entries : List (ℕ × ℕ)) → IsLines bytes.now entries →
+        GivesEntries (λ found. found.items) entries result }
     ensures first { (n : ℕ) → BadLine bytes.now n → GivesBadLine n result }
 {
     let mut entries = Vec::new(alloc);

@@ -1,7 +1,7 @@
 //! The text of entries.
 ghost use Rattle.std.specs.Prelude.{◌≡◌, ◌++◌, List, ℕ, OnOk, ◌↔◌, map, string_bytes};
 ghost use Rattle.std.specs.Iterator.{Drains, IsFinite};
-ghost use Rattle.rkyv_btree_base.specs.Plain.{u32_kind};
+ghost use Rattle.rkyv_btree.specs.View.{reads_both};
 ghost use Rattle.btreearc.specs.Grammar.{text_of, line, AreShort, IsLines, IsSpelled};
 
 use rkyv_btree::view::View;
@@ -30,7 +30,9 @@ pub fn write_entries<'a, I: Iterator<Item = (View<'a, ArchivedU32>, View<'a, Arc
 ) -> Result<(), AllocError>
     requires can { I.can_next entries }
     requires ends { IsFinite (I.remaining entries) }
-    ensures { OnOk result ((items : _) × Drains I.next_gives entries items × (string_bytes out.new ≡ string_bytes out.old ++ text_of (map (λ e. (u32_kind.read e.0.buf.now e.0.pos, u32_kind.read e.1.buf.now e.1.pos)) items))) }
+    ensures { OnOk result
+        ((items : _) × Drains I.next_gives entries items
+        × (string_bytes out.new ≡ string_bytes out.old ++ text_of (map reads_both items))) }
 {
     while let Some((key, value)) = entries.next() {
         write_entry(out, key.to_native(), value.to_native())?;
@@ -45,5 +47,6 @@ pub fn read_back()
 
 /// Lines are entries just where the bytes are those entries one behind the other.
 pub fn one_behind_the_other()
-    ensures { (bytes : List ℕ) (entries : List (ℕ × ℕ)) → IsLines bytes entries ↔ IsSpelled bytes entries }
+    ensures { (bytes : List ℕ) (entries : List (ℕ × ℕ)) →
+        IsLines bytes entries ↔ IsSpelled bytes entries }
 {}

@@ -1,6 +1,6 @@
 //! Opening archives that anybody wrote.
 ghost use Rattle.std.specs.Prelude.{◌≡◌, ℕ, List, IfOk, IfErr, IsOk, Err};
-ghost use Rattle.rkyv_btree_base.specs.declared.refusal.Refusal.{Refusal};
+ghost use Rattle.rkyv_btree_base.specs.Refusal.{Refusal};
 ghost use Rattle.btreearc.specs.Faults.{IsOpenFault};
 ghost use Rattle.btreearc.specs.Opening.{IsArchive, RefusesArchive, entries_read};
 
@@ -25,10 +25,12 @@ const ROOT_SIZE: usize = 8;
 /// `Refused` by the first fact, in the order of checking, for which the bytes are no archive.
 #[tactic(auto, using(crate::proofs::Built::numbers_fit))]
 pub fn open(archive: &[u8]) -> Result<View<'_, Numbers>, ProgramFault>
-    ensures accepted { IfOk result (λ map. IsArchive archive.now (entries_read map.buf.now map.pos)) }
+    ensures accepted { IfOk result (λ map.
+        IsArchive archive.now (entries_read map.buf.now map.pos)) }
     ensures all_accepted { (entries : List (ℕ × ℕ)) → IsArchive archive.now entries → IsOk result }
     ensures refused { IfErr result (IsOpenFault archive.now) }
-    ensures all_refused { (refusal : Refusal) → RefusesArchive archive.now refusal → result ≡ Err (ProgramFault.Refused refusal) }
+    ensures all_refused { (refusal : Refusal) → RefusesArchive archive.now refusal →
+        result ≡ Err (ProgramFault.Refused refusal) }
 {
     let root = archive.len().saturating_sub(ROOT_SIZE);
     let Ok(root) = u32::try_from(root) else {
@@ -43,12 +45,14 @@ pub fn open(archive: &[u8]) -> Result<View<'_, Numbers>, ProgramFault>
 /// What is refused is no archive of any list.
 #[tactic(auto, using(crate::proofs::Built::numbers_fit))]
 pub fn refused_is_no_archive()
-    ensures { (b : List ℕ) (refusal : Refusal) (entries : List (ℕ × ℕ)) → RefusesArchive b refusal → IsArchive b entries → ⊥ }
+    ensures { (b : List ℕ) (refusal : Refusal) (entries : List (ℕ × ℕ)) → RefusesArchive b refusal →
+        IsArchive b entries → ⊥ }
 {
     faults_are_exact::<ArchivedU32, ArchivedU32, 5>();
 }
 
 /// Bytes are an archive of one list alone.
 pub fn one_list()
-    ensures { (b : List ℕ) (entries others : List (ℕ × ℕ)) → IsArchive b entries → IsArchive b others → entries ≡ others }
+    ensures { (b : List ℕ) (entries others : List (ℕ × ℕ)) → IsArchive b entries →
+        IsArchive b others → entries ≡ others }
 {}

@@ -1,7 +1,7 @@
 //! The commands over a reader and a writer.
 ghost use Rattle.std.specs.Prelude.{codes, OnOk};
 ghost use Rattle.std.specs.Io.KnownBytes.{IsAtEnd};
-ghost use Rattle.btreearc.specs.Commands.{IsWord, Builds, Lists, Checks, IsMisused};
+ghost use Rattle.btreearc.specs.Commands.{IsWord, IsNoCommand, Builds, Lists, Checks, IsMisused};
 
 use crate::build;
 use crate::fault::ProgramFault;
@@ -25,10 +25,15 @@ pub fn run<R: Read, W: Write>(
     input: &mut R,
     output: &mut W,
 ) -> Result<u8, ProgramFault>
-    ensures build { IsWord (codes "build") args.now → Builds (R.remaining input.old) (W.contents output.old) (W.contents output.new) result }
-    ensures list { IsWord (codes "list") args.now → Lists (R.remaining input.old) (W.contents output.old) (W.contents output.new) result }
-    ensures check { IsWord (codes "check") args.now → Checks (R.remaining input.old) (W.contents output.old) (W.contents output.new) result }
-    ensures usage { (IsWord (codes "build") args.now → ⊥) → (IsWord (codes "list") args.now → ⊥) → (IsWord (codes "check") args.now → ⊥) → IsMisused (R.remaining input.old) (R.remaining input.new) (W.contents output.old) (W.contents output.new) result }
+    ensures build { IsWord (codes "build") args.now →
+        Builds (R.remaining input.old) (W.contents output.old) (W.contents output.new) result }
+    ensures list { IsWord (codes "list") args.now →
+        Lists (R.remaining input.old) (W.contents output.old) (W.contents output.new) result }
+    ensures check { IsWord (codes "check") args.now →
+        Checks (R.remaining input.old) (W.contents output.old) (W.contents output.new) result }
+    ensures usage { IsNoCommand args.now →
+        IsMisused (R.remaining input.old) (R.remaining input.new) (W.contents output.old)
+        (W.contents output.new) result }
     ensures end { OnOk result (IsAtEnd (R.remaining input.new)) }
 {
     let [word] = args else {
@@ -56,7 +61,8 @@ fn build<R: Read, W: Write>(
     input: &mut R,
     output: &mut W,
 ) -> Result<u8, ProgramFault>
-    ensures done { Builds (R.remaining input.old) (W.contents output.old) (W.contents output.new) result }
+    ensures done { Builds (R.remaining input.old) (W.contents output.old) (W.contents output.new)
+        result }
     ensures end { OnOk result (IsAtEnd (R.remaining input.new)) }
 {
     let text = read_all(alloc, input)?;
@@ -72,7 +78,8 @@ fn build<R: Read, W: Write>(
 ///
 /// `Refused` for the first fact for which the input is no archive, and `InputFailed`, `OutputFailed` or `Memory`.
 fn list<R: Read, W: Write>(alloc: Global, input: &mut R, output: &mut W) -> Result<u8, ProgramFault>
-    ensures done { Lists (R.remaining input.old) (W.contents output.old) (W.contents output.new) result }
+    ensures done { Lists (R.remaining input.old) (W.contents output.old) (W.contents output.new)
+        result }
     ensures end { OnOk result (IsAtEnd (R.remaining input.new)) }
 {
     let archive = read_all(alloc, input)?;
@@ -96,7 +103,8 @@ fn check<R: Read, W: Write>(
     input: &mut R,
     output: &mut W,
 ) -> Result<u8, ProgramFault>
-    ensures done { Checks (R.remaining input.old) (W.contents output.old) (W.contents output.new) result }
+    ensures done { Checks (R.remaining input.old) (W.contents output.old) (W.contents output.new)
+        result }
     ensures end { OnOk result (IsAtEnd (R.remaining input.new)) }
 {
     let archive = read_all(alloc, input)?;

@@ -4,12 +4,12 @@ use Rattle.std.specs.Hash as fed
 use Rattle.std.specs.Ordering.{nat_cmp, ordering_then}
 use Rattle.std.proofs.Common.{refl, arith}
 use Rattle.rkyv_btree_base.specs.Archiving.{Archival, IsArchived, own_archival}
-use Rattle.rkyv_btree_base.specs.InPlace.{plain_own}
+use Rattle.rkyv_btree_base.specs.laws.Plain.{plain_own, plain_laws}
 use Rattle.rkyv_btree_base.specs.Kind.{Kind, IsLawful}
-use Rattle.rkyv_btree_base.specs.Plain.{Plain, plain_kind, plain_laws}
+use Rattle.rkyv_btree_base.specs.Plain.{Plain, plain_kind}
 use Rattle.rkyv_btree_base.specs.Rounding.{one}
-use Rattle.rkyv_btree_base.specs.laws.Archiving.{archived_where}
-use Rattle.rkyv_btree_base.specs.declared.fault.EntryFault.{EntryFault}
+use Rattle.rkyv_btree_base.proofs.Archiving.{archived_where}
+use Rattle.rkyv_btree_base.specs.EntryFault.{EntryFault}
 use Rattle.examples.specs.declared.version.Version.{Version}
 
 -- any but 0.0.0 is a version

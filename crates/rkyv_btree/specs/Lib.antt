@@ -1,6 +1,9 @@
-pub mod Deserializing
-pub mod Native
-pub mod Node
-pub mod Path
-pub mod Visit
+-- What contracts and specs of callers may name of the crates below.
+pub use Rattle.rkyv_btree_view.specs.Deserializing
+pub use Rattle.rkyv_btree_view.specs.Iter
+pub use Rattle.rkyv_btree_view.specs.Map
+pub use Rattle.rkyv_btree_view.specs.Native
+pub use Rattle.rkyv_btree_view.specs.View
+pub use Rattle.rkyv_btree_view.specs.declared.deserialize.DeserializeFault
+pub use Rattle.rkyv_btree_walk.specs.Visit
 pub mod laws

@@ -1,2 +1,3 @@
-pub mod Comparing
-pub mod Visits
+-- Laws of the crates below.
+pub use Rattle.rkyv_btree_view.specs.laws.Comparing
+pub use Rattle.rkyv_btree_walk.specs.laws.Visits

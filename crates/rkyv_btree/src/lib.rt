@@ -1,17 +1,42 @@
-//! Archived B-trees, read in place.
+//! Archived B-trees, read in place: what a program names that reads archives. It has no code of its own.
 #![tactic(auto)]
 
 pub use rkyv_btree_base as base;
+pub use rkyv_btree_view::entry;
 
-pub mod compare;
-pub mod debug;
-pub mod deserialize;
-pub mod entry;
-pub mod iter;
-pub mod map;
-pub mod native;
-#[cfg(test)]
-mod tests;
-pub mod view;
-mod visit;
-mod walk;
+/// Comparisons of views: those of what is read, wherever it stands.
+pub mod compare {
+    pub use rkyv_btree_view::compare::{ViewEq, ViewHash, ViewOrd};
+}
+
+/// Views in messages, as what they read.
+pub mod debug {
+    pub use rkyv_btree_view::debug::ViewDebug;
+}
+
+/// Native values from views.
+pub mod deserialize {
+    pub use rkyv_btree_view::deserialize::{Deserialize, DeserializeFault};
+}
+
+/// Iterators over the entries of a map.
+pub mod iter {
+    pub use rkyv_btree_view::iter::Iter;
+}
+
+/// Archived maps, read in place.
+pub mod map {
+    pub use rkyv_btree_view::map::{access, access_valid};
+    pub use rkyv_btree_walk::map::ArchivedMap;
+}
+
+/// Archived types whose values are native ones.
+pub mod native {
+    pub use rkyv_btree_view::native::ToNative;
+}
+
+/// Values in a buffer.
+pub mod view {
+    pub use rkyv_btree_view::view::View;
+    pub use rkyv_btree_walk::shows::Shows;
+}

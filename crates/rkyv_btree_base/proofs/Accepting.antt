@@ -4,20 +4,22 @@ use Rattle.std.proofs.lemmas.Bool.{ne_eqb}
 use Rattle.std.proofs.lemmas.Bool.Decides.{nat_tests}
 use Rattle.std.proofs.lemmas.List.{append_assoc, length-append, take_at, drop_at}
 use Rattle.std.specs.Int.{w32, to_le_bytes}
-use Rattle.rkyv_btree_base.specs.Bytes.{number_at, Holds}
-use Rattle.rkyv_btree_base.specs.Image.{padding, root_bytes, root_reaches, root_image}
-use Rattle.rkyv_btree_base.specs.Kind.{Kind, IsLawful}
-use Rattle.rkyv_btree_base.specs.Layout.{shape}
-use Rattle.rkyv_btree_base.specs.Pointers.{FitsOffset, offset_fits, pointer, no_pointer}
-use Rattle.rkyv_btree_base.specs.Rounding.{round_up, le-round_up, round_up-aligned}
+use Rattle.rkyv_btree_portable.specs.Bytes.{number_at, Holds}
+use Rattle.rkyv_btree_writer.specs.Padding.{padding}
+use Rattle.rkyv_btree_base.specs.Image.{root_bytes, root_reaches, root_image}
+use Rattle.rkyv_btree_portable.specs.Kind.{Kind, IsLawful}
+use Rattle.rkyv_btree_format.specs.Layout.{layout_of}
+use Rattle.rkyv_btree_writer.specs.Pointers.{FitsOffset, offset_fits, pointer, no_pointer}
+use Rattle.rkyv_btree_portable.specs.Rounding.{round_up}
+use Rattle.rkyv_btree_portable.specs.laws.Rounding.{le-round_up, round_up-aligned}
 use Rattle.rkyv_btree_base.specs.Serialising.{Spelled}
-use Rattle.rkyv_btree_base.specs.Spells.{root_size, Spells, Accepted}
-use Rattle.rkyv_btree_base.specs.Tree.{Tree, leaf, inner}
-use Rattle.rkyv_btree_base.specs.Writing.{Writing, position, last_end, Write, Wrote, AllReach, appended}
-use Rattle.rkyv_btree_base.specs.laws.Widen.{map_widens}
-use Rattle.rkyv_btree_base.specs.laws.Holding.{Holds-front, Holds-back, appended-append}
+use Rattle.rkyv_btree_format.specs.Spells.{root_size, Spells, Accepted}
+use Rattle.rkyv_btree_shape.specs.Tree.{Tree, leaf, inner}
+use Rattle.rkyv_btree_writer.specs.Writing.{Writing, position, last_end, Write, Wrote, AllReach, appended}
+use Rattle.rkyv_btree_format.proofs.Widen.{map_widens}
+use Rattle.rkyv_btree_writer.proofs.Holding.{Holds-front, Holds-back, appended-append}
 use Rattle.rkyv_btree_base.proofs.Leaves.{length-padding}
-use Rattle.rkyv_btree_base.specs.laws.HeldNumbers.{held_number, held_pointer}
+use Rattle.rkyv_btree_writer.proofs.HeldNumbers.{held_number, held_pointer}
 
 reached : (at root : ℕ) → offset_fits at root ≡ true → FitsOffset at root
 reached at root h = (grind (arith, nat_tests), grind (arith, nat_tests))
@@ -51,7 +53,7 @@ module _ (K V : Kind) (E : ℕ) where
       let bytes : Holds b at (pointer at root ++ to_le_bytes w32 n) = subst (λ (z : Bool). Holds b at ((if z then no_pointer else pointer at root) ++ to_le_bytes w32 n)) not_zero own in
       let fits : FitsOffset at root = reached at root (subst (λ (z : Bool). (z || offset_fits at root) ≡ true) not_zero reaches) in
       let total : number_at b (at + 4) 4 ≡ n = held_number b (at + 4) n (omega arith) (Holds-back b at (pointer at root) (to_le_bytes w32 n) bytes) in
-      let whole : Accepted K V E b (position from) (position to) at (root + root_size (shape K V E) spelled.tree) m = record {
+      let whole : Accepted K V E b (position from) (position to) at (root + root_size (layout_of K V E) spelled.tree) m = record {
         short = short;
         window = inside.2;
         before = behind;
@@ -71,7 +73,7 @@ module _ (K V : Kind) (E : ℕ) where
           },
         );
       } in
-      let wide = map_widens K V E b k.widens v.widens (position from) (position to) at (root + root_size (shape K V E) spelled.tree) 0 at m (omega arith) behind (omega arith) whole in
+      let wide = map_widens K V E b k.widens v.widens (position from) (position to) at (root + root_size (layout_of K V E) spelled.tree) 0 at m (omega arith) behind (omega arith) whole in
       (wide.0, wide.2)
 
   -- the map of no entries

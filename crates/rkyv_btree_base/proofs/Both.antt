@@ -1,18 +1,18 @@
 -- A key serialised and resolved, and then its value.
 use Rattle.std.proofs.Common.{◌≡◌, ℕ, ◌+◌, ◌-◌, ◌≤◌, List, ◌++◌, length, take, drop, refl, sym, ap, subst, inl, inr, ◌∙◌, arith}
 use Rattle.std.proofs.lemmas.List.{append_assoc, length-append, take-replicate, drop-replicate}
-use Rattle.rkyv_btree_base.specs.Archiving.{Archival, BeginsWith, IsUnserialised}
-use Rattle.rkyv_btree_base.specs.Bytes.{zeros}
-use Rattle.rkyv_btree_base.specs.Entry.{value_offset, entry_size}
+use Rattle.rkyv_btree_writer.specs.Archiving.{Archival, BeginsWith, IsUnserialised}
+use Rattle.rkyv_btree_portable.specs.Bytes.{zeros}
+use Rattle.rkyv_btree_portable.specs.Entry.{value_offset, entry_size}
 use Rattle.rkyv_btree_base.specs.EntryArchival.{EntryWrites, EntryResolves, in_key, in_value, entry_archival}
-use Rattle.rkyv_btree_base.specs.Image.{filled}
-use Rattle.rkyv_btree_base.specs.Writing.{Writing, position, Write, appended, Wrote}
-use Rattle.rkyv_btree_base.specs.declared.fault.Fault.{Fault}
-use Rattle.rkyv_btree_base.specs.declared.fault.Fault.TheVariants.{Length, LengthOverflow, PositionOverflow, OffsetOverflow, Writer, Memory, Entry}
+use Rattle.rkyv_btree_writer.specs.Padding.{filled}
+use Rattle.rkyv_btree_writer.specs.Writing.{Writing, position, Write, appended, Wrote}
+use Rattle.rkyv_btree_writer.specs.declared.fault.Fault.{Fault}
+use Rattle.rkyv_btree_writer.specs.declared.fault.Fault.TheVariants.{Length, LengthOverflow, PositionOverflow, OffsetOverflow, Writer, Memory, Entry}
 use Rattle.rkyv_btree_base.specs.declared.util.EntryAdapter.{EntryAdapter}
 use Rattle.rkyv_btree_base.specs.declared.util.EntryResolver.{EntryResolver}
-use Rattle.rkyv_btree_base.specs.laws.Holding.{length-filled}
-use Rattle.rkyv_btree_base.proofs.WriteRuns.{appended-position, wrote-both, stopped-behind}
+use Rattle.rkyv_btree_writer.proofs.Holding.{length-filled}
+use Rattle.rkyv_btree_writer.proofs.WriteRuns.{appended-position, wrote-both, stopped-behind}
 
 begins-behind : (s : Writing) (first : List Write) (m t : Writing) → Wrote s first m → BeginsWith t m → BeginsWith t s
 begins-behind s first m t w h = (appended first ++ h.0, h.1 ∙ (ap (λ z. z ++ h.0) w.done.contents ∙ append_assoc s.contents (appended first) h.0))

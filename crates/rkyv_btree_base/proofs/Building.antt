@@ -2,30 +2,32 @@
 use Rattle.std.proofs.Common.{◌≡◌, ◌≢◌, ℕ, ◌+◌, ◌<◌, ◌≤◌, ◌∙◌, Bool, IsTrue, List, [], ◌∷◌, ◌++◌, length, map, take, Bor, Option, unwrap_or, inl, inr, refl, sym, subst, ap, arith}
 use Rattle.std.specs.Iterator.{Yields, Drains}
 use Rattle.std.proofs.lemmas.List.{length-append, append-nil, nil_from_length, take_at}
-use Rattle.rkyv_btree_base.specs.Archiving.{Archival, IsArchived, Matches}
-use Rattle.rkyv_btree_base.specs.Bytes.{Holds}
-use Rattle.rkyv_btree_base.specs.Image.{padding, leaf_image, inner_image, root_bytes, root_reaches}
-use Rattle.rkyv_btree_base.specs.InPlace.{OwnBytes}
-use Rattle.rkyv_btree_base.specs.Kind.{Kind, IsLawful}
-use Rattle.rkyv_btree_base.specs.Layout.{Shape, shape, are_fitting, leaf_size, inner_size}
-use Rattle.rkyv_btree_base.specs.Plan.{plan, planned_alone}
-use Rattle.rkyv_btree_base.specs.Rounding.{round_up}
-use Rattle.rkyv_btree_base.specs.Serialising.{meaning_of, Built, Spelled, Miscounted, Refusal, RootRefusal}
-use Rattle.rkyv_btree_base.specs.Spells.{Spells}
-use Rattle.rkyv_btree_base.specs.Tree.{Tree, leaf, inner, Row, last, step, Child, absent, child, row_entries, list}
-use Rattle.rkyv_btree_base.specs.Writing.{Writing, position, Write, Wrote, Refused, last_end}
-use Rattle.rkyv_btree_base.specs.Written.{AreUnserialised, NodeStopped, in_entries, in_padding, past_end, in_own_bytes, in_node, TreeStopped, RowStopped, ChildStopped, ChildWritten, as_fault, now_of}
-use Rattle.rkyv_btree_base.specs.laws.Sizes.{room_of}
-use Rattle.rkyv_btree_base.specs.declared.fault.IteratorLengthMismatch.{IteratorLengthMismatch}
-use Rattle.rkyv_btree_base.specs.declared.fault.Fault.{Fault}
-use Rattle.rkyv_btree_base.specs.declared.fault.Fault.TheVariants.{Length, LengthOverflow, PositionOverflow, OffsetOverflow, Writer, Memory, Entry}
-use Rattle.rkyv_btree_base.specs.declared.fault.ResolveFault.{ResolveFault}
-use Rattle.rkyv_btree_base.specs.declared.fault.ResolveFault.TheVariants as resolving
+use Rattle.rkyv_btree_writer.specs.Archiving.{Archival, IsArchived, Matches}
+use Rattle.rkyv_btree_portable.specs.Bytes.{Holds}
+use Rattle.rkyv_btree_writer.specs.Padding.{padding}
+use Rattle.rkyv_btree_base.specs.Image.{leaf_image, inner_image, root_bytes, root_reaches}
+use Rattle.rkyv_btree_portable.specs.InPlace.{OwnBytes}
+use Rattle.rkyv_btree_portable.specs.Kind.{Kind, IsLawful}
+use Rattle.rkyv_btree_format.specs.Layout.{NodeLayout, layout_of, are_fitting, leaf_size, inner_size}
+use Rattle.rkyv_btree_shape.specs.Plan.{plan, planned_alone}
+use Rattle.rkyv_btree_portable.specs.Rounding.{round_up}
+use Rattle.rkyv_btree_base.specs.Serialising.{meaning_of, Built, Spelled, Miscounted, BuildFault, RootFault}
+use Rattle.rkyv_btree_format.specs.Spells.{Spells}
+use Rattle.rkyv_btree_shape.specs.Tree.{Tree, leaf, inner, Row, last, step, Child, absent, child, row_entries, list}
+use Rattle.rkyv_btree_writer.specs.Writing.{Writing, position, Write, Wrote, Refused, last_end}
+use Rattle.rkyv_btree_base.specs.Entries.{AreUnserialised, as_fault, now_of}
+use Rattle.rkyv_btree_base.specs.Written.{NodeStopped, in_entries, in_padding, past_end, in_own_bytes, in_node, TreeStopped, RowStopped, ChildStopped, ChildWritten}
+use Rattle.rkyv_btree_format.proofs.Sizes.{room_of}
+use Rattle.rkyv_btree_writer.specs.declared.fault.IteratorLengthMismatch.{IteratorLengthMismatch}
+use Rattle.rkyv_btree_writer.specs.declared.fault.Fault.{Fault}
+use Rattle.rkyv_btree_writer.specs.declared.fault.Fault.TheVariants.{Length, LengthOverflow, PositionOverflow, OffsetOverflow, Writer, Memory, Entry}
+use Rattle.rkyv_btree_writer.specs.declared.fault.ResolveFault.{ResolveFault}
+use Rattle.rkyv_btree_writer.specs.declared.fault.ResolveFault.TheVariants as resolving
 use Rattle.rkyv_btree_base.proofs.EntriesWritten.{meant, since}
-use Rattle.rkyv_btree_base.proofs.Mapped.{map_tree, plan_mapped, list_mapped, height_mapped}
-use Rattle.rkyv_btree_base.proofs.Smallest.{plan_is_left_complete, left_complete_is_smallest}
+use Rattle.rkyv_btree_shape.proofs.Mapped.{map_tree, plan_mapped, list_mapped, height_mapped}
+use Rattle.rkyv_btree_shape.proofs.Smallest.{plan_is_left_complete, left_complete_is_smallest}
 use Rattle.rkyv_btree_base.proofs.TreesWritten.{tree_grown, tree_spelled}
-use Rattle.rkyv_btree_base.proofs.WriteRuns.{stopped-behind, stopped-one}
+use Rattle.rkyv_btree_writer.proofs.WriteRuns.{stopped-behind, stopped-one}
 
 -- what was taken, and then the rest
 Drains-behind : {S A : Type 0} (steps : S → Option A → S → Type 0) (s : S) (xs : List A) (t : S) (ys : List A) → Yields steps s xs t → Drains steps t ys → Drains steps s (xs ++ ys)
@@ -40,7 +42,7 @@ drained steps s xs t ys n y d is none =
     subst (Drains steps s) (ap (λ zs. xs ++ zs) (nil_from_length ys (sym is ∙ none)) ∙ append-nil xs) (Drains-behind steps s xs t ys y d)
 
 -- a tree isn't stopped by a wrong count
-module _ (X : Type 0) {M N R S : Type 0} (s : Shape) (KA : Archival M R) (VA : Archival N S) (m : IteratorLengthMismatch) where
+module _ (X : Type 0) {M N R S : Type 0} (s : NodeLayout) (KA : Archival M R) (VA : Archival N S) (m : IteratorLengthMismatch) where
   uncounted_entries : (from : Writing) (xs : List (M × N)) (t : Writing) → AreUnserialised KA VA {E = X} from xs (Length m) t → ⊥
   uncounted_entries from [] t h = h
   uncounted_entries from (x ∷ xs) t (inl h) = h
@@ -75,7 +77,7 @@ module _ (X : Type 0) {M N R S : Type 0} (s : Shape) (KA : Archival M R) (VA : A
 
 module _ {M N R S P : Type 0} (K V : Kind) (E : ℕ) (KA : Archival M R) (VA : Archival N S) (steps : P → Option (Bor M × Bor N) → P → Type 0) where
   pub miscounted_of : (iter : P) (claim more : ℕ) (s t : Writing) (xs : List (Bor M × Bor N)) (rest : P) (ys : List (Bor M × Bor N)) (place : Option ℕ) →
-      Yields steps iter xs rest → Drains steps rest ys → more ≡ length ys → more ≢ 0 → length xs ≡ claim → ChildWritten (shape K V E) KA VA s (planned_alone E (map now_of xs)) place t → Miscounted K V E KA VA steps iter claim claim (claim + more) s t
+      Yields steps iter xs rest → Drains steps rest ys → more ≡ length ys → more ≢ 0 → length xs ≡ claim → ChildWritten (layout_of K V E) KA VA s (planned_alone E (map now_of xs)) place t → Miscounted K V E KA VA steps iter claim claim (claim + more) s t
   miscounted_of iter claim more s t xs rest ys place y d is many n written =
       let all = length-append xs ys in
       let taken : take claim (xs ++ ys) ≡ xs = take_at xs ys claim n in
@@ -86,13 +88,13 @@ module _ {M N R S P : Type 0} (K V : Kind) (E : ℕ) (KA : Archival M R) (VA : A
         claimed = refl;
         counted = omega (arith, all);
         few = λ less. absurd (omega (arith, all));
-        many = λ more. (place, subst (λ (zs : List (Bor M × Bor N)). ChildWritten (shape K V E) KA VA s (planned_alone E (map now_of zs)) place t) (sym taken) written);
+        many = λ more. (place, subst (λ (zs : List (Bor M × Bor N)). ChildWritten (layout_of K V E) KA VA s (planned_alone E (map now_of zs)) place t) (sym taken) written);
       }
 
   -- which faults stop the building, and how
   pub refused_of : {X : Type 0} (iter : P) (claim : ℕ) (s : Writing) (fault : Fault X) (t : Writing) (items : List (Bor M × Bor N)) (rest : P) →
-      Yields steps iter items rest → length items ≡ claim → ChildStopped (shape K V E) KA VA s (planned_alone E (map now_of items)) fault t → Refusal K V E KA VA steps iter claim s fault t
-  refused_of {X} iter claim s (Length m) t items rest y n h = absurd (uncounted_child X (shape K V E) KA VA m s (planned_alone E (map now_of items)) t h)
+      Yields steps iter items rest → length items ≡ claim → ChildStopped (layout_of K V E) KA VA s (planned_alone E (map now_of items)) fault t → BuildFault K V E KA VA steps iter claim s fault t
+  refused_of {X} iter claim s (Length m) t items rest y n h = absurd (uncounted_child X (layout_of K V E) KA VA m s (planned_alone E (map now_of items)) t h)
   refused_of iter claim s LengthOverflow t items rest y n h = inr (record { items = items; rest = rest; taken = y; count = n; stopped = h })
   refused_of iter claim s PositionOverflow t items rest y n h = record { items = items; rest = rest; taken = y; count = n; stopped = h }
   refused_of iter claim s OffsetOverflow t items rest y n h = record { items = items; rest = rest; taken = y; count = n; stopped = h }
@@ -106,7 +108,7 @@ module _ {M N R S : Type 0} (K V : Kind) (E : ℕ) (k : IsLawful K) (v : IsLawfu
   meaning_is (x ∷ xs) = ap (λ (ys : List (K.Value × V.Value)). meaning_of K V KA VA key value x ∷ ys) (meaning_is xs)
 
   -- every buffer that holds the writes of a built tree spells it
-  pub spelled_of : (s : Writing) (xs : List (M × N)) (m : List (K.Value × V.Value)) (root : ℕ) (t : Writing) → map (meant K V E k v fits KA VA key value ka va) xs ≡ m → 0 < length xs → length xs ≤ last_end → Built (shape K V E) KA VA s xs root t → Spelled K V E s m root t
+  pub spelled_of : (s : Writing) (xs : List (M × N)) (m : List (K.Value × V.Value)) (root : ℕ) (t : Writing) → map (meant K V E k v fits KA VA key value ka va) xs ≡ m → 0 < length xs → length xs ≤ last_end → Built (layout_of K V E) KA VA s xs root t → Spelled K V E s m root t
   spelled_of s [] m root t means some few b = absurd (omega arith)
   spelled_of s (x ∷ more) m root t means some few b =
       let xs = x ∷ more in
@@ -135,7 +137,7 @@ module _ {M N R S : Type 0} (K V : Kind) (E : ℕ) (k : IsLawful K) (v : IsLawfu
 abbrev root_write : ℕ → ℕ → ℕ → Write
 root_write at root len = record { bytes = root_bytes at root len; reaches = root_reaches at root len }
 
-stopped_root : {X : Type 0} (root len : ℕ) (s m t : Writing) (fault : Fault X) → Wrote s (padding 4 (position s)) m → Refused fault m (root_write (round_up (position s) 4) root len) t → RootRefusal root len s fault t
+stopped_root : {X : Type 0} (root len : ℕ) (s m t : Writing) (fault : Fault X) → Wrote s (padding 4 (position s)) m → Refused fault m (root_write (round_up (position s) 4) root len) t → RootFault root len s fault t
 stopped_root root len s m t PositionOverflow wrote r = stopped-behind s (padding 4 (position s)) m (root_write (round_up (position s) 4) root len ∷ []) PositionOverflow t wrote (stopped-one m (root_write (round_up (position s) 4) root len) PositionOverflow t r)
 stopped_root root len s m t OffsetOverflow wrote r = stopped-behind s (padding 4 (position s)) m (root_write (round_up (position s) 4) root len ∷ []) OffsetOverflow t wrote (stopped-one m (root_write (round_up (position s) 4) root len) OffsetOverflow t r)
 stopped_root root len s m t (Writer error) wrote r = stopped-behind s (padding 4 (position s)) m (root_write (round_up (position s) 4) root len ∷ []) (Writer error) t wrote (stopped-one m (root_write (round_up (position s) 4) root len) (Writer error) t r)
@@ -145,7 +147,7 @@ stopped_root root len s m t (Memory error) wrote r = r
 stopped_root root len s m t (Entry fault) wrote r = r
 
 -- a map that isn't written behind its padding
-pub root_refused : {X : Type 0} (root len : ℕ) (s m t : Writing) (bytes : List ℕ) (fault : Fault X) → bytes ≡ root_bytes (round_up (position s) 4) root len → Wrote s (padding 4 (position s)) m → ((reaches : Bool) → Refused fault m (record { bytes = bytes; reaches = reaches }) t) → RootRefusal root len s fault t
+pub root_refused : {X : Type 0} (root len : ℕ) (s m t : Writing) (bytes : List ℕ) (fault : Fault X) → bytes ≡ root_bytes (round_up (position s) 4) root len → Wrote s (padding 4 (position s)) m → ((reaches : Bool) → Refused fault m (record { bytes = bytes; reaches = reaches }) t) → RootFault root len s fault t
 root_refused root len s m t bytes fault is wrote refused =
     let at = round_up (position s) 4 in
     stopped_root root len s m t fault wrote (subst (λ bs. Refused fault m (record { bytes = bs; reaches = root_reaches at root len }) t) is (refused (root_reaches at root len)))

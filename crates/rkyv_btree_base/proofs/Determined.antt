@@ -1,16 +1,17 @@
 -- Where archiving keys and values is a function, so is the writing of nodes and trees.
 use Rattle.std.proofs.Common.{◌≡◌, ℕ, ◌+◌, List, [], ◌∷◌, ◌++◌, map, Option, Some, unwrap_or, refl, sym, ap, subst, ◌∙◌, arith}
-use Rattle.rkyv_btree_base.specs.Archiving.{Archival}
+use Rattle.rkyv_btree_writer.specs.Archiving.{Archival}
 use Rattle.rkyv_btree_base.specs.Determined.{IsDetermined, BuildsAlike}
 use Rattle.rkyv_btree_base.specs.Image.{leaf_image, inner_image}
-use Rattle.rkyv_btree_base.specs.InPlace.{OwnBytes}
-use Rattle.rkyv_btree_base.specs.Layout.{Shape, key_at, value_at, align, leaf_size, inner_size}
-use Rattle.rkyv_btree_base.specs.Plan.{planned_alone}
-use Rattle.rkyv_btree_base.specs.Rounding.{round_up}
-use Rattle.rkyv_btree_base.specs.Tree.{Tree, leaf, inner, Row, last, step, Child, absent, child, row_entries}
-use Rattle.rkyv_btree_base.specs.Writing.{Writing, Write, position, appended, Wrote}
-use Rattle.rkyv_btree_base.specs.Written.{IsSerialised, AreSerialised, AreResolved, NodeWritten, TreeWritten, RowWritten, ChildWritten}
-use Rattle.rkyv_btree_base.proofs.WriteRuns.{appended-position, wrote-none, wrote-both}
+use Rattle.rkyv_btree_portable.specs.InPlace.{OwnBytes}
+use Rattle.rkyv_btree_format.specs.Layout.{NodeLayout, key_at, value_at, align, leaf_size, inner_size}
+use Rattle.rkyv_btree_shape.specs.Plan.{planned_alone}
+use Rattle.rkyv_btree_portable.specs.Rounding.{round_up}
+use Rattle.rkyv_btree_shape.specs.Tree.{Tree, leaf, inner, Row, last, step, Child, absent, child, row_entries}
+use Rattle.rkyv_btree_writer.specs.Writing.{Writing, Write, position, appended, Wrote}
+use Rattle.rkyv_btree_base.specs.Entries.{IsSerialised, AreSerialised, AreResolved}
+use Rattle.rkyv_btree_base.specs.Written.{NodeWritten, TreeWritten, RowWritten, ChildWritten}
+use Rattle.rkyv_btree_writer.proofs.WriteRuns.{appended-position, wrote-none, wrote-both}
 
 -- the same writes lead from s to t and from z to u
 record Alike (s t z u : Writing) : Type 0 where
@@ -59,7 +60,7 @@ columns_alike (o ∷ owns) (p ∷ others) hk hv =
     let d : map (λ (z : OwnBytes). z.1) owns ≡ map (λ (z : OwnBytes). z.1) others = cc hv in
     ap (λ (z : List ℕ). (z, o.1) ∷ owns) a ∙ (ap (λ (z : List ℕ). (p.0, z) ∷ owns) b ∙ ap (λ (zs : List OwnBytes). p ∷ zs) (columns_alike owns others c d))
 
-module _ {M N R S : Type 0} (s : Shape) (K : Archival M R) (V : Archival N S) (k : IsDetermined K) (v : IsDetermined V) where
+module _ {M N R S : Type 0} (s : NodeLayout) (K : Archival M R) (V : Archival N S) (k : IsDetermined K) (v : IsDetermined V) where
   entries_alike : (from start : Writing) (xs : List (M × N)) (rs qs : List R) (ss ps : List S) (t u : Writing) → position from ≡ position start → AreSerialised K V from xs rs ss t → AreSerialised K V start xs qs ps u → (rs ≡ qs) × (ss ≡ ps) × Alike from t start u
   entries_alike from start [] rs qs ss ps t u at a b = (a.1 ∙ sym b.1, a.2 ∙ sym b.2, alike_none from t start u a.0 b.0)
   entries_alike from start (x ∷ xs) rs qs ss ps t u at a b =
@@ -108,5 +109,5 @@ module _ {M N R S : Type 0} (s : Shape) (K : Archival M R) (V : Archival N S) (k
 
   pub builds_alike : BuildsAlike s K V
   builds_alike from t start u xs root place at a b =
-      let one = child_alike from start (planned_alone s.capacity xs) a.place b.place t u at a.written b.written in
+      let one = child_alike from start (planned_alone s.E xs) a.place b.place t u at a.written b.written in
       (a.root_is ∙ (ap (λ (r : Option ℕ). unwrap_or r 0) one.0 ∙ sym b.root_is), record { bytes = appended one.1.writes; first = one.1.first.done; second = one.1.second.done })

@@ -1,18 +1,18 @@
 -- The entries of a node, from what was written for them.
 use Rattle.std.proofs.Common.{◌≡◌, ℕ, ◌+◌, ◌*◌, ◌≤◌, ◌∙◌, IsTrue, List, [], ◌∷◌, ◌++◌, length, map, drop, get_or, refl, sym, ap, subst, arith}
 use Rattle.std.proofs.lemmas.List.{length-append, append-nil, append_assoc, drop_at}
-use Rattle.rkyv_btree_base.specs.Archiving.{Archival, IsArchived, Matches}
-use Rattle.rkyv_btree_base.specs.Bytes.{Holds}
-use Rattle.rkyv_btree_base.specs.InPlace.{OwnBytes}
-use Rattle.rkyv_btree_base.specs.Kind.{Kind, IsLawful}
-use Rattle.rkyv_btree_base.specs.Layout.{shape, are_fitting, key_at, value_at, align, leaf_size}
-use Rattle.rkyv_btree_base.specs.Spells.{Entries}
-use Rattle.rkyv_btree_base.specs.Standing.{IsAligned}
-use Rattle.rkyv_btree_base.specs.Writing.{Writing, Write, position, Wrote, appended}
-use Rattle.rkyv_btree_base.specs.Written.{IsSerialised, AreSerialised, AreResolved}
-use Rattle.rkyv_btree_base.specs.laws.Sizes.{room_of}
-use Rattle.rkyv_btree_base.proofs.Aligned.{key_aligned, value_aligned}
-use Rattle.rkyv_btree_base.specs.laws.Holding.{Holds-front, Holds-back, Holds-at}
+use Rattle.rkyv_btree_writer.specs.Archiving.{Archival, IsArchived, Matches}
+use Rattle.rkyv_btree_portable.specs.Bytes.{Holds}
+use Rattle.rkyv_btree_portable.specs.InPlace.{OwnBytes}
+use Rattle.rkyv_btree_portable.specs.Kind.{Kind, IsLawful}
+use Rattle.rkyv_btree_format.specs.Layout.{layout_of, are_fitting, key_at, value_at, align, leaf_size}
+use Rattle.rkyv_btree_format.specs.Spells.{Entries}
+use Rattle.rkyv_btree_portable.specs.Standing.{IsAligned}
+use Rattle.rkyv_btree_writer.specs.Writing.{Writing, Write, position, Wrote, appended}
+use Rattle.rkyv_btree_base.specs.Entries.{IsSerialised, AreSerialised, AreResolved}
+use Rattle.rkyv_btree_format.proofs.Sizes.{room_of}
+use Rattle.rkyv_btree_format.proofs.Aligned.{key_aligned, value_aligned}
+use Rattle.rkyv_btree_writer.proofs.Holding.{Holds-front, Holds-back, Holds-at}
 use Rattle.rkyv_btree_base.proofs.Leaves.{keys_of, values_of}
 
 -- state t has more behind the contents of s
@@ -131,12 +131,12 @@ module _ {M N R S : Type 0} (K V : Kind) (E : ℕ) (k : IsLawful K) (v : IsLawfu
       )
 
   -- the entries from number i on, each in the window that the one before it left
-  pub entries_spelled : (b : List ℕ) (lo p i ak av : ℕ) (from : Writing) (xs : List (M × N)) (owns : List OwnBytes) (to : Writing) → AreWritten KA VA from ak av xs owns to → ak ≡ p + key_at (shape K V E) i → av ≡ p + value_at (shape K V E) i → HeldSince b from to →
-      length b ≤ 4294967295 → lo ≤ position from → position to ≤ p → IsAligned (align (shape K V E)) p → i + length xs ≤ E → p + leaf_size (shape K V E) ≤ length b → Holds b ak (keys_of owns) → Holds b av (values_of owns) →
+  pub entries_spelled : (b : List ℕ) (lo p i ak av : ℕ) (from : Writing) (xs : List (M × N)) (owns : List OwnBytes) (to : Writing) → AreWritten KA VA from ak av xs owns to → ak ≡ p + key_at (layout_of K V E) i → av ≡ p + value_at (layout_of K V E) i → HeldSince b from to →
+      length b ≤ 4294967295 → lo ≤ position from → position to ≤ p → IsAligned (align (layout_of K V E)) p → i + length xs ≤ E → p + leaf_size (layout_of K V E) ≤ length b → Holds b ak (keys_of owns) → Holds b av (values_of owns) →
       (left : ℕ) × Entries K V E b p i lo left (map meant xs) × (left ≤ position to)
   entries_spelled b lo p i ak av from [] owns to h ek ev held short low high aligned few inside ks vs = (lo, refl, omega (arith, low, ap position h.0))
   entries_spelled b lo p i ak av from (x ∷ xs) owns to h ek ev held short low high aligned few inside ks vs =
-      let s = shape K V E in
+      let s = layout_of K V E in
       let room = room_of K V E k v fits in
       let parts = room.parts in
       let mid = h.2 in

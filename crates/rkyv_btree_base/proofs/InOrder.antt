@@ -1,10 +1,10 @@
 -- Entries serialised one after another.
 use Rattle.std.proofs.Common.{◌≡◌, ℕ, ◌+◌, ◌<◌, ◌≤◌, List, [], ◌∷◌, ◌++◌, length, map, drop, get_or, Bor, inl, inr, refl, sym, ap, subst, ◌∙◌}
 use Rattle.std.proofs.lemmas.List.{append_assoc, append-nil, drop_more, drop_all}
-use Rattle.rkyv_btree_base.specs.Archiving.{Archival, IsUnserialised}
-use Rattle.rkyv_btree_base.specs.Written.{IsSerialised, AreSerialised, AreUnserialised, now_of}
-use Rattle.rkyv_btree_base.specs.Writing.{Writing}
-use Rattle.rkyv_btree_base.specs.declared.fault.Fault.{Fault}
+use Rattle.rkyv_btree_writer.specs.Archiving.{Archival, IsUnserialised}
+use Rattle.rkyv_btree_base.specs.Entries.{IsSerialised, AreSerialised, AreUnserialised, now_of}
+use Rattle.rkyv_btree_writer.specs.Writing.{Writing}
+use Rattle.rkyv_btree_writer.specs.declared.fault.Fault.{Fault}
 
 -- all entries are serialised from a state on as far as those that are left
 pub record SerialisedSoFar (F : Type 0) {M N R S : Type 0} (K : Archival M R) (V : Archival N S) (from : Writing) (all : List (M × N)) (now : Writing) (xs : List (M × N)) (keys : List R) (values : List S) : Type 0 where

@@ -4,15 +4,17 @@ use Rattle.std.proofs.lemmas.Bool.Decides.{nat_tests}
 use Rattle.std.proofs.lemmas.List.{length-append}
 use Rattle.std.specs.Int.{w32, to_le_bytes}
 use Rattle.std.specs.List.{flat_map}
-use Rattle.rkyv_btree_base.specs.Bytes.{Holds, zeros}
-use Rattle.rkyv_btree_base.specs.Image.{zeros_write, padding, filled, entry_bytes, leaf_bytes}
-use Rattle.rkyv_btree_base.specs.InPlace.{OwnBytes, AreOwn}
-use Rattle.rkyv_btree_base.specs.Kind.{Kind, IsLawful}
-use Rattle.rkyv_btree_base.specs.Layout.{shape, are_fitting, keys_at, values_at, len_at, align, leaf_size}
-use Rattle.rkyv_btree_base.specs.Rounding.{round_up, le-round_up}
-use Rattle.rkyv_btree_base.specs.Writing.{appended}
-use Rattle.rkyv_btree_base.specs.laws.Holding.{Holds-front, Holds-back, Holds-at, length-zeros, length-filled, tail_length}
-use Rattle.rkyv_btree_base.specs.laws.Sizes.{room_of}
+use Rattle.rkyv_btree_portable.specs.Bytes.{Holds, zeros}
+use Rattle.rkyv_btree_writer.specs.Padding.{zeros_write, padding, filled}
+use Rattle.rkyv_btree_base.specs.Image.{entry_bytes, leaf_bytes}
+use Rattle.rkyv_btree_portable.specs.InPlace.{OwnBytes, AreOwn}
+use Rattle.rkyv_btree_portable.specs.Kind.{Kind, IsLawful}
+use Rattle.rkyv_btree_format.specs.Layout.{layout_of, are_fitting, keys_at, values_at, len_at, align, leaf_size}
+use Rattle.rkyv_btree_portable.specs.Rounding.{round_up}
+use Rattle.rkyv_btree_portable.specs.laws.Rounding.{le-round_up}
+use Rattle.rkyv_btree_writer.specs.Writing.{appended}
+use Rattle.rkyv_btree_writer.proofs.Holding.{Holds-front, Holds-back, Holds-at, length-zeros, length-filled, tail_length}
+use Rattle.rkyv_btree_format.proofs.Sizes.{room_of}
 
 pub length-padding : (align w : ℕ) → 0 < align → length (appended (padding align w)) + w ≡ round_up w align
 length-padding align w positive = go (nat_eq (round_up w align) w) refl
@@ -55,22 +57,22 @@ module _ (K V : Kind) (E : ℕ) (k : IsLawful K) (v : IsLawful V) (fits : IsTrue
   values_length [] own = omega arith
   values_length (x ∷ xs) own = omega (arith, length-append x.1 (values_of xs), own.1.size, values_length xs own.2)
 
-  keys_room : (xs : List OwnBytes) → AreOwn K V xs → length xs ≤ E → keys_at (shape K V E) + length (keys_of xs) ≤ values_at (shape K V E)
+  keys_room : (xs : List OwnBytes) → AreOwn K V xs → length xs ≤ E → keys_at (layout_of K V E) + length (keys_of xs) ≤ values_at (layout_of K V E)
   keys_room xs own few =
       let room = room_of K V E k v fits in
       let parts = room.parts in
       omega (arith, keys_length xs own, room.key_at (length xs) few)
 
   -- a node's kind and entries end before its length or its pointers
-  pub entries_end : (kind : ℕ) (xs : List OwnBytes) → AreOwn K V xs → length xs ≤ E → length (entry_bytes (shape K V E) kind xs) ≤ len_at (shape K V E)
+  pub entries_end : (kind : ℕ) (xs : List OwnBytes) → AreOwn K V xs → length xs ≤ E → length (entry_bytes (layout_of K V E) kind xs) ≤ len_at (layout_of K V E)
   entries_end kind xs own few =
-      let s = shape K V E in
+      let s = layout_of K V E in
       let room = room_of K V E k v fits in
       let parts = room.parts in
       omega (arith, parts_length (kind ∷ []) (keys_of xs) (values_of xs) (keys_at s) (values_at s) parts.kind (keys_room xs own few), values_length xs own, room.value_at (length xs) few)
 
-  pub leaf_bytes_length : (xs : List OwnBytes) → AreOwn K V xs → length xs ≤ E → length (leaf_bytes (shape K V E) xs) ≡ leaf_size (shape K V E)
+  pub leaf_bytes_length : (xs : List OwnBytes) → AreOwn K V xs → length xs ≤ E → length (leaf_bytes (layout_of K V E) xs) ≡ leaf_size (layout_of K V E)
   leaf_bytes_length xs own few =
-      let s = shape K V E in
+      let s = layout_of K V E in
       let len_room = (room_of K V E k v fits).parts.len in
       tail_length (entry_bytes s 0 xs) (to_le_bytes w32 (length xs)) (len_at s) (leaf_size s) (entries_end 0 xs own few) len_room

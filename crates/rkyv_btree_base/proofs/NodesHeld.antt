@@ -2,18 +2,20 @@
 use Rattle.std.proofs.Common.{◌≡◌, ℕ, ◌+◌, ◌*◌, ◌<◌, Bool, true, ◌&&◌, IsTrue, List, [], ◌∷◌, ◌++◌, length, refl, subst, arith, Option, Some, None}
 use Rattle.std.proofs.lemmas.Bool.Decides.{nat_tests}
 use Rattle.std.proofs.lemmas.List.{length-append}
-use Rattle.rkyv_btree_base.specs.Bytes.{Holds}
-use Rattle.rkyv_btree_base.specs.Image.{padding, pointers, pointers_reach, inner_bytes, entry_bytes, child_end, row_roots}
-use Rattle.rkyv_btree_base.specs.InPlace.{OwnBytes, AreOwn}
-use Rattle.rkyv_btree_base.specs.Kind.{Kind, IsLawful}
-use Rattle.rkyv_btree_base.specs.Layout.{Shape, shape, are_fitting, align, len_at, inner_size}
-use Rattle.rkyv_btree_base.specs.Pointers.{FitsOffset, pointer, no_pointer, offset_fits}
-use Rattle.rkyv_btree_base.specs.Rounding.{round_up, alignment_positive}
-use Rattle.rkyv_btree_base.specs.Tree.{Row, last, step, row_entries}
-use Rattle.rkyv_btree_base.specs.Writing.{Write, appended, AllReach}
-use Rattle.rkyv_btree_base.specs.laws.Sizes.{room_of}
-use Rattle.rkyv_btree_base.proofs.Aligned.{alignment}
-use Rattle.rkyv_btree_base.specs.laws.Holding.{Holds-front, Holds-back, Holds-at, tail_length, appended-append}
+use Rattle.rkyv_btree_portable.specs.Bytes.{Holds}
+use Rattle.rkyv_btree_writer.specs.Padding.{padding}
+use Rattle.rkyv_btree_base.specs.Image.{pointers, pointers_reach, inner_bytes, entry_bytes, child_end, row_roots}
+use Rattle.rkyv_btree_portable.specs.InPlace.{OwnBytes, AreOwn}
+use Rattle.rkyv_btree_portable.specs.Kind.{Kind, IsLawful}
+use Rattle.rkyv_btree_format.specs.Layout.{NodeLayout, layout_of, are_fitting, align, len_at, inner_size}
+use Rattle.rkyv_btree_writer.specs.Pointers.{FitsOffset, pointer, no_pointer, offset_fits}
+use Rattle.rkyv_btree_portable.specs.Rounding.{round_up}
+use Rattle.rkyv_btree_portable.specs.laws.Rounding.{alignment_positive}
+use Rattle.rkyv_btree_shape.specs.Tree.{Row, last, step, row_entries}
+use Rattle.rkyv_btree_writer.specs.Writing.{Write, appended, AllReach}
+use Rattle.rkyv_btree_format.proofs.Sizes.{room_of}
+use Rattle.rkyv_btree_format.proofs.Aligned.{alignment}
+use Rattle.rkyv_btree_writer.proofs.Holding.{Holds-front, Holds-back, Holds-at, tail_length, appended-append}
 use Rattle.rkyv_btree_base.proofs.Leaves.{length-padding, entries_end}
 
 -- what all of two lists' writes reach
@@ -38,23 +40,23 @@ length-pointers at [] = refl
 length-pointers at (None ∷ roots) = omega (arith, length-pointers (at + 4) roots, length-append no_pointer (pointers (at + 4) roots))
 length-pointers at (Some root ∷ roots) = omega (arith, length-pointers (at + 4) roots, length-append (pointer at root) (pointers (at + 4) roots))
 
-pub length-roots : (s : Shape) (at : ℕ) (row : Row OwnBytes) → length (row_roots s at row) ≡ length (row_entries row) + 1
+pub length-roots : (s : NodeLayout) (at : ℕ) (row : Row OwnBytes) → length (row_roots s at row) ≡ length (row_entries row) + 1
 length-roots s at (last c) = refl
 length-roots s at (step c x row) = omega (arith, length-roots s (child_end s at c) row)
 
 module _ (K V : Kind) (E : ℕ) (k : IsLawful K) (v : IsLawful V) (fits : IsTrue (are_fitting K V E)) where
-  positive : 0 < align (shape K V E)
+  positive : 0 < align (layout_of K V E)
   positive = alignment_positive (alignment K V E k v)
 
-  pub inner_length : (at : ℕ) (xs : List OwnBytes) (roots : List (Option ℕ)) → AreOwn K V xs → length xs ≡ E → length roots ≡ E + 1 → length (inner_bytes (shape K V E) at xs roots) ≡ inner_size (shape K V E)
+  pub inner_length : (at : ℕ) (xs : List OwnBytes) (roots : List (Option ℕ)) → AreOwn K V xs → length xs ≡ E → length roots ≡ E + 1 → length (inner_bytes (layout_of K V E) at xs roots) ≡ inner_size (layout_of K V E)
   inner_length at xs roots own full whole =
-      let s = shape K V E in
+      let s = layout_of K V E in
       let room = (room_of K V E k v fits).parts.pointers in
       tail_length (entry_bytes s 1 xs) (pointers (at + len_at s) roots) (len_at s) (inner_size s) (entries_end K V E k v fits 1 xs own (omega arith)) (omega (arith, length-pointers (at + len_at s) roots))
 
   -- a node behind its padding
-  pub node_there : (b : List ℕ) (w : ℕ) (node : Write) → Holds b w (appended (padding (align (shape K V E)) w ++ node ∷ [])) → Holds b (round_up w (align (shape K V E))) node.bytes
+  pub node_there : (b : List ℕ) (w : ℕ) (node : Write) → Holds b w (appended (padding (align (layout_of K V E)) w ++ node ∷ [])) → Holds b (round_up w (align (layout_of K V E))) node.bytes
   node_there b w node held =
-      let pad = padding (align (shape K V E)) w in
+      let pad = padding (align (layout_of K V E)) w in
       let both : Holds b w (appended pad ++ (node.bytes ++ [])) = subst (Holds b w) (appended-append pad (node ∷ [])) held in
-      Holds-at b (w + length (appended pad)) (round_up w (align (shape K V E))) node.bytes (omega (arith, length-padding (align (shape K V E)) w positive)) (Holds-front b (w + length (appended pad)) node.bytes [] (Holds-back b w (appended pad) (node.bytes ++ []) both))
+      Holds-at b (w + length (appended pad)) (round_up w (align (layout_of K V E))) node.bytes (omega (arith, length-padding (align (layout_of K V E)) w positive)) (Holds-front b (w + length (appended pad)) node.bytes [] (Holds-back b w (appended pad) (node.bytes ++ []) both))

@@ -1,15 +1,16 @@
 -- Nodes behind the padding before them.
 use Rattle.std.proofs.Common.{◌≡◌, ℕ, ◌∙◌, true, List, [], ◌∷◌, ◌++◌, length, sym, subst, arith}
-use Rattle.rkyv_btree_base.specs.Archiving.{Archival}
-use Rattle.rkyv_btree_base.specs.Image.{padding}
-use Rattle.rkyv_btree_base.specs.InPlace.{OwnBytes}
-use Rattle.rkyv_btree_base.specs.Layout.{Shape, align}
-use Rattle.rkyv_btree_base.specs.Writing.{Writing, Write, Appended, Wrote, Stopped, Refused, position}
-use Rattle.rkyv_btree_base.specs.Written.{EntriesResolved, AreInNode, IsPadded, NodeWritten, NodeStopped, in_node}
-use Rattle.rkyv_btree_base.specs.declared.fault.Fault.{Fault}
-use Rattle.rkyv_btree_base.proofs.WriteRuns.{appended-position, wrote-both, wrote-one, stopped-behind, stopped-one}
+use Rattle.rkyv_btree_writer.specs.Archiving.{Archival}
+use Rattle.rkyv_btree_writer.specs.Padding.{padding}
+use Rattle.rkyv_btree_portable.specs.InPlace.{OwnBytes}
+use Rattle.rkyv_btree_format.specs.Layout.{NodeLayout, align}
+use Rattle.rkyv_btree_writer.specs.Writing.{Writing, Write, Appended, Wrote, Stopped, Refused, position}
+use Rattle.rkyv_btree_base.specs.Entries.{EntriesResolved}
+use Rattle.rkyv_btree_base.specs.Written.{AreInNode, IsPadded, NodeWritten, NodeStopped, in_node}
+use Rattle.rkyv_btree_writer.specs.declared.fault.Fault.{Fault}
+use Rattle.rkyv_btree_writer.proofs.WriteRuns.{appended-position, wrote-both, wrote-one, stopped-behind, stopped-one}
 
-module _ {M N R S : Type 0} (s : Shape) (K : Archival M R) (V : Archival N S) (from to : Writing) (xs : List (M × N)) (keys : List R) (values : List S) (padded : IsPadded s K V from xs keys values to) (root : ℕ) (owns : List OwnBytes) (place : root ≡ position to) (resolved : EntriesResolved s K V root xs keys values owns) (image : ℕ → List OwnBytes → List Write) (size : ℕ) (node : Write) (is : image (position padded.mid) owns ≡ padding (align s) (position padded.mid) ++ node ∷ []) where
+module _ {M N R S : Type 0} (s : NodeLayout) (K : Archival M R) (V : Archival N S) (from to : Writing) (xs : List (M × N)) (keys : List R) (values : List S) (padded : IsPadded s K V from xs keys values to) (root : ℕ) (owns : List OwnBytes) (place : root ≡ position to) (resolved : EntriesResolved s K V root xs keys values owns) (image : ℕ → List OwnBytes → List Write) (size : ℕ) (node : Write) (is : image (position padded.mid) owns ≡ padding (align s) (position padded.mid) ++ node ∷ []) where
   in_place : AreInNode s K V from xs root owns padded.mid
   in_place = record { keys = keys; values = values; serialised = padded.serialised; place = place ∙ padded.place; resolved = resolved }
 

@@ -2,7 +2,7 @@
 use Rattle.std.proofs.Common.{◌≡◌, ℕ, ◌+◌, ◌*◌, ◌<◌, List, [], ◌∷◌, ◌++◌, length, take, drop, get_or, refl, ap, sym, ◌∙◌, arith, Bool, true, false, ◌&&◌, Option, Some, None}
 use Rattle.std.proofs.lemmas.List.{append_assoc, take_more, length-take-le, take-append-drop}
 use Rattle.rkyv_btree_base.specs.Image.{pointers, pointers_reach}
-use Rattle.rkyv_btree_base.specs.Pointers.{pointer, no_pointer, offset_fits}
+use Rattle.rkyv_btree_writer.specs.Pointers.{pointer, no_pointer, offset_fits}
 
 pub pointers-append : (at : ℕ) (xs ys : List (Option ℕ)) → pointers at (xs ++ ys) ≡ pointers at xs ++ pointers (at + 4 * length xs) ys
 pointers-append at [] ys = ap (λ n. pointers n ys) (omega arith)

@@ -5,12 +5,13 @@ use Rattle.std.proofs.lemmas.Grind.{flat_map-append}
 use Rattle.std.proofs.lemmas.List.Folds.{flat_map-map}
 use Rattle.std.specs.Int.{w32, to_le_bytes}
 use Rattle.std.specs.List.{flat_map}
-use Rattle.rkyv_btree_base.specs.Archiving.{Archival, IsUnresolved}
-use Rattle.rkyv_btree_base.specs.Image.{filled, entry_bytes, leaf_bytes}
-use Rattle.rkyv_btree_base.specs.InPlace.{OwnBytes}
-use Rattle.rkyv_btree_base.specs.Layout.{Shape, keys_at, values_at, key_at, value_at, len_at, leaf_size}
-use Rattle.rkyv_btree_base.specs.Written.{AreResolved, AreUnresolved, EntriesResolved, EntriesUnresolved, now_of}
-use Rattle.rkyv_btree_base.specs.declared.fault.ResolveFault.{ResolveFault}
+use Rattle.rkyv_btree_writer.specs.Archiving.{Archival, IsUnresolved}
+use Rattle.rkyv_btree_writer.specs.Padding.{filled}
+use Rattle.rkyv_btree_base.specs.Image.{entry_bytes, leaf_bytes}
+use Rattle.rkyv_btree_portable.specs.InPlace.{OwnBytes}
+use Rattle.rkyv_btree_format.specs.Layout.{NodeLayout, keys_at, values_at, key_at, value_at, len_at, leaf_size}
+use Rattle.rkyv_btree_base.specs.Entries.{AreResolved, AreUnresolved, EntriesResolved, EntriesUnresolved, now_of}
+use Rattle.rkyv_btree_writer.specs.declared.fault.ResolveFault.{ResolveFault}
 
 -- a part that was written behind the old bytes
 pub placed : (old whole own post tail : List ℕ) (n start : ℕ) → take start whole ≡ old → n ≡ length old + length own → take n ((take start whole ++ (own ++ post)) ++ tail) ≡ old ++ own
@@ -86,7 +87,7 @@ pub values_now : {M N : Type 0} (xs : List (Bor M × Bor N)) → map (λ x. x.1)
 values_now [] = refl
 values_now (x ∷ xs) = ap (λ z. x.1.now ∷ z) (values_now xs)
 
-module _ {M N R S : Type 0} (s : Shape) (K : Archival M R) (V : Archival N S) where
+module _ {M N R S : Type 0} (s : NodeLayout) (K : Archival M R) (V : Archival N S) where
   -- both columns of a node's entries
   pub both_resolved : (pos k v : ℕ) (xs : List (Bor M × Bor N)) (keys : List R) (values : List S) (kowns vowns : List (List ℕ)) → k ≡ pos + key_at s 0 → v ≡ pos + value_at s 0 → AreResolved K k (map (λ x. x.0.now) xs) keys kowns → AreResolved V v (map (λ x. x.1.now) xs) values vowns → EntriesResolved s K V pos (map now_of xs) keys values (paired kowns vowns)
   both_resolved pos k v xs keys values kowns vowns ek ev hk hv =
@@ -103,7 +104,7 @@ module _ {M N R S : Type 0} (s : Shape) (K : Archival M R) (V : Archival N S) wh
   value_unresolved pos v xs keys values fault ev h = inr (subst (λ ys. AreUnresolved V (pos + value_at s 0) ys values fault) (sym (values_now xs)) (subst (λ n. AreUnresolved V n (map (λ x. x.1.now) xs) values fault) ev h))
 
 -- the bytes of a node's kind and entries, part by part
-pub filled_columns : (s : Shape) (kind k v : ℕ) (kowns vowns : List (List ℕ)) (b0 b1 b2 b3 b4 b5 : List ℕ) → length kowns ≡ length vowns → k ≡ keys_at s → v ≡ values_at s → b0 ≡ [] → b1 ≡ b0 ++ kind ∷ [] → b2 ≡ filled b1 k → b3 ≡ b2 ++ flat_map (λ b. b) kowns → b4 ≡ filled b3 v → b5 ≡ b4 ++ flat_map (λ b. b) vowns → b5 ≡ entry_bytes s kind (paired kowns vowns)
+pub filled_columns : (s : NodeLayout) (kind k v : ℕ) (kowns vowns : List (List ℕ)) (b0 b1 b2 b3 b4 b5 : List ℕ) → length kowns ≡ length vowns → k ≡ keys_at s → v ≡ values_at s → b0 ≡ [] → b1 ≡ b0 ++ kind ∷ [] → b2 ≡ filled b1 k → b3 ≡ b2 ++ flat_map (λ b. b) kowns → b4 ≡ filled b3 v → b5 ≡ b4 ++ flat_map (λ b. b) vowns → b5 ≡ entry_bytes s kind (paired kowns vowns)
 filled_columns s kind k v kowns vowns b0 b1 b2 b3 b4 b5 same ek ev e0 e1 e2 e3 e4 e5 =
     let owns = paired kowns vowns in
     let keys : flat_map (λ (o : OwnBytes). o.0) owns ≡ flat_map (λ b. b) kowns = sym (flat_map-map (λ b. b) (λ (o : OwnBytes). o.0) owns) ∙ ap (flat_map (λ b. b)) (paired_keys kowns vowns same) in
@@ -114,11 +115,11 @@ filled_columns s kind k v kowns vowns b0 b1 b2 b3 b4 b5 same ek ev e0 e1 e2 e3 e
     (e3 ∙ ap (λ z. z ++ flat_map (λ b. b) kowns)
     (e2 ∙ ap (filled b1) ek ∙ ap (λ z. filled z (keys_at s)) (e1 ∙ ap (λ z. z ++ kind ∷ []) e0)))))
 
-pub entries_length : {M N R S : Type 0} (s : Shape) (K : Archival M R) (V : Archival N S) (pos : ℕ) (xs : List (M × N)) (keys : List R) (values : List S) (owns : List OwnBytes) → EntriesResolved s K V pos xs keys values owns → length owns ≡ length xs
+pub entries_length : {M N R S : Type 0} (s : NodeLayout) (K : Archival M R) (V : Archival N S) (pos : ℕ) (xs : List (M × N)) (keys : List R) (values : List S) (owns : List OwnBytes) → EntriesResolved s K V pos xs keys values owns → length owns ≡ length xs
 entries_length s K V pos xs keys values owns h = sym (length-map owns (λ o. o.0)) ∙ (resolved_length K (pos + key_at s 0) (map (λ x. x.0) xs) keys (map (λ o. o.0) owns) h.own_keys ∙ length-map xs (λ x. x.0))
 
 -- a leaf's bytes, behind its kind and entries
-pub filled_leaf : (s : Shape) (owns : List OwnBytes) (count len size : ℕ) (b0 b1 b2 b3 : List ℕ) → count ≡ length owns → len ≡ len_at s → size ≡ leaf_size s → b0 ≡ entry_bytes s 0 owns → b1 ≡ filled b0 len → b2 ≡ b1 ++ to_le_bytes w32 count → b3 ≡ filled b2 size → b3 ≡ leaf_bytes s owns
+pub filled_leaf : (s : NodeLayout) (owns : List OwnBytes) (count len size : ℕ) (b0 b1 b2 b3 : List ℕ) → count ≡ length owns → len ≡ len_at s → size ≡ leaf_size s → b0 ≡ entry_bytes s 0 owns → b1 ≡ filled b0 len → b2 ≡ b1 ++ to_le_bytes w32 count → b3 ≡ filled b2 size → b3 ≡ leaf_bytes s owns
 filled_leaf s owns count len size b0 b1 b2 b3 ec el es e0 e1 e2 e3 =
     e3 ∙ ap (filled b2) es ∙ ap (λ z. filled z (leaf_size s))
     (e2 ∙ ap (λ n. b1 ++ to_le_bytes w32 n) ec ∙ ap (λ z. z ++ to_le_bytes w32 (length owns)) (e1 ∙ ap (filled b0) el ∙ ap (λ z. filled z (len_at s)) e0))

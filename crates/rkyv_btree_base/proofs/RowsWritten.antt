@@ -1,19 +1,19 @@
 -- A node's children, one after another, with what their entries write.
 use Rattle.std.proofs.Common.{◌≡◌, ℕ, zero, suc, ◌+◌, ◌-◌, ◌<◌, ◌≤◌, min, List, [], ◌∷◌, ◌++◌, length, map, take, drop, get_or, sym, subst, refl, ◌∙◌, Option, Some, inl, inr, arith}
 use Rattle.std.proofs.lemmas.List.{append_assoc, append-nil, take_rest}
-use Rattle.rkyv_btree_base.specs.declared.fault.Fault.{Fault}
-use Rattle.rkyv_btree_base.specs.Archiving.{Archival}
+use Rattle.rkyv_btree_writer.specs.declared.fault.Fault.{Fault}
+use Rattle.rkyv_btree_writer.specs.Archiving.{Archival}
 use Rattle.rkyv_btree_base.specs.Image.{inner_image}
-use Rattle.rkyv_btree_base.specs.InPlace.{OwnBytes}
-use Rattle.rkyv_btree_base.specs.Layout.{Shape, inner_size}
-use Rattle.rkyv_btree_base.specs.Plan.{row_plan}
-use Rattle.rkyv_btree_base.specs.Tree.{Row, Child, inner, last, step, child, row_entries}
-use Rattle.rkyv_btree_base.specs.Writing.{Writing}
+use Rattle.rkyv_btree_portable.specs.InPlace.{OwnBytes}
+use Rattle.rkyv_btree_format.specs.Layout.{NodeLayout, inner_size}
+use Rattle.rkyv_btree_shape.specs.Plan.{row_plan}
+use Rattle.rkyv_btree_shape.specs.Tree.{Row, Child, inner, last, step, child, row_entries}
+use Rattle.rkyv_btree_writer.specs.Writing.{Writing}
 use Rattle.rkyv_btree_base.specs.Written.{RowWritten, ChildWritten, NodeWritten, RowStopped, ChildStopped, TreeStopped, NodeStopped}
-use Rattle.rkyv_btree_base.proofs.PlanLaws.{row_plan_last}
-use Rattle.rkyv_btree_base.proofs.Rows.{plan-turn}
+use Rattle.rkyv_btree_shape.proofs.PlanLaws.{row_plan_last}
+use Rattle.rkyv_btree_shape.proofs.Rows.{plan-turn}
 
-module _ {M N R S : Type 0} (e : Shape) (K : Archival M R) (V : Archival N S) where
+module _ {M N R S : Type 0} (e : NodeLayout) (K : Archival M R) (V : Archival N S) where
   -- if what is left of a row is written, the whole row is; and likewise if it is stopped
   pub record RowSoFar (X : Type 0) (whole : Row (M × N)) (s0 : Writing) (row : Row (M × N)) (s : Writing) (xs : List (M × N)) (roots : List (Option ℕ)) : Type 0 where
     pub wrote : (others : List (Option ℕ)) (t : Writing) → RowWritten e K V s row others t → RowWritten e K V s0 whole (roots ++ others) t

@@ -1,11 +1,11 @@
 -- Texts written, and texts whose write is refused.
 use Rattle.std.proofs.Common.{◌≡◌, ℕ, ◌<◌, List, [], ◌∷◌, refl}
-use Rattle.rkyv_btree_base.specs.declared.fault.Fault.{Fault}
-use Rattle.rkyv_btree_base.specs.declared.fault.Fault.TheVariants.{Length, LengthOverflow, PositionOverflow, OffsetOverflow, Writer, Memory, Entry}
-use Rattle.rkyv_btree_base.specs.Archiving.{IsUnserialised}
-use Rattle.rkyv_btree_base.specs.TextArchival.{text_write, text_writes, text_archival}
-use Rattle.rkyv_btree_base.specs.Writing.{Writing, Appended, Wrote, Refused, position, last_end}
-use Rattle.rkyv_btree_base.proofs.WriteRuns.{wrote-one, stopped-one}
+use Rattle.rkyv_btree_writer.specs.declared.fault.Fault.{Fault}
+use Rattle.rkyv_btree_writer.specs.declared.fault.Fault.TheVariants.{Length, LengthOverflow, PositionOverflow, OffsetOverflow, Writer, Memory, Entry}
+use Rattle.rkyv_btree_writer.specs.Archiving.{IsUnserialised}
+use Rattle.rkyv_btree_writer.specs.TextArchival.{text_write, text_writes, text_archival}
+use Rattle.rkyv_btree_writer.specs.Writing.{Writing, Appended, Wrote, Refused, position, last_end}
+use Rattle.rkyv_btree_writer.proofs.WriteRuns.{wrote-one, stopped-one}
 
 pub text_wrote : (text : List ℕ) (s t : Writing) → ¬ (text ≡ []) → Appended s text t → Wrote s (text_writes text) t
 text_wrote [] s t some a = absurd (some refl)

@@ -1,11 +1,11 @@
 -- What was serialised is accepted, once the map is written behind it.
 use Rattle.std.specs.Prelude.{◌≡◌, ℕ, ◌+◌, ◌%◌, ◌<◌, ◌≤◌, true, List, [], length}
-use Rattle.rkyv_btree_base.specs.Bytes.{Holds}
+use Rattle.rkyv_btree_portable.specs.Bytes.{Holds}
 use Rattle.rkyv_btree_base.specs.Image.{root_bytes, root_reaches}
-use Rattle.rkyv_btree_base.specs.Kind.{Kind}
+use Rattle.rkyv_btree_portable.specs.Kind.{Kind}
 use Rattle.rkyv_btree_base.specs.Serialising.{Spelled}
-use Rattle.rkyv_btree_base.specs.Spells.{Accepted}
-use Rattle.rkyv_btree_base.specs.Writing.{Writing, position, last_end}
+use Rattle.rkyv_btree_format.specs.Spells.{Accepted}
+use Rattle.rkyv_btree_writer.specs.Writing.{Writing, position, last_end}
 
 -- a buffer of at most 4294967295 bytes has room for a map at an aligned position, and holds the bytes of one there
 pub record HoldsRoot (b : List ℕ) (at root len : ℕ) : Type 0 where

@@ -1,9 +1,9 @@
 -- Where archiving values is a function of them and of positions, and what that makes of trees.
 use Rattle.std.specs.Prelude.{◌≡◌, ℕ, List}
-use Rattle.rkyv_btree_base.specs.Archiving.{Archival}
-use Rattle.rkyv_btree_base.specs.Layout.{Shape}
+use Rattle.rkyv_btree_writer.specs.Archiving.{Archival}
+use Rattle.rkyv_btree_format.specs.Layout.{NodeLayout}
 use Rattle.rkyv_btree_base.specs.Serialising.{Built}
-use Rattle.rkyv_btree_base.specs.Writing.{Writing, position, Appended, Write}
+use Rattle.rkyv_btree_writer.specs.Writing.{Writing, position, Appended, Write}
 
 -- a value and a position determine its writes and what serialising tells, and this and a place its own bytes
 pub record IsDetermined {X R : Type 0} (T : Archival X R) : Type 0 where
@@ -17,6 +17,6 @@ pub record AppendAlike (from to start end : Writing) : Type 0 where
   pub second : Appended start bytes end
 
 -- from one position, one list appends the same bytes by every writer, and has the same root
-abbrev pub BuildsAlike : {M N R S : Type 0} → Shape → Archival M R → Archival N S → Type 0
+abbrev pub BuildsAlike : {M N R S : Type 0} → NodeLayout → Archival M R → Archival N S → Type 0
 BuildsAlike {M} {N} s K V =
     (from to start end : Writing) (xs : List (M × N)) (root place : ℕ) → position from ≡ position start → Built s K V from xs root to → Built s K V start xs place end → (root ≡ place) × AppendAlike from to start end

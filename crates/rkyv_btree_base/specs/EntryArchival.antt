@@ -1,9 +1,9 @@
 -- What archiving a key with its value does: the key's writes and then the value's, and the own bytes of both.
 use Rattle.std.specs.Prelude.{◌≡◌, ℕ, ◌+◌, ◌⊎◌, List, ◌++◌, length}
-use Rattle.rkyv_btree_base.specs.Archiving.{Archival}
-use Rattle.rkyv_btree_base.specs.Entry.{value_offset, entry_size, entry_kind}
-use Rattle.rkyv_btree_base.specs.Image.{filled}
-use Rattle.rkyv_btree_base.specs.Writing.{Write, appended}
+use Rattle.rkyv_btree_writer.specs.Archiving.{Archival}
+use Rattle.rkyv_btree_portable.specs.Entry.{value_offset, entry_size, entry_kind}
+use Rattle.rkyv_btree_writer.specs.Padding.{filled}
+use Rattle.rkyv_btree_writer.specs.Writing.{Write, appended}
 use Rattle.rkyv_btree_base.specs.declared.util.EntryAdapter.{EntryAdapter}
 use Rattle.rkyv_btree_base.specs.declared.util.EntryResolver.{EntryResolver}
 

@@ -1,36 +1,25 @@
 -- The writes that put an archive down: nodes, trees, and the map itself.
-use Rattle.std.specs.Prelude.{ℕ, ◌+◌, ◌-◌, ◌||◌, ◌&&◌, Bool, true, nat_eq, if◌then◌else◌, List, [], ◌∷◌, ◌++◌, length, Option, Some, None}
+use Rattle.std.specs.Prelude.{ℕ, ◌+◌, ◌||◌, ◌&&◌, Bool, true, nat_eq, if◌then◌else◌, List, [], ◌∷◌, ◌++◌, length, Option, Some, None}
 use Rattle.std.specs.List.{flat_map}
 use Rattle.std.specs.Int.{w32, to_le_bytes}
-use Rattle.rkyv_btree_base.specs.Bytes.{zeros}
-use Rattle.rkyv_btree_base.specs.InPlace.{OwnBytes}
-use Rattle.rkyv_btree_base.specs.Layout.{Shape, keys_at, values_at, len_at, align, leaf_size, inner_size}
-use Rattle.rkyv_btree_base.specs.Pointers.{pointer, no_pointer, offset_fits}
-use Rattle.rkyv_btree_base.specs.Rounding.{round_up}
-use Rattle.rkyv_btree_base.specs.Tree.{Tree, leaf, inner, Row, last, step, Child, absent, child, row_entries}
-use Rattle.rkyv_btree_base.specs.Writing.{Write}
-
-abbrev pub zeros_write : ℕ → Write
-zeros_write count = record { bytes = zeros count; reaches = true }
-
--- zeros from a position up to a multiple of an alignment, in one write, if there have to be any
-abbrev pub padding : ℕ → ℕ → List Write
-padding align at = if nat_eq (round_up at align) at then [] else zeros_write (round_up at align - at) ∷ []
-
--- bytes, and zeros behind them up to a length
-abbrev pub filled : List ℕ → ℕ → List ℕ
-filled bytes len = bytes ++ zeros (len - length bytes)
+use Rattle.rkyv_btree_portable.specs.InPlace.{OwnBytes}
+use Rattle.rkyv_btree_format.specs.Layout.{NodeLayout, keys_at, values_at, len_at, align, leaf_size, inner_size}
+use Rattle.rkyv_btree_writer.specs.Padding.{padding, filled}
+use Rattle.rkyv_btree_writer.specs.Pointers.{pointer, no_pointer, offset_fits}
+use Rattle.rkyv_btree_portable.specs.Rounding.{round_up}
+use Rattle.rkyv_btree_shape.specs.Tree.{Tree, leaf, inner, Row, last, step, Child, absent, child, row_entries}
+use Rattle.rkyv_btree_writer.specs.Writing.{Write}
 
 -- the kind, the keys and the values of a node, whose entries are given by their own bytes
-abbrev pub entry_bytes : Shape → ℕ → List OwnBytes → List ℕ
+abbrev pub entry_bytes : NodeLayout → ℕ → List OwnBytes → List ℕ
 entry_bytes s kind xs = filled (filled (kind ∷ []) (keys_at s) ++ flat_map (λ x. x.0) xs) (values_at s) ++ flat_map (λ x. x.1) xs
 
 -- a leaf: behind its entries the number of them, and zeros wherever nothing stands
-abbrev pub leaf_bytes : Shape → List OwnBytes → List ℕ
+abbrev pub leaf_bytes : NodeLayout → List OwnBytes → List ℕ
 leaf_bytes s xs = filled (filled (entry_bytes s 0 xs) (len_at s) ++ to_le_bytes w32 (length xs)) (leaf_size s)
 
 -- the writes of a leaf at a position: the padding before it, and then the node in one write
-abbrev pub leaf_image : Shape → ℕ → List OwnBytes → List Write
+abbrev pub leaf_image : NodeLayout → ℕ → List OwnBytes → List Write
 leaf_image s at xs = padding (align s) at ++ record { bytes = leaf_bytes s xs; reaches = true } ∷ []
 
 -- pointers from a position on, to nodes at these positions
@@ -46,54 +35,54 @@ pointers_reach at (None ∷ roots) = pointers_reach (at + 4) roots
 pointers_reach at (Some root ∷ roots) = offset_fits at root && pointers_reach (at + 4) roots
 
 -- an inner node at a position: behind its entries the pointers to its children, and zeros wherever nothing stands
-abbrev pub inner_bytes : Shape → ℕ → List OwnBytes → List (Option ℕ) → List ℕ
+abbrev pub inner_bytes : NodeLayout → ℕ → List OwnBytes → List (Option ℕ) → List ℕ
 inner_bytes s at xs roots = filled (filled (entry_bytes s 1 xs) (len_at s) ++ pointers (at + len_at s) roots) (inner_size s)
 
-abbrev pub inner_write : Shape → ℕ → List OwnBytes → List (Option ℕ) → Write
+abbrev pub inner_write : NodeLayout → ℕ → List OwnBytes → List (Option ℕ) → Write
 inner_write s at xs roots = record { bytes = inner_bytes s at xs roots; reaches = pointers_reach (at + len_at s) roots }
 
 -- the writes of an inner node at a position, behind its children
-abbrev pub inner_image : Shape → ℕ → List OwnBytes → List (Option ℕ) → List Write
+abbrev pub inner_image : NodeLayout → ℕ → List OwnBytes → List (Option ℕ) → List Write
 inner_image s at xs roots = padding (align s) at ++ inner_write s (round_up at (align s)) xs roots ∷ []
 
 -- where the writes of a tree, of a row of children or of a child end, if they begin at a position
 abbrev mutual
-  pub tree_end : Shape → ℕ → Tree OwnBytes → ℕ
+  pub tree_end : NodeLayout → ℕ → Tree OwnBytes → ℕ
   tree_end s at (leaf xs) = round_up at (align s) + leaf_size s
   tree_end s at (inner row) = round_up (row_end s at row) (align s) + inner_size s
 
-  pub row_end : Shape → ℕ → Row OwnBytes → ℕ
+  pub row_end : NodeLayout → ℕ → Row OwnBytes → ℕ
   row_end s at (last c) = child_end s at c
   row_end s at (step c x row) = row_end s (child_end s at c) row
 
-  pub child_end : Shape → ℕ → Child OwnBytes → ℕ
+  pub child_end : NodeLayout → ℕ → Child OwnBytes → ℕ
   child_end s at absent = at
   child_end s at (child t) = tree_end s at t
 
 -- the position of a tree's root node, of a child's, and of each child's in a row
-abbrev pub tree_root : Shape → ℕ → Tree OwnBytes → ℕ
+abbrev pub tree_root : NodeLayout → ℕ → Tree OwnBytes → ℕ
 tree_root s at (leaf xs) = round_up at (align s)
 tree_root s at (inner row) = round_up (row_end s at row) (align s)
 
-abbrev pub child_root : Shape → ℕ → Child OwnBytes → Option ℕ
+abbrev pub child_root : NodeLayout → ℕ → Child OwnBytes → Option ℕ
 child_root s at absent = None
 child_root s at (child t) = Some (tree_root s at t)
 
-abbrev pub row_roots : Shape → ℕ → Row OwnBytes → List (Option ℕ)
+abbrev pub row_roots : NodeLayout → ℕ → Row OwnBytes → List (Option ℕ)
 row_roots s at (last c) = child_root s at c ∷ []
 row_roots s at (step c x row) = child_root s at c ∷ row_roots s (child_end s at c) row
 
 -- the writes of a tree: the children from the left, and then their parent
 abbrev mutual
-  pub tree_image : Shape → ℕ → Tree OwnBytes → List Write
+  pub tree_image : NodeLayout → ℕ → Tree OwnBytes → List Write
   tree_image s at (leaf xs) = leaf_image s at xs
   tree_image s at (inner row) = row_image s at row ++ inner_image s (row_end s at row) (row_entries row) (row_roots s at row)
 
-  pub row_image : Shape → ℕ → Row OwnBytes → List Write
+  pub row_image : NodeLayout → ℕ → Row OwnBytes → List Write
   row_image s at (last c) = child_image s at c
   row_image s at (step c x row) = child_image s at c ++ row_image s (child_end s at c) row
 
-  pub child_image : Shape → ℕ → Child OwnBytes → List Write
+  pub child_image : NodeLayout → ℕ → Child OwnBytes → List Write
   child_image s at absent = []
   child_image s at (child t) = tree_image s at t
 

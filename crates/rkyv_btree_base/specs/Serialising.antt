@@ -2,27 +2,28 @@
 use Rattle.std.specs.Prelude.{◌≡◌, ◌≢◌, ℕ, ◌<◌, ◌≤◌, ◌⊎◌, List, length, map, take, ◌++◌, Option, unwrap_or}
 use Rattle.std.specs.Borrow.{Bor}
 use Rattle.std.specs.Iterator.{Yields, Drains}
-use Rattle.rkyv_btree_base.specs.Bytes.{Holds}
-use Rattle.rkyv_btree_base.specs.Archiving.{Archival, Matches}
+use Rattle.rkyv_btree_portable.specs.Bytes.{Holds}
+use Rattle.rkyv_btree_writer.specs.Archiving.{Archival, Matches}
 use Rattle.rkyv_btree_base.specs.Image.{root_image}
-use Rattle.rkyv_btree_base.specs.Kind.{Kind}
-use Rattle.rkyv_btree_base.specs.Layout.{Shape, shape}
-use Rattle.rkyv_btree_base.specs.Plan.{plan, planned_alone}
-use Rattle.rkyv_btree_base.specs.Spells.{Spells}
-use Rattle.rkyv_btree_base.specs.Tree.{Tree, list, height}
-use Rattle.rkyv_btree_base.specs.Written.{ChildWritten, ChildStopped, now_of}
-use Rattle.rkyv_btree_base.specs.Writing.{Writing, position, Stopped, last_end}
-use Rattle.rkyv_btree_base.specs.declared.fault.Fault.{Fault}
-use Rattle.rkyv_btree_base.specs.declared.fault.Fault.TheVariants.{Length, LengthOverflow, PositionOverflow, OffsetOverflow, Writer, Memory, Entry}
+use Rattle.rkyv_btree_portable.specs.Kind.{Kind}
+use Rattle.rkyv_btree_format.specs.Layout.{NodeLayout, layout_of}
+use Rattle.rkyv_btree_shape.specs.Plan.{plan, planned_alone}
+use Rattle.rkyv_btree_format.specs.Spells.{Spells}
+use Rattle.rkyv_btree_shape.specs.Tree.{Tree, list, height}
+use Rattle.rkyv_btree_base.specs.Entries.{now_of}
+use Rattle.rkyv_btree_base.specs.Written.{ChildWritten, ChildStopped}
+use Rattle.rkyv_btree_writer.specs.Writing.{Writing, position, Stopped, last_end}
+use Rattle.rkyv_btree_writer.specs.declared.fault.Fault.{Fault}
+use Rattle.rkyv_btree_writer.specs.declared.fault.Fault.TheVariants.{Length, LengthOverflow, PositionOverflow, OffsetOverflow, Writer, Memory, Entry}
 
 -- what an item means
 abbrev pub meaning_of : {M N R S : Type 0} (K V : Kind) (KA : Archival M R) (VA : Archival N S) → Matches KA.kind K → Matches VA.kind V → Bor M × Bor N → K.Value × V.Value
 meaning_of K V KA VA key value x = (key.to (KA.meaning x.0.now), value.to (VA.meaning x.1.now))
 
 -- between two states the tree of these entries was written, whose node is at the root, or at position 0 if there is none
-pub record Built {M N R S : Type 0} (s : Shape) (KA : Archival M R) (VA : Archival N S) (from : Writing) (xs : List (M × N)) (root : ℕ) (t : Writing) : Type 0 where
+pub record Built {M N R S : Type 0} (s : NodeLayout) (KA : Archival M R) (VA : Archival N S) (from : Writing) (xs : List (M × N)) (root : ℕ) (t : Writing) : Type 0 where
   pub place : Option ℕ
-  pub written : ChildWritten s KA VA from (planned_alone s.capacity xs) place t
+  pub written : ChildWritten s KA VA from (planned_alone s.E xs) place t
   pub root_is : root ≡ unwrap_or place 0
   pub ends : 0 < length xs → position t ≤ last_end
 
@@ -42,7 +43,7 @@ module _ {M N R S P : Type 0} (K V : Kind) (E : ℕ) (KA : Archival M R) (VA : A
     pub items : List (Bor M × Bor N)
     pub all : Drains steps iter items
     pub count : length items ≡ claim
-    pub built : Built (shape K V E) KA VA from (map now_of items) root t
+    pub built : Built (layout_of K V E) KA VA from (map now_of items) root t
     pub spelled : 0 < claim → (key : Matches KA.kind K) (value : Matches VA.kind V) → Spelled K V E from (map (meaning_of K V KA VA key value) items) root t
 
   -- the iterator gave as many items as claimed, and the writing of their tree was stopped
@@ -51,7 +52,7 @@ module _ {M N R S P : Type 0} (K V : Kind) (E : ℕ) (KA : Archival M R) (VA : A
     pub rest : P
     pub taken : Yields steps iter items rest
     pub count : length items ≡ claim
-    pub stopped : ChildStopped (shape K V E) KA VA from (planned_alone E (map now_of items)) fault t
+    pub stopped : ChildStopped (layout_of K V E) KA VA from (planned_alone E (map now_of items)) fault t
 
   -- the iterator gave another number of items than the claim
   pub record Miscounted (iter : P) (claim expected actual : ℕ) (from t : Writing) : Type 0 where
@@ -62,24 +63,24 @@ module _ {M N R S P : Type 0} (K V : Kind) (E : ℕ) (KA : Archival M R) (VA : A
     pub counted : actual ≡ length items
     -- of too few nothing is written, and of too many the tree of as many as claimed
     pub few : length items < claim → t ≡ from
-    pub many : claim < length items → (place : Option ℕ) × ChildWritten (shape K V E) KA VA from (planned_alone E (map now_of (take claim items))) place t
+    pub many : claim < length items → (place : Option ℕ) × ChildWritten (layout_of K V E) KA VA from (planned_alone E (map now_of (take claim items))) place t
 
   -- each fault's cause, and what it leaves
-  abbrev pub Refusal : {X : Type 0} → P → ℕ → Writing → Fault X → Writing → Type 0
-  Refusal iter claim from (Length m) t = Miscounted iter claim m.expected m.actual from t
-  Refusal {X} iter claim from LengthOverflow t = ((last_end < claim) × (t ≡ from)) ⊎ StoppedBuilding {X = X} iter claim from LengthOverflow t
-  Refusal {X} iter claim from PositionOverflow t = StoppedBuilding {X = X} iter claim from PositionOverflow t
-  Refusal {X} iter claim from OffsetOverflow t = StoppedBuilding {X = X} iter claim from OffsetOverflow t
-  Refusal iter claim from (Writer error) t = StoppedBuilding iter claim from (Writer error) t
-  Refusal {X} iter claim from (Memory error) t = (t ≡ from) ⊎ StoppedBuilding {X = X} iter claim from (Memory error) t
-  Refusal {X} iter claim from (Entry fault) t = StoppedBuilding {X = X} iter claim from (Entry fault) t
+  abbrev pub BuildFault : {X : Type 0} → P → ℕ → Writing → Fault X → Writing → Type 0
+  BuildFault iter claim from (Length m) t = Miscounted iter claim m.expected m.actual from t
+  BuildFault {X} iter claim from LengthOverflow t = ((last_end < claim) × (t ≡ from)) ⊎ StoppedBuilding {X = X} iter claim from LengthOverflow t
+  BuildFault {X} iter claim from PositionOverflow t = StoppedBuilding {X = X} iter claim from PositionOverflow t
+  BuildFault {X} iter claim from OffsetOverflow t = StoppedBuilding {X = X} iter claim from OffsetOverflow t
+  BuildFault iter claim from (Writer error) t = StoppedBuilding iter claim from (Writer error) t
+  BuildFault {X} iter claim from (Memory error) t = (t ≡ from) ⊎ StoppedBuilding {X = X} iter claim from (Memory error) t
+  BuildFault {X} iter claim from (Entry fault) t = StoppedBuilding {X = X} iter claim from (Entry fault) t
 
 -- each fault's cause in writing a map, and what it leaves
-abbrev pub RootRefusal : {X : Type 0} → ℕ → ℕ → Writing → Fault X → Writing → Type 0
-RootRefusal root len from (Length m) t = ⊥
-RootRefusal root len from LengthOverflow t = (last_end < len) × (t ≡ from)
-RootRefusal {X} root len from PositionOverflow t = Stopped {E = X} from (root_image (position from) root len) PositionOverflow t
-RootRefusal {X} root len from OffsetOverflow t = Stopped {E = X} from (root_image (position from) root len) OffsetOverflow t
-RootRefusal root len from (Writer error) t = Stopped from (root_image (position from) root len) (Writer error) t
-RootRefusal root len from (Memory error) t = ⊥
-RootRefusal root len from (Entry fault) t = ⊥
+abbrev pub RootFault : {X : Type 0} → ℕ → ℕ → Writing → Fault X → Writing → Type 0
+RootFault root len from (Length m) t = ⊥
+RootFault root len from LengthOverflow t = (last_end < len) × (t ≡ from)
+RootFault {X} root len from PositionOverflow t = Stopped {E = X} from (root_image (position from) root len) PositionOverflow t
+RootFault {X} root len from OffsetOverflow t = Stopped {E = X} from (root_image (position from) root len) OffsetOverflow t
+RootFault root len from (Writer error) t = Stopped from (root_image (position from) root len) (Writer error) t
+RootFault root len from (Memory error) t = ⊥
+RootFault root len from (Entry fault) t = ⊥

@@ -4,20 +4,23 @@ ghost use Rattle.std.specs.Iterator.{Yields, Drains, IsFinite, UpTo, size};
 ghost use Rattle.rkyv_btree_base.specs.Archives.{SerialisedIsAccepted, EmptyIsAccepted};
 ghost use Rattle.rkyv_btree_base.specs.Determined.{IsDetermined, BuildsAlike};
 ghost use Rattle.rkyv_btree_base.specs.Image.{root_bytes, root_reaches, root_image};
-ghost use Rattle.rkyv_btree_base.specs.Layout.{shape, are_fitting};
-ghost use Rattle.rkyv_btree_base.specs.Logarithm.{ilog};
-ghost use Rattle.rkyv_btree_base.specs.Rounding.{round_up};
-ghost use Rattle.rkyv_btree_base.specs.Serialising.{Serialised, Refusal, RootRefusal};
-ghost use Rattle.rkyv_btree_base.specs.Writing.{position, Wrote, last_end};
+ghost use Rattle.rkyv_btree_format.specs.Layout.{layout_of, are_fitting};
+ghost use Rattle.rkyv_btree_shape.specs.Logarithm.{ilog};
+ghost use Rattle.rkyv_btree_portable.specs.Rounding.{round_up};
+ghost use Rattle.rkyv_btree_base.specs.mirror.Scratch.{IsFree, IsReserved};
+ghost use Rattle.rkyv_btree_base.specs.Serialising.{Serialised, BuildFault, RootFault};
+ghost use Rattle.rkyv_btree_writer.specs.Writing.{position, Wrote, last_end};
 
 use crate::archive::{Archive, Serialize};
-use crate::check::Portable;
-use crate::fault::{Fault, IteratorLengthMismatch, ResolveFault};
-use crate::layout;
 use crate::map::ArchivedBTreeMap;
-use crate::place::{Place, Writer, write_offset};
 use crate::tree::{push, write_child};
-use crate::writes::{LAST_END, Scratch, pad, put};
+use crate::writes::Scratch;
+use rkyv_btree_format::layout;
+use rkyv_btree_portable::check::Portable;
+use rkyv_btree_shape::height::entries_to_height;
+use rkyv_btree_writer::fault::{Fault, IteratorLengthMismatch, ResolveFault};
+use rkyv_btree_writer::place::{Place, Writer, write_offset};
+use rkyv_btree_writer::writes::{LAST_END, pad, put};
 use std::alloc::{AllocError, Allocator};
 use std::collections::VecDeque;
 use std::marker::Model;
@@ -41,7 +44,7 @@ fn waiting<K: Portable, V: Portable, const E: usize>(len: usize) -> usize
     requires small { len ≤ 4294967295 }
     ensures { result ≡ E * ilog (E + 1) len }
 {
-    E * (layout::entries_to_height::<E>(len as u64) as usize - 1)
+    E * (entries_to_height::<E>(len as u64) as usize - 1)
 }
 
 /// Takes items until there are `count`, and answers whether the iterator gave that many.
@@ -60,7 +63,8 @@ fn take_items<'x, M, N, A: Allocator, I: Iterator<Item = (&'x M, &'x N)>>(
     ensures short { result ≡ false → length items.new.items < count }
     ensures can { result ≡ true → I.can_next iter.new }
     ensures ends { result ≡ true → IsFinite (I.remaining iter.new) }
-    ensures left { result ≡ true → size (I.remaining iter.new) + count ≤ size (I.remaining iter.old) }
+    ensures left { result ≡ true →
+        size (I.remaining iter.new) + count ≤ size (I.remaining iter.old) }
 {
     while items.len() < count {
         match iter.next() {
@@ -69,6 +73,48 @@ fn take_items<'x, M, N, A: Allocator, I: Iterator<Item = (&'x M, &'x N)>>(
         }
     }
     true
+}
+
+/// What building takes: what writing a node takes, and lists of the entries and children that wait for their nodes, and of
+/// the items.
+#[derive(Drop)]
+struct Reserved<'x, KU: Archive, VU: Archive, A: Allocator> {
+    scratch: Scratch<KU::Resolver, VU::Resolver, A>,
+    waiting: Vec<(&'x KU, &'x VU), A>,
+    children: Vec<Option<u32>, A>,
+    items: Vec<(&'x KU, &'x VU), A>,
+}
+
+/// Reserves all memory that building takes of so many items, but for what their own serialising takes.
+fn reserve<'x, KU, VU, K, V, A, const E: usize>(
+    alloc: A,
+    len: usize,
+) -> Result<Reserved<'x, KU, VU, A>, AllocError>
+where
+    KU: Archive<Archived = K> + 'x,
+    VU: Archive<Archived = V> + 'x,
+    K: Portable,
+    V: Portable,
+    A: Allocator + Copy,
+    requires fitting { IsTrue (are_fitting K.kind V.kind E) }
+    requires some { 0 < len }
+    requires small { len ≤ 4294967295 }
+    ensures free { IfOk result (λ it. IsFree (layout_of K.kind V.kind E) it.scratch) }
+    ensures waiting { IfOk result (λ it. IsReserved it.waiting (E * ilog (E + 1) len)) }
+    ensures children { IfOk result (λ it. IsReserved it.children (E * ilog (E + 1) len)) }
+    ensures items { IfOk result (λ it. IsReserved it.items len) }
+{
+    let waiting = waiting::<K, V, E>(len);
+    Ok(Reserved {
+        scratch: Scratch {
+            node: Vec::with_capacity(alloc, layout::inner_size::<K, V, E>() as usize)?,
+            keys: VecDeque::with_capacity(alloc, E)?,
+            values: VecDeque::with_capacity(alloc, E)?,
+        },
+        waiting: Vec::with_capacity(alloc, waiting)?,
+        children: Vec::with_capacity(alloc, waiting)?,
+        items: Vec::with_capacity(alloc, len)?,
+    })
 }
 
 /// Writes the tree of an iterator's items, which are claimed to be `len`, and answers where its root node stands.
@@ -91,28 +137,22 @@ where
     requires small { len ≤ 4294967295 }
     requires can { I.can_next iter }
     requires ends { UpTo (I.remaining iter) 18446744073709551615 }
-    ensures ok { IfOk result (λ resolver. Serialised K.kind V.kind E KU.archival VU.archival I.next_gives iter len (W.state writer.old) resolver (W.state writer.new)) }
-    ensures err { IfErr result (λ fault. Refusal K.kind V.kind E KU.archival VU.archival I.next_gives iter len (W.state writer.old) fault (W.state writer.new)) }
+    ensures ok { IfOk result (λ resolver.
+        Serialised K.kind V.kind E KU.archival VU.archival I.next_gives iter len
+        (W.state writer.old) resolver (W.state writer.new)) }
+    ensures err { IfErr result (λ fault.
+        BuildFault K.kind V.kind E KU.archival VU.archival I.next_gives iter len
+        (W.state writer.old) fault (W.state writer.new)) }
 {
-    let waiting = waiting::<K, V, E>(len);
-    let Ok(node) = Vec::with_capacity(alloc, layout::inner_size::<K, V, E>() as usize) else {
+    let Ok(lists) = reserve::<KU, VU, K, V, A, E>(alloc, len) else {
         return Err(Fault::Memory(AllocError));
     };
-    let Ok(keys) = VecDeque::with_capacity(alloc, E) else {
-        return Err(Fault::Memory(AllocError));
-    };
-    let Ok(values) = VecDeque::with_capacity(alloc, E) else {
-        return Err(Fault::Memory(AllocError));
-    };
-    let Ok(mut entries) = Vec::with_capacity(alloc, waiting) else {
-        return Err(Fault::Memory(AllocError));
-    };
-    let Ok(mut children) = Vec::with_capacity(alloc, waiting) else {
-        return Err(Fault::Memory(AllocError));
-    };
-    let Ok(mut items) = Vec::with_capacity(alloc, len) else {
-        return Err(Fault::Memory(AllocError));
-    };
+    let Reserved {
+        mut scratch,
+        mut waiting,
+        mut children,
+        mut items,
+    } = lists;
     if !take_items(&mut items, len, &mut iter) {
         return Err(Fault::Length(IteratorLengthMismatch {
             expected: len,
@@ -121,8 +161,8 @@ where
     }
     let root = write_child::<KU, VU, K, V, W, A, E>(
         alloc,
-        &mut Scratch { node, keys, values },
-        &mut entries,
+        &mut scratch,
+        &mut waiting,
         &mut children,
         &items,
         writer,
@@ -163,8 +203,12 @@ impl<K: Portable, V: Portable, const E: usize> ArchivedBTreeMap<K, V, E> {
         requires fitting { IsTrue (are_fitting K.kind V.kind E) }
         requires can { I.can_next iter }
         requires ends { UpTo (I.remaining iter) 18446744073709551615 }
-        ensures ok { IfOk result (λ resolver. Serialised K.kind V.kind E KU.archival VU.archival I.next_gives iter len (W.state writer.old) resolver (W.state writer.new)) }
-        ensures err { IfErr result (λ fault. Refusal K.kind V.kind E KU.archival VU.archival I.next_gives iter len (W.state writer.old) fault (W.state writer.new)) }
+        ensures ok { IfOk result (λ resolver.
+            Serialised K.kind V.kind E KU.archival VU.archival I.next_gives iter len
+            (W.state writer.old) resolver (W.state writer.new)) }
+        ensures err { IfErr result (λ fault.
+            BuildFault K.kind V.kind E KU.archival VU.archival I.next_gives iter len
+            (W.state writer.old) fault (W.state writer.new)) }
     {
         if len > 4294967295 {
             return Err(Fault::LengthOverflow);
@@ -216,7 +260,8 @@ impl<K, V, const E: usize> ArchivedBTreeMap<K, V, E> {
         requires { length out.bytes.now ≡ 8 }
         ensures ok { OnOk result (out.exit.1.0.now ≡ root_bytes out.entry.pos resolver len) }
         ensures err { OnErr result (out.exit.1.0.now ≡ out.entry.bytes.now) }
-        ensures fits { IsOk result ↔ ((len ≤ last_end) × (root_reaches out.entry.pos resolver len ≡ true)) }
+        ensures fits { IsOk result
+            ↔ ((len ≤ last_end) × (root_reaches out.entry.pos resolver len ≡ true)) }
         ensures length { IsErrOf result ResolveFault.LengthOverflow ↔ (last_end < len) }
     {
         let Place { pos, bytes, of: _ } = out;
@@ -231,10 +276,13 @@ impl<K, V, const E: usize> ArchivedBTreeMap<K, V, E> {
         writer: &mut W,
     ) -> Result<u32, Fault<W::Error>>
         ensures pos { IfOk result (λ pos. pos ≡ round_up (position (W.state writer.old)) 4) }
-        ensures ok { OnOk result (Wrote (W.state writer.old) (root_image (position (W.state writer.old)) resolver len) (W.state writer.new)) }
+        ensures ok { OnOk result
+            (Wrote (W.state writer.old)
+            (root_image (position (W.state writer.old)) resolver len) (W.state writer.new)) }
         ensures last { OnOk result (position (W.state writer.new) ≤ last_end) }
         ensures len { OnOk result (len ≤ last_end) }
-        ensures err { IfErr result (λ fault. RootRefusal resolver len (W.state writer.old) fault (W.state writer.new)) }
+        ensures err { IfErr result (λ fault.
+            RootFault resolver len (W.state writer.old) fault (W.state writer.new)) }
     {
         if len > 4294967295 {
             return Err(Fault::LengthOverflow);
@@ -263,5 +311,6 @@ pub fn archives_are_accepted<K: Portable, V: Portable, const E: usize>()
 /// Where what archiving keys and values writes follows from them and from positions, two builds of one list from one
 /// position append the same bytes, whatever the writers, and have one root.
 pub fn trees_are_determined<KU: Archive, VU: Archive, const E: usize>()
-    ensures { IsDetermined KU.archival → IsDetermined VU.archival → BuildsAlike (shape KU.Archived.kind VU.Archived.kind E) KU.archival VU.archival }
+    ensures { IsDetermined KU.archival → IsDetermined VU.archival →
+        BuildsAlike (layout_of KU.Archived.kind VU.Archived.kind E) KU.archival VU.archival }
 {}

@@ -1,11 +1,11 @@
 //! Serialising the entries of a node.
 ghost use Rattle.std.specs.Prelude.{◌≡◌, ◌+◌, ◌≤◌, ◌<◌, [], ◌∷◌, ◌++◌, length, map, OnOk, IfErr};
 ghost use Rattle.std.specs.VecDeque.{deque_len, deque_capacity};
-ghost use Rattle.rkyv_btree_base.specs.Written.{AreSerialised, AreUnserialised, now_of};
+ghost use Rattle.rkyv_btree_base.specs.Entries.{AreSerialised, AreUnserialised, now_of};
 
 use crate::archive::{Archive, Serialize};
-use crate::fault::Fault;
-use crate::place::Writer;
+use rkyv_btree_writer::fault::Fault;
+use rkyv_btree_writer::place::Writer;
 use std::alloc::Allocator;
 use std::collections::VecDeque;
 
@@ -36,8 +36,12 @@ where
     requires no_values { values.old.items ≡ [] }
     requires key_room { length entries.now ≤ deque_capacity keys.old }
     requires value_room { length entries.now ≤ deque_capacity values.old }
-    ensures ok { OnOk result (AreSerialised KU.archival VU.archival (W.state writer.old) (map now_of entries.now) keys.new.items values.new.items (W.state writer.new)) }
-    ensures err { IfErr result (λ fault. AreUnserialised KU.archival VU.archival (W.state writer.old) (map now_of entries.now) fault (W.state writer.new)) }
+    ensures ok { OnOk result
+        (AreSerialised KU.archival VU.archival (W.state writer.old) (map now_of entries.now)
+        keys.new.items values.new.items (W.state writer.new)) }
+    ensures err { IfErr result (λ fault.
+        AreUnserialised KU.archival VU.archival (W.state writer.old) (map now_of entries.now)
+        fault (W.state writer.new)) }
     ensures keys { OnOk result (length keys.new.items ≡ length entries.now) }
     ensures values { OnOk result (length values.new.items ≡ length entries.now) }
     ensures key_room { deque_capacity keys.old ≤ deque_capacity keys.new }

@@ -1,24 +1,60 @@
 //! What archives are, how they are written, and how foreign bytes are checked.
 #![tactic(auto)]
 
+pub use rkyv_btree_portable::{numbers, refusal, scalars, signed};
+pub use rkyv_btree_writer::fault;
+
 pub mod archive;
 pub mod build;
-pub mod bytes;
-pub mod check;
 mod entries;
-pub mod fault;
-pub mod layout;
 pub mod map;
 mod node;
-pub mod numbers;
-pub mod place;
-pub mod refusal;
-pub mod scalars;
-pub mod shape;
-pub mod signed;
-pub mod steps;
 pub mod text;
 mod tree;
 pub mod util;
-pub mod verify;
 mod writes;
+
+/// Numbers and pointers in a buffer.
+pub mod bytes {
+    pub use rkyv_btree_portable::bytes::{num32, target};
+}
+
+/// Archived types, and the check of their bytes.
+pub mod check {
+    pub use rkyv_btree_portable::check::{CheckBytes, InPlace, Portable, Window, check_place};
+}
+
+/// Sizes and offsets of nodes, and levels of trees.
+pub mod layout {
+    pub use rkyv_btree_format::layout::{
+        align, fits, greater_at, inner_size, key_at, leaf_size, len_at, lesser_at, node_align,
+        value_at,
+    };
+    pub use rkyv_btree_shape::height::entries_to_height;
+}
+
+/// Writers, places for archived values, and relative pointers.
+pub mod place {
+    pub use rkyv_btree_writer::place::{Place, RelPtr, VecWriter, Writer};
+}
+
+/// The laws of planned trees.
+pub mod shape {
+    pub use rkyv_btree_format::competitors::spelled_trees_have_the_shape;
+    pub use rkyv_btree_shape::shape::{
+        each_tree_needs_room, left_complete_is_smallest, logarithm, plan_is_recursive,
+        plan_is_the_left_complete_tree, wasteful_trees, worked_trees,
+    };
+}
+
+/// Counting the steps of a check.
+pub mod steps {
+    pub use rkyv_btree_portable::steps::StepCounter;
+}
+
+/// The check of foreign bytes for a map.
+pub mod verify {
+    pub use rkyv_btree_verify::verify::{
+        claims_are_apart, faults_are_exact, verify, verify_counted,
+    };
+}

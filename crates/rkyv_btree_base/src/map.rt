@@ -1,12 +1,12 @@
 //! The archived map.
-ghost use Rattle.rkyv_btree_base.specs.Map.{map_kind};
-ghost use Rattle.rkyv_btree_base.specs.Faults.{Stands};
-ghost use Rattle.rkyv_btree_base.specs.laws.MapLaws.{map_laws, map_refusals};
+ghost use Rattle.rkyv_btree_verify.specs.Map.{map_kind};
+ghost use Rattle.rkyv_btree_verify.specs.Refusals.{RefusesMap};
+ghost use Rattle.rkyv_btree_verify.proofs.MapLaws.{map_laws, map_refusals};
 
-use crate::check::{CheckBytes, Portable, Window};
-use crate::layout;
-use crate::refusal::Refusal;
-use crate::verify::verify;
+use rkyv_btree_format::layout;
+use rkyv_btree_portable::check::{CheckBytes, Portable, Window};
+use rkyv_btree_portable::refusal::Refusal;
+use rkyv_btree_verify::verify::verify;
 use std::marker::PhantomData;
 
 /// A map in eight bytes: a relative pointer to its root node, and the number of its entries.
@@ -34,7 +34,7 @@ impl<K: Portable, V: Portable, const E: usize> Portable for ArchivedBTreeMap<K, 
 }
 
 impl<K: CheckBytes, V: CheckBytes, const E: usize> CheckBytes for ArchivedBTreeMap<K, V, E> {
-    ghost Refuses = { Stands K.kind V.kind E };
+    ghost Refuses = { RefusesMap K.kind V.kind E };
 
     fn check(buf: &[u8], pos: u32, window: Window) -> Result<Window, Refusal> {
         verify::<K, V, E>(buf, pos, window)

@@ -2,17 +2,18 @@
 ghost use Rattle.std.specs.Prelude.{◌≡◌, ◌+◌, ◌*◌, ◌≤◌, [], ◌∷◌, ◌++◌, length, map, true, vec_len, vec_capacity, IsTrue, ℕ, List, OnOk, IfErr};
 ghost use Rattle.std.specs.List.{flat_map};
 ghost use Rattle.std.specs.VecDeque.{deque_capacity};
-ghost use Rattle.rkyv_btree_base.specs.Image.{filled, entry_bytes, leaf_bytes, pointers, pointers_reach, inner_bytes};
-ghost use Rattle.rkyv_btree_base.specs.Layout.{shape, are_fitting, values_at, len_at, leaf_size, inner_size};
-ghost use Rattle.rkyv_btree_base.specs.Archiving.{IsUnresolved};
-ghost use Rattle.rkyv_btree_base.specs.InPlace.{OwnBytes};
-ghost use Rattle.rkyv_btree_base.specs.Written.{AreResolved, AreUnresolved, EntriesResolved, EntriesUnresolved, InnerUnfilled, now_of};
+ghost use Rattle.rkyv_btree_writer.specs.Padding.{filled};
+ghost use Rattle.rkyv_btree_base.specs.Image.{entry_bytes, leaf_bytes, pointers, pointers_reach, inner_bytes};
+ghost use Rattle.rkyv_btree_format.specs.Layout.{layout_of, are_fitting, values_at, len_at, leaf_size, inner_size};
+ghost use Rattle.rkyv_btree_writer.specs.Archiving.{IsUnresolved};
+ghost use Rattle.rkyv_btree_portable.specs.InPlace.{OwnBytes};
+ghost use Rattle.rkyv_btree_base.specs.Entries.{AreResolved, AreUnresolved, EntriesResolved, EntriesUnresolved, InnerUnfilled, now_of};
 
 use crate::archive::{Archive, resolve_into};
-use crate::check::Portable;
-use crate::fault::ResolveFault;
-use crate::layout;
-use crate::place::write_offset;
+use rkyv_btree_format::layout;
+use rkyv_btree_portable::check::Portable;
+use rkyv_btree_writer::fault::ResolveFault;
+use rkyv_btree_writer::place::write_offset;
 use std::alloc::Allocator;
 use std::collections::VecDeque;
 
@@ -47,7 +48,9 @@ fn append_value<T: Archive, A: Allocator>(
     requires fitting { IsTrue T.Archived.kind.is_fitting }
     requires room { vec_len node.old + T.Archived.kind.size ≤ vec_capacity node.old }
     requires end { pos + T.Archived.kind.size ≤ 4294967295 }
-    ensures ok { OnOk result ((own : List ℕ) × T.archival.Resolves value.now resolver pos own × (node.new.items ≡ node.old.items ++ own)) }
+    ensures ok { OnOk result
+        ((own : List ℕ) × T.archival.Resolves value.now resolver pos own
+        × (node.new.items ≡ node.old.items ++ own)) }
     ensures len { OnOk result (vec_len node.new ≡ vec_len node.old + T.Archived.kind.size) }
     ensures err { IfErr result (IsUnresolved T.archival value.now resolver pos) }
     ensures capacity { vec_capacity node.old ≤ vec_capacity node.new }
@@ -58,56 +61,71 @@ fn append_value<T: Archive, A: Allocator>(
     resolve_into(value, resolver, pos, &mut bytes[start..])
 }
 
-/// Appends the keys of entries, resolved from `pos` on. Their resolvers are used up.
-fn append_keys<K: Archive, N, A: Allocator>(
-    node: &mut Vec<u8, A>,
-    entries: &[(&K, &N)],
-    resolvers: &mut VecDeque<K::Resolver, A>,
-    pos: u32,
-) -> Result<(), ResolveFault>
-    requires fitting { IsTrue K.Archived.kind.is_fitting }
-    requires count { length resolvers.old.items ≡ length entries.now }
-    requires room { vec_len node.old + length entries.now * K.Archived.kind.size ≤ vec_capacity node.old }
-    requires end { pos + length entries.now * K.Archived.kind.size ≤ 4294967295 }
-    ensures ok { OnOk result ((owns : List (List ℕ)) × AreResolved K.archival pos (map (λ x. x.0.now) entries.now) resolvers.old.items owns × (node.new.items ≡ node.old.items ++ flat_map (λ own. own) owns)) }
-    ensures len { OnOk result (vec_len node.new ≡ vec_len node.old + length entries.now * K.Archived.kind.size) }
-    ensures spent { OnOk result (resolvers.new.items ≡ []) }
-    ensures err { IfErr result (AreUnresolved K.archival pos (map (λ x. x.0.now) entries.now) resolvers.old.items) }
-    ensures kept { deque_capacity resolvers.old ≤ deque_capacity resolvers.new }
-    ensures capacity { vec_capacity node.old ≤ vec_capacity node.new }
-{
-    let mut at = pos;
-    for entry in entries {
-        let resolver = resolvers.pop_front().unwrap();
-        append_value(node, entry.0, resolver, at)?;
-        at += K::Archived::size();
-    }
-    Ok(())
+/// Which half of each entry is meant.
+trait Half<X> {
+    /// What that half is.
+    type Part: Archive;
+
+    ghost part: { X → Self.Part };
+
+    /// The half of an entry.
+    fn of<'a>(entry: &'a X) -> &'a Self::Part
+        ensures { result.now ≡ part entry.now };
 }
 
-/// Appends the values of entries, resolved from `pos` on. Their resolvers are used up.
-fn append_values<V: Archive, M, A: Allocator>(
+struct Keys;
+
+struct Values;
+
+impl<'x, M: Archive, N> Half<(&'x M, &'x N)> for Keys {
+    type Part = M;
+
+    ghost part = { λ x. x.0.now };
+
+    fn of<'a>(entry: &'a (&'x M, &'x N)) -> &'a M {
+        entry.0
+    }
+}
+
+impl<'x, M, N: Archive> Half<(&'x M, &'x N)> for Values {
+    type Part = N;
+
+    ghost part = { λ x. x.1.now };
+
+    fn of<'a>(entry: &'a (&'x M, &'x N)) -> &'a N {
+        entry.1
+    }
+}
+
+/// Appends the keys of entries, or their values, resolved from `pos` on. Their resolvers are used up.
+fn append_halves<H: Half<X>, X, A: Allocator>(
     node: &mut Vec<u8, A>,
-    entries: &[(&M, &V)],
-    resolvers: &mut VecDeque<V::Resolver, A>,
+    entries: &[X],
+    resolvers: &mut VecDeque<<H::Part as Archive>::Resolver, A>,
     pos: u32,
 ) -> Result<(), ResolveFault>
-    requires fitting { IsTrue V.Archived.kind.is_fitting }
+    requires fitting { IsTrue H.Part.Archived.kind.is_fitting }
     requires count { length resolvers.old.items ≡ length entries.now }
-    requires room { vec_len node.old + length entries.now * V.Archived.kind.size ≤ vec_capacity node.old }
-    requires end { pos + length entries.now * V.Archived.kind.size ≤ 4294967295 }
-    ensures ok { OnOk result ((owns : List (List ℕ)) × AreResolved V.archival pos (map (λ x. x.1.now) entries.now) resolvers.old.items owns × (node.new.items ≡ node.old.items ++ flat_map (λ own. own) owns)) }
-    ensures len { OnOk result (vec_len node.new ≡ vec_len node.old + length entries.now * V.Archived.kind.size) }
+    requires room { vec_len node.old + length entries.now * H.Part.Archived.kind.size
+        ≤ vec_capacity node.old }
+    requires end { pos + length entries.now * H.Part.Archived.kind.size ≤ 4294967295 }
+    ensures ok { OnOk result
+        ((owns : List (List ℕ))
+        × AreResolved H.Part.archival pos (map H.part entries.now) resolvers.old.items owns
+        × (node.new.items ≡ node.old.items ++ flat_map (λ own. own) owns)) }
+    ensures len { OnOk result
+        (vec_len node.new ≡ vec_len node.old + length entries.now * H.Part.Archived.kind.size) }
     ensures spent { OnOk result (resolvers.new.items ≡ []) }
-    ensures err { IfErr result (AreUnresolved V.archival pos (map (λ x. x.1.now) entries.now) resolvers.old.items) }
+    ensures err { IfErr result
+        (AreUnresolved H.Part.archival pos (map H.part entries.now) resolvers.old.items) }
     ensures kept { deque_capacity resolvers.old ≤ deque_capacity resolvers.new }
     ensures capacity { vec_capacity node.old ≤ vec_capacity node.new }
 {
     let mut at = pos;
     for entry in entries {
         let resolver = resolvers.pop_front().unwrap();
-        append_value(node, entry.1, resolver, at)?;
-        at += V::Archived::size();
+        append_value(node, H::of(entry), resolver, at)?;
+        at += <H::Part as Archive>::Archived::size();
     }
     Ok(())
 }
@@ -131,22 +149,30 @@ where
     requires count { length entries.now ≤ E }
     requires keys { length keys.old.items ≡ length entries.now }
     requires values { length values.old.items ≡ length entries.now }
-    requires end { pos + leaf_size (shape K.kind V.kind E) ≤ 4294967295 }
-    requires room { leaf_size (shape K.kind V.kind E) ≤ vec_capacity node.old }
-    ensures ok { OnOk result ((owns : List OwnBytes) × EntriesResolved (shape K.kind V.kind E) KU.archival VU.archival pos (map now_of entries.now) keys.old.items values.old.items owns × (node.new.items ≡ entry_bytes (shape K.kind V.kind E) kind owns)) }
-    ensures len { OnOk result (vec_len node.new ≡ values_at (shape K.kind V.kind E) + length entries.now * V.kind.size) }
+    requires end { pos + leaf_size (layout_of K.kind V.kind E) ≤ 4294967295 }
+    requires room { leaf_size (layout_of K.kind V.kind E) ≤ vec_capacity node.old }
+    ensures ok { OnOk result
+        ((owns : List OwnBytes)
+        × EntriesResolved (layout_of K.kind V.kind E) KU.archival VU.archival pos
+        (map now_of entries.now) keys.old.items values.old.items owns
+        × (node.new.items ≡ entry_bytes (layout_of K.kind V.kind E) kind owns)) }
+    ensures len { OnOk result
+        (vec_len node.new
+        ≡ values_at (layout_of K.kind V.kind E) + length entries.now * V.kind.size) }
     ensures spent { OnOk result ((keys.new.items ≡ []) × (values.new.items ≡ [])) }
     ensures key_room { deque_capacity keys.old ≤ deque_capacity keys.new }
     ensures value_room { deque_capacity values.old ≤ deque_capacity values.new }
-    ensures err { IfErr result (EntriesUnresolved (shape K.kind V.kind E) KU.archival VU.archival pos (map now_of entries.now) keys.old.items values.old.items) }
+    ensures err { IfErr result
+        (EntriesUnresolved (layout_of K.kind V.kind E) KU.archival VU.archival pos
+        (map now_of entries.now) keys.old.items values.old.items) }
     ensures capacity { vec_capacity node.old ≤ vec_capacity node.new }
 {
     node.clear();
     append(node, &[kind]);
     fill_up(node, layout::key_at::<K, V, E>(0) as usize);
-    append_keys(node, entries, keys, pos + layout::key_at::<K, V, E>(0))?;
+    append_halves::<Keys, _, A>(node, entries, keys, pos + layout::key_at::<K, V, E>(0))?;
     fill_up(node, layout::value_at::<K, V, E>(0) as usize);
-    append_values(node, entries, values, pos + layout::value_at::<K, V, E>(0))
+    append_halves::<Values, _, A>(node, entries, values, pos + layout::value_at::<K, V, E>(0))
 }
 
 /// Appends a pointer that stands at `pos` to a child, if it reaches the child.
@@ -202,14 +228,20 @@ where
     requires count { length entries.now ≤ E }
     requires keys { length keys.old.items ≡ length entries.now }
     requires values { length values.old.items ≡ length entries.now }
-    requires end { pos + leaf_size (shape K.kind V.kind E) ≤ 4294967295 }
-    requires room { leaf_size (shape K.kind V.kind E) ≤ vec_capacity node.old }
-    ensures ok { OnOk result ((owns : List OwnBytes) × EntriesResolved (shape K.kind V.kind E) KU.archival VU.archival pos (map now_of entries.now) keys.old.items values.old.items owns × (node.new.items ≡ leaf_bytes (shape K.kind V.kind E) owns)) }
-    ensures len { OnOk result (vec_len node.new ≡ leaf_size (shape K.kind V.kind E)) }
+    requires end { pos + leaf_size (layout_of K.kind V.kind E) ≤ 4294967295 }
+    requires room { leaf_size (layout_of K.kind V.kind E) ≤ vec_capacity node.old }
+    ensures ok { OnOk result
+        ((owns : List OwnBytes)
+        × EntriesResolved (layout_of K.kind V.kind E) KU.archival VU.archival pos
+        (map now_of entries.now) keys.old.items values.old.items owns
+        × (node.new.items ≡ leaf_bytes (layout_of K.kind V.kind E) owns)) }
+    ensures len { OnOk result (vec_len node.new ≡ leaf_size (layout_of K.kind V.kind E)) }
     ensures spent { OnOk result ((keys.new.items ≡ []) × (values.new.items ≡ [])) }
     ensures key_room { deque_capacity keys.old ≤ deque_capacity keys.new }
     ensures value_room { deque_capacity values.old ≤ deque_capacity values.new }
-    ensures err { IfErr result (EntriesUnresolved (shape K.kind V.kind E) KU.archival VU.archival pos (map now_of entries.now) keys.old.items values.old.items) }
+    ensures err { IfErr result
+        (EntriesUnresolved (layout_of K.kind V.kind E) KU.archival VU.archival pos
+        (map now_of entries.now) keys.old.items values.old.items) }
     ensures capacity { vec_capacity node.old ≤ vec_capacity node.new }
 {
     fill_entries::<KU, VU, K, V, A, E>(node, 0, pos, entries, keys, values)?;
@@ -240,14 +272,24 @@ where
     requires keys { length keys.old.items ≡ E }
     requires values { length values.old.items ≡ E }
     requires children { length children.now ≡ E }
-    requires end { pos + inner_size (shape K.kind V.kind E) ≤ 4294967295 }
-    requires room { inner_size (shape K.kind V.kind E) ≤ vec_capacity node.old }
-    ensures ok { OnOk result ((owns : List OwnBytes) × EntriesResolved (shape K.kind V.kind E) KU.archival VU.archival pos (map now_of entries.now) keys.old.items values.old.items owns × (node.new.items ≡ inner_bytes (shape K.kind V.kind E) pos owns (children.now ++ last ∷ [])) × (pointers_reach (pos + len_at (shape K.kind V.kind E)) (children.now ++ last ∷ []) ≡ true)) }
-    ensures len { OnOk result (vec_len node.new ≡ inner_size (shape K.kind V.kind E)) }
+    requires end { pos + inner_size (layout_of K.kind V.kind E) ≤ 4294967295 }
+    requires room { inner_size (layout_of K.kind V.kind E) ≤ vec_capacity node.old }
+    ensures ok { OnOk result
+        ((owns : List OwnBytes)
+        × EntriesResolved (layout_of K.kind V.kind E) KU.archival VU.archival pos
+        (map now_of entries.now) keys.old.items values.old.items owns
+        × (node.new.items
+        ≡ inner_bytes (layout_of K.kind V.kind E) pos owns (children.now ++ last ∷ []))
+        × (pointers_reach (pos + len_at (layout_of K.kind V.kind E)) (children.now ++ last ∷ [])
+        ≡ true)) }
+    ensures len { OnOk result (vec_len node.new ≡ inner_size (layout_of K.kind V.kind E)) }
     ensures spent { OnOk result ((keys.new.items ≡ []) × (values.new.items ≡ [])) }
     ensures key_room { deque_capacity keys.old ≤ deque_capacity keys.new }
     ensures value_room { deque_capacity values.old ≤ deque_capacity values.new }
-    ensures err { IfErr result (InnerUnfilled (shape K.kind V.kind E) KU.archival VU.archival pos (map now_of entries.now) keys.old.items values.old.items (children.now ++ last ∷ [])) }
+    ensures err { IfErr result
+        (InnerUnfilled (layout_of K.kind V.kind E) KU.archival VU.archival pos
+        (map now_of entries.now) keys.old.items values.old.items
+        (children.now ++ last ∷ [])) }
     ensures capacity { vec_capacity node.old ≤ vec_capacity node.new }
 {
     fill_entries::<KU, VU, K, V, A, E>(node, 1, pos, entries, keys, values)?;

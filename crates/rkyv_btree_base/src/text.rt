@@ -1,81 +1,21 @@
-//! Archived text.
+//! Text, archived by its bytes and, behind them, an offset to these and their number.
 ghost use Rattle.std.specs.Prelude.{◌≡◌, ℕ, ◌+◌, ◌≤◌, ◌<◌, length, string_bytes, IfSome, IfNone, OnOk, IfErr, IsErrOf, ◌↔◌};
 ghost use Rattle.std.specs.declared.alloc.Global.{Global};
-ghost use Rattle.rkyv_btree_base.specs.Archiving.{IsUnresolved, itself};
+ghost use Rattle.rkyv_btree_writer.specs.Archiving.{IsUnresolved, itself};
 ghost use Rattle.rkyv_btree_base.specs.Determined.{IsDetermined};
-ghost use Rattle.rkyv_btree_base.specs.Pointers.{FitsOffset};
-ghost use Rattle.rkyv_btree_base.specs.Refusing.{RefusesWhole};
-ghost use Rattle.rkyv_btree_base.specs.Text.{IsTextRange, text_kind};
-ghost use Rattle.rkyv_btree_base.specs.TextArchival.{FitsText, text_own, text_archival};
-ghost use Rattle.rkyv_btree_base.specs.laws.Refusing.{whole_refusals};
-ghost use Rattle.rkyv_btree_base.specs.laws.TextArchived.{text_archived};
-ghost use Rattle.rkyv_btree_base.specs.laws.TextLaws.{text_laws};
+ghost use Rattle.rkyv_btree_writer.specs.Pointers.{FitsOffset};
+ghost use Rattle.rkyv_btree_portable.specs.Refusing.{RefusesWhole};
+ghost use Rattle.rkyv_btree_portable.specs.Text.{IsTextRange, text_kind};
+ghost use Rattle.rkyv_btree_writer.specs.TextArchival.{FitsText, text_own, text_archival};
+ghost use Rattle.rkyv_btree_portable.specs.laws.Refusing.{whole_refusals};
+ghost use Rattle.rkyv_btree_writer.proofs.TextArchived.{text_archived};
+ghost use Rattle.rkyv_btree_portable.specs.laws.TextLaws.{text_laws};
 
 use crate::archive::{Archive, Serialize};
-use crate::bytes::{num32, place};
-use crate::check::{CheckBytes, Portable, Window, check_place};
-use crate::fault::{Fault, ResolveFault};
-use crate::place::{Place, Writer, write_offset};
-use crate::refusal::Refusal;
-use crate::writes::{LAST_END, put};
-use std::str::from_utf8;
-
-/// A text, by an offset to its bytes and their number, four bytes each.
-pub struct ArchivedText;
-
-impl Portable for ArchivedText {
-    ghost kind = { text_kind };
-
-    fn size() -> u32 {
-        8
-    }
-
-    fn align() -> u32 {
-        4
-    }
-
-    fn fits() -> bool {
-        true
-    }
-
-    ghost laws = { text_laws };
-}
-
-/// Where the bytes of the text at `pos` stand, or `None` if they don't lie in `window`.
-pub fn text_range(buf: &[u8], pos: u32, window: Window) -> Option<Window>
-    requires short { length buf.now ≤ 4294967295 }
-    requires room { pos + 8 ≤ length buf.now }
-    ensures range { IfSome result (λ text. IsTextRange buf.now pos text.lo text.hi) }
-    ensures inside { IfSome result (λ text. (window.lo ≤ text.lo) × (text.hi ≤ window.hi)) }
-    ensures outside { IfNone result ((start end : ℕ) → IsTextRange buf.now pos start end → window.lo ≤ start → end ≤ window.hi → ⊥) }
-{
-    let lo = u32::try_from(place(buf, pos)).ok()?;
-    let hi = lo.checked_add(num32(buf, pos + 4))?;
-    if lo < window.lo || window.hi < hi {
-        return None;
-    }
-    Some(Window { lo, hi })
-}
-
-impl CheckBytes for ArchivedText {
-    ghost Refuses = { RefusesWhole text_kind };
-
-    fn check(buf: &[u8], pos: u32, window: Window) -> Result<Window, Refusal> {
-        check_place::<ArchivedText>(buf, pos)?;
-        let Some(text) = text_range(buf, pos, window) else {
-            return Err(Refusal::BadEntry { pos });
-        };
-        match from_utf8(&buf[text.lo as usize..text.hi as usize]) {
-            Ok(_) => Ok(Window {
-                lo: text.hi,
-                hi: window.hi,
-            }),
-            Err(_) => Err(Refusal::BadEntry { pos }),
-        }
-    }
-
-    ghost refusals = { λ _. whole_refusals text_laws };
-}
+pub use rkyv_btree_portable::text::{ArchivedText, text_range};
+use rkyv_btree_writer::fault::{Fault, ResolveFault};
+use rkyv_btree_writer::place::{Place, Writer, write_offset};
+use rkyv_btree_writer::writes::{LAST_END, put};
 
 /// Writes the eight bytes, at `pos`, of a text of `len` bytes that starts at `start`.
 fn fill_text(pos: u32, bytes: &mut [u8], start: u32, len: usize) -> Result<(), ResolveFault>
@@ -105,8 +45,12 @@ impl Archive for String {
     /// that doesn't fit 32 signed bits is `OffsetOverflow`, and a number past 32 bits `LengthOverflow`.
     fn resolve(&self, start: u32, out: Place<'_, ArchivedText>) -> Result<(), ResolveFault>
         requires { length out.bytes.now ≡ 8 }
-        ensures ok { OnOk result (FitsText out.entry.pos start (length (string_bytes self.now)) × (out.exit.1.0.now ≡ text_own out.entry.pos start (length (string_bytes self.now)))) }
-        ensures err { IfErr result (IsUnresolved (text_archival string_bytes) self.now start out.entry.pos) }
+        ensures ok { OnOk result
+            (FitsText out.entry.pos start (length (string_bytes self.now))
+            × (out.exit.1.0.now
+            ≡ text_own out.entry.pos start (length (string_bytes self.now)))) }
+        ensures err { IfErr result
+            (IsUnresolved (text_archival string_bytes) self.now start out.entry.pos) }
     {
         let Place { pos, bytes, of: _ } = out;
         fill_text(pos, bytes, start, self.len())

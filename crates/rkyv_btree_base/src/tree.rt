@@ -1,18 +1,19 @@
 //! Writing a tree by plain recursion over the sizes of its subtrees.
 ghost use Rattle.std.specs.Prelude.{◌≡◌, ◌+◌, ◌*◌, ◌-◌, ◌^◌, ◌≤◌, ◌<◌, [], ◌∷◌, ◌++◌, length, map, vec_len, vec_capacity, OnOk, IfOk, IfErr, IsTrue};
-ghost use Rattle.rkyv_btree_base.specs.Layout.{shape, are_fitting};
-ghost use Rattle.rkyv_btree_base.specs.Logarithm.{ilog};
-ghost use Rattle.rkyv_btree_base.specs.Plan.{planned_alone};
-ghost use Rattle.rkyv_btree_base.specs.Scratch.{IsFree};
-ghost use Rattle.rkyv_btree_base.specs.Writing.{position, last_end};
-ghost use Rattle.rkyv_btree_base.specs.Written.{ChildWritten, ChildStopped, now_of};
+ghost use Rattle.rkyv_btree_format.specs.Layout.{layout_of, are_fitting};
+ghost use Rattle.rkyv_btree_shape.specs.Logarithm.{ilog};
+ghost use Rattle.rkyv_btree_shape.specs.Plan.{planned_alone};
+ghost use Rattle.rkyv_btree_base.specs.mirror.Scratch.{IsFree};
+ghost use Rattle.rkyv_btree_writer.specs.Writing.{position, last_end};
+ghost use Rattle.rkyv_btree_base.specs.Entries.{now_of};
+ghost use Rattle.rkyv_btree_base.specs.Written.{ChildWritten, ChildStopped};
 
 use crate::archive::{Archive, Serialize};
-use crate::check::Portable;
-use crate::fault::Fault;
-use crate::layout;
-use crate::place::Writer;
 use crate::writes::{Scratch, write_inner, write_leaf};
+use rkyv_btree_portable::check::Portable;
+use rkyv_btree_shape::height::child_base;
+use rkyv_btree_writer::fault::Fault;
+use rkyv_btree_writer::place::Writer;
 use std::alloc::Allocator;
 
 /// Appends a value for which there is room.
@@ -23,20 +24,6 @@ pub(crate) fn push<T: Drop, A: Allocator>(values: &mut Vec<T, A>, value: T)
     ensures capacity { vec_capacity values.old ≤ vec_capacity values.new }
 {
     values.push(value).unwrap();
-}
-
-/// One more than the entries that each child of a tree's root has above the tree's last level.
-fn child_base<const E: usize>(entries: usize) -> usize
-    requires some { 1 ≤ E }
-    requires small { E ≤ 1073741823 }
-    requires more { E < entries }
-    requires fits { entries ≤ 4294967295 }
-    ensures value { result ≡ (E + 1) ^ (ilog (E + 1) entries - 1) }
-    ensures positive { 1 ≤ result }
-    ensures below { result * (E + 1) ≤ entries }
-    ensures above { entries < result * (E + 1) * (E + 1) }
-{
-    (E + 1).pow(layout::entries_to_height::<E>(entries as u64) - 2)
 }
 
 /// Writes the tree of these entries with what they write, and answers where its root node stands; nothing for no
@@ -58,15 +45,23 @@ where
     A: Allocator + Copy,
     requires fitting { IsTrue (are_fitting K.kind V.kind E) }
     requires count { length items.now ≤ 4294967295 }
-    requires free { IsFree (shape K.kind V.kind E) scratch.old }
-    requires waiting_room { vec_len waiting.old + E * ilog (E + 1) (length items.now) ≤ vec_capacity waiting.old }
-    requires child_room { vec_len children.old + E * ilog (E + 1) (length items.now) ≤ vec_capacity children.old }
-    ensures ok { IfOk result (λ root. ChildWritten (shape K.kind V.kind E) KU.archival VU.archival (W.state writer.old) (planned_alone E (map now_of items.now)) root (W.state writer.new)) }
-    ensures err { IfErr result (λ fault. ChildStopped (shape K.kind V.kind E) KU.archival VU.archival (W.state writer.old) (planned_alone E (map now_of items.now)) fault (W.state writer.new)) }
+    requires free { IsFree (layout_of K.kind V.kind E) scratch.old }
+    requires waiting_room { vec_len waiting.old + E * ilog (E + 1) (length items.now)
+        ≤ vec_capacity waiting.old }
+    requires child_room { vec_len children.old + E * ilog (E + 1) (length items.now)
+        ≤ vec_capacity children.old }
+    ensures ok { IfOk result (λ root.
+        ChildWritten (layout_of K.kind V.kind E) KU.archival VU.archival (W.state writer.old)
+        (planned_alone E (map now_of items.now)) root (W.state writer.new)) }
+    ensures err { IfErr result (λ fault.
+        ChildStopped (layout_of K.kind V.kind E) KU.archival VU.archival (W.state writer.old)
+        (planned_alone E (map now_of items.now)) fault (W.state writer.new)) }
     ensures last { OnOk result (0 < length items.now → position (W.state writer.new) ≤ last_end) }
-    ensures free { OnOk result (IsFree (shape K.kind V.kind E) scratch.new) }
-    ensures kept { OnOk result ((waiting.new.items ≡ waiting.old.items) × (children.new.items ≡ children.old.items)) }
-    ensures room { (vec_capacity waiting.old ≤ vec_capacity waiting.new) × (vec_capacity children.old ≤ vec_capacity children.new) }
+    ensures free { OnOk result (IsFree (layout_of K.kind V.kind E) scratch.new) }
+    ensures kept { OnOk result
+        ((waiting.new.items ≡ waiting.old.items) × (children.new.items ≡ children.old.items)) }
+    ensures room { (vec_capacity waiting.old ≤ vec_capacity waiting.new)
+        × (vec_capacity children.old ≤ vec_capacity children.new) }
 {
     if items.is_empty() {
         return Ok(None);
@@ -78,6 +73,9 @@ where
     let first = waiting.len();
     let first_child = children.len();
     let base = child_base::<E>(items.len());
+    // Above the last level stand the root's `E` entries and `base - 1` of each of its `E + 1` children, which are one less
+    // than `base * (E + 1)` in all. The others are on the last level, which the children fill from the left: a full child
+    // has `E * base` of them.
     let mut on_last = items.len() + 1 - base * (E + 1);
     let mut start = 0;
     let mut left = E;

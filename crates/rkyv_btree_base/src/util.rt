@@ -1,26 +1,17 @@
-//! A key with its value.
+//! A key with its value, archived as an `Entry`.
 ghost use Rattle.std.specs.Prelude.{◌≡◌, ◌+◌, ◌≤◌, ◌<◌, ◌^◌, length, IsTrue, OnOk, IfErr};
-ghost use Rattle.rkyv_btree_base.specs.Archiving.{IsUnresolved};
+ghost use Rattle.rkyv_btree_writer.specs.Archiving.{IsUnresolved};
 ghost use Rattle.rkyv_btree_base.specs.Determined.{IsDetermined};
 ghost use Rattle.rkyv_btree_base.specs.EntryArchival.{EntryResolves, entry_archival};
-ghost use Rattle.rkyv_btree_base.specs.Entry.{value_offset, entry_size, entry_kind, RefusesEntry};
-ghost use Rattle.rkyv_btree_base.specs.laws.EntryLaws.{entry_laws, entry_refusals};
+ghost use Rattle.rkyv_btree_portable.specs.Entry.{value_offset, entry_size, entry_kind, RefusesEntry};
+ghost use Rattle.rkyv_btree_portable.specs.laws.EntryLaws.{entry_laws};
 ghost use Rattle.rkyv_btree_base.specs.laws.EntryArchived.{same_entry, entry_archived};
 
 use crate::archive::{Archive, Serialize, resolve_into};
-use crate::check::{CheckBytes, Portable, Window, check_part, check_place};
-use crate::fault::{Fault, ResolveFault};
-use crate::layout::round_up;
-use crate::place::{Place, Writer};
-use crate::refusal::Refusal;
-
-/// A key with its value, compared, ordered and hashed key first. As an archived type it is the key, then the value at the
-/// next multiple of the value's alignment, then padding up to a multiple of the greater alignment.
-#[derive(Debug, PartialEq, Eq, PartialOrd, Ord, Hash, Drop)]
-pub struct Entry<K, V> {
-    pub key: K,
-    pub value: V,
-}
+use rkyv_btree_portable::check::Portable;
+pub use rkyv_btree_portable::entry::{Entry, value_offset};
+use rkyv_btree_writer::fault::{Fault, ResolveFault};
+use rkyv_btree_writer::place::{Place, Writer};
 
 /// The resolvers of a key and of its value.
 #[derive(Debug, Drop)]
@@ -46,68 +37,6 @@ impl<'r, K, V> EntryAdapter<'r, K, V> {
     }
 }
 
-/// Where the value stands, counted from the key, which may be past 32 bits.
-fn wide_value_offset<K: Portable, V: Portable>() -> u64
-    requires key { IsTrue K.kind.is_fitting }
-    requires value { IsTrue V.kind.is_fitting }
-    ensures value { result ≡ value_offset K.kind V.kind }
-    ensures small { result < 2 ^ 33 }
-{
-    round_up(u64::from(K::size()), V::align())
-}
-
-/// Where the value stands, counted from the key.
-pub fn value_offset<K: Portable, V: Portable>() -> u32
-    requires { IsTrue (entry_kind K.kind V.kind).is_fitting }
-    ensures value { result ≡ value_offset K.kind V.kind }
-    ensures inside { result + V.kind.size ≤ entry_size K.kind V.kind }
-{
-    wide_value_offset::<K, V>() as u32
-}
-
-/// The size of an entry, which may be past 32 bits.
-fn wide_size<K: Portable, V: Portable>() -> u64
-    requires key { IsTrue K.kind.is_fitting }
-    requires value { IsTrue V.kind.is_fitting }
-    ensures { result ≡ entry_size K.kind V.kind }
-{
-    round_up(
-        wide_value_offset::<K, V>() + u64::from(V::size()),
-        K::align().max(V::align()),
-    )
-}
-
-impl<K: Portable, V: Portable> Portable for Entry<K, V> {
-    ghost kind = { entry_kind K.kind V.kind };
-
-    fn size() -> u32 {
-        wide_size::<K, V>() as u32
-    }
-
-    fn align() -> u32 {
-        K::align().max(V::align())
-    }
-
-    fn fits() -> bool {
-        K::fits() && V::fits() && wide_size::<K, V>() <= u64::from(u32::MAX)
-    }
-
-    ghost laws = { entry_laws K.kind V.kind K.laws V.laws };
-}
-
-impl<K: CheckBytes, V: CheckBytes> CheckBytes for Entry<K, V> {
-    ghost Refuses = { RefusesEntry K.kind V.kind };
-
-    fn check(buf: &[u8], pos: u32, window: Window) -> Result<Window, Refusal> {
-        check_place::<Entry<K, V>>(buf, pos)?;
-        let between = check_part::<K>(buf, pos, window.lo, window.hi)?;
-        let lo = check_part::<V>(buf, pos + value_offset::<K, V>(), between, window.hi)?;
-        Ok(Window { lo, hi: window.hi })
-    }
-
-    ghost refusals = { λ _. entry_refusals K.kind V.kind K.laws V.laws };
-}
-
 impl<'r, KU: Archive, VU: Archive> Archive for EntryAdapter<'r, KU, VU> {
     type Archived = Entry<KU::Archived, VU::Archived>;
 
@@ -124,8 +53,12 @@ impl<'r, KU: Archive, VU: Archive> Archive for EntryAdapter<'r, KU, VU> {
         requires fitting { IsTrue (entry_kind KU.Archived.kind VU.Archived.kind).is_fitting }
         requires size { length out.bytes.now ≡ entry_size KU.Archived.kind VU.Archived.kind }
         requires end { out.pos + entry_size KU.Archived.kind VU.Archived.kind ≤ 4294967295 }
-        ensures ok { OnOk result (EntryResolves KU.archival VU.archival self.now resolver out.entry.pos out.exit.1.0.now) }
-        ensures err { IfErr result (IsUnresolved (entry_archival KU.archival VU.archival) self.now resolver out.entry.pos) }
+        ensures ok { OnOk result
+            (EntryResolves KU.archival VU.archival self.now resolver out.entry.pos
+            out.exit.1.0.now) }
+        ensures err { IfErr result
+            (IsUnresolved (entry_archival KU.archival VU.archival) self.now resolver
+            out.entry.pos) }
     {
         let Place { pos, bytes, of: _ } = out;
         let EntryResolver { key, value } = resolver;
@@ -161,5 +94,6 @@ impl<'r, W: Writer, A: Copy, KU: Serialize<W, A>, VU: Serialize<W, A>> Serialize
 
 /// Where what archiving a key and a value writes follows from each and from positions, so does what both write.
 pub fn entries_are_determined<KU: Archive, VU: Archive>()
-    ensures { IsDetermined KU.archival → IsDetermined VU.archival → IsDetermined (entry_archival KU.archival VU.archival) }
+    ensures { IsDetermined KU.archival → IsDetermined VU.archival →
+        IsDetermined (entry_archival KU.archival VU.archival) }
 {}

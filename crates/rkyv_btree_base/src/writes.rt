@@ -1,21 +1,24 @@
-//! The writes of zeros and of whole nodes.
+//! The writes of whole nodes.
 ghost use Rattle.std.specs.Prelude.{ℕ, List, ◌≡◌, ◌+◌, ◌<◌, ◌≤◌, [], ◌∷◌, ◌++◌, length, map, vec_capacity, OnOk, IfOk, IfErr, IsTrue};
 ghost use Rattle.std.specs.VecDeque.{deque_capacity};
-ghost use Rattle.rkyv_btree_base.specs.Image.{padding, leaf_image, inner_image};
-ghost use Rattle.rkyv_btree_base.specs.InPlace.{OwnBytes};
-ghost use Rattle.rkyv_btree_base.specs.Layout.{shape, are_fitting, leaf_size, inner_size};
-ghost use Rattle.rkyv_btree_base.specs.Rounding.{round_up};
-ghost use Rattle.rkyv_btree_base.specs.Scratch.{IsFree};
-ghost use Rattle.rkyv_btree_base.specs.Writing.{Write, position, Appended, Wrote, Refused, Stopped, last_end};
-ghost use Rattle.rkyv_btree_base.specs.Written.{IsPadded, NodeWritten, NodeStopped, as_fault, now_of};
+ghost use Rattle.rkyv_btree_writer.specs.Padding.{padding};
+ghost use Rattle.rkyv_btree_base.specs.Image.{leaf_image, inner_image};
+ghost use Rattle.rkyv_btree_portable.specs.InPlace.{OwnBytes};
+ghost use Rattle.rkyv_btree_format.specs.Layout.{layout_of, are_fitting, leaf_size, inner_size};
+ghost use Rattle.rkyv_btree_portable.specs.Rounding.{round_up};
+ghost use Rattle.rkyv_btree_base.specs.mirror.Scratch.{IsFree};
+ghost use Rattle.rkyv_btree_writer.specs.Writing.{Write, position, Appended, Wrote, Refused, Stopped, last_end};
+ghost use Rattle.rkyv_btree_base.specs.Entries.{as_fault, now_of};
+ghost use Rattle.rkyv_btree_base.specs.Written.{IsPadded, NodeWritten, NodeStopped};
 
 use crate::archive::{Archive, Serialize};
-use crate::check::Portable;
 use crate::entries::serialize_entries;
-use crate::fault::{Fault, ResolveFault};
-use crate::layout;
 use crate::node::{fill_inner, fill_leaf};
-use crate::place::Writer;
+use rkyv_btree_format::layout;
+use rkyv_btree_portable::check::Portable;
+use rkyv_btree_writer::fault::{Fault, ResolveFault};
+use rkyv_btree_writer::place::Writer;
+use rkyv_btree_writer::writes::{LAST_END, pad, put};
 use std::alloc::Allocator;
 use std::collections::VecDeque;
 
@@ -25,41 +28,6 @@ pub(crate) struct Scratch<R, S, A: Allocator> {
     pub(crate) node: Vec<u8, A>,
     pub(crate) keys: VecDeque<R, A>,
     pub(crate) values: VecDeque<S, A>,
-}
-
-/// No write ends past this position.
-pub(crate) const LAST_END: u64 = 4294967295;
-
-/// Writes the bytes, if they end at a position in 32 bits.
-pub(crate) fn put<W: Writer>(writer: &mut W, bytes: &[u8]) -> Result<(), Fault<W::Error>>
-    ensures ok { OnOk result (Appended (W.state writer.old) bytes.now (W.state writer.new)) }
-    ensures end { OnOk result (position (W.state writer.new) ≤ last_end) }
-    ensures err { IfErr result (λ fault. (reaches : _) → Refused fault (W.state writer.old) (record { bytes = bytes.now; reaches = reaches }) (W.state writer.new)) }
-{
-    let pos = writer.pos();
-    if pos > LAST_END || bytes.len() as u64 > LAST_END - pos {
-        return Err(Fault::PositionOverflow);
-    }
-    writer.write(bytes).map_err(Fault::Writer)
-}
-
-/// Writes zeros up to a multiple of an alignment, and answers that position.
-pub(crate) fn pad<W: Writer>(writer: &mut W, align: u32) -> Result<u64, Fault<W::Error>>
-    requires positive { 0 < align }
-    requires small { align ≤ 8 }
-    ensures pos { IfOk result (λ pos. pos ≡ round_up (position (W.state writer.old)) align) }
-    ensures end { IfOk result (λ pos. pos ≡ position (W.state writer.new)) }
-    ensures ok { OnOk result (Wrote (W.state writer.old) (padding align (position (W.state writer.old))) (W.state writer.new)) }
-    ensures err { IfErr result (λ fault. Stopped (W.state writer.old) (padding align (position (W.state writer.old))) fault (W.state writer.new)) }
-{
-    let pos = writer.pos();
-    let past = (pos % align as u64) as usize;
-    if past == 0 {
-        return Ok(pos);
-    }
-    let count = align as usize - past;
-    put(writer, &[0, 0, 0, 0, 0, 0, 0][..count])?;
-    Ok(pos + count as u64)
 }
 
 /// The fault of serialising that a fault of resolving is.
@@ -94,10 +62,15 @@ where
     requires no_values { values.old.items ≡ [] }
     requires key_room { length entries.now ≤ deque_capacity keys.old }
     requires value_room { length entries.now ≤ deque_capacity values.old }
-    ensures ok { OnOk result (IsPadded (shape K.kind V.kind E) KU.archival VU.archival (W.state writer.old) (map now_of entries.now) keys.new.items values.new.items (W.state writer.new)) }
+    ensures ok { OnOk result
+        (IsPadded (layout_of K.kind V.kind E) KU.archival VU.archival (W.state writer.old)
+        (map now_of entries.now) keys.new.items values.new.items (W.state writer.new)) }
     ensures place { IfOk result (λ root. root ≡ position (W.state writer.new)) }
     ensures end { IfOk result (λ root. root + size ≤ last_end) }
-    ensures err { IfErr result (λ fault. (image : ℕ → List OwnBytes → List Write) → NodeStopped (shape K.kind V.kind E) KU.archival VU.archival image size (W.state writer.old) (map now_of entries.now) fault (W.state writer.new)) }
+    ensures err { IfErr result (λ fault.
+        (image : ℕ → List OwnBytes → List Write) →
+        NodeStopped (layout_of K.kind V.kind E) KU.archival VU.archival image size
+        (W.state writer.old) (map now_of entries.now) fault (W.state writer.new)) }
     ensures keys { OnOk result (length keys.new.items ≡ length entries.now) }
     ensures values { OnOk result (length values.new.items ≡ length entries.now) }
     ensures key_room { deque_capacity keys.old ≤ deque_capacity keys.new }
@@ -127,11 +100,17 @@ where
     A: Allocator + Copy,
     requires fitting { IsTrue (are_fitting K.kind V.kind E) }
     requires count { length entries.now ≤ E }
-    requires free { IsFree (shape K.kind V.kind E) scratch.old }
-    ensures ok { IfOk result (λ root. NodeWritten (shape K.kind V.kind E) KU.archival VU.archival (leaf_image (shape K.kind V.kind E)) (leaf_size (shape K.kind V.kind E)) (W.state writer.old) (map now_of entries.now) root (W.state writer.new)) }
+    requires free { IsFree (layout_of K.kind V.kind E) scratch.old }
+    ensures ok { IfOk result (λ root.
+        NodeWritten (layout_of K.kind V.kind E) KU.archival VU.archival
+        (leaf_image (layout_of K.kind V.kind E)) (leaf_size (layout_of K.kind V.kind E))
+        (W.state writer.old) (map now_of entries.now) root (W.state writer.new)) }
     ensures last { OnOk result (position (W.state writer.new) ≤ last_end) }
-    ensures err { IfErr result (λ fault. NodeStopped (shape K.kind V.kind E) KU.archival VU.archival (leaf_image (shape K.kind V.kind E)) (leaf_size (shape K.kind V.kind E)) (W.state writer.old) (map now_of entries.now) fault (W.state writer.new)) }
-    ensures free { OnOk result (IsFree (shape K.kind V.kind E) scratch.new) }
+    ensures err { IfErr result (λ fault.
+        NodeStopped (layout_of K.kind V.kind E) KU.archival VU.archival
+        (leaf_image (layout_of K.kind V.kind E)) (leaf_size (layout_of K.kind V.kind E))
+        (W.state writer.old) (map now_of entries.now) fault (W.state writer.new)) }
+    ensures free { OnOk result (IsFree (layout_of K.kind V.kind E) scratch.new) }
 {
     let size = layout::leaf_size::<K, V, E>();
     let root = begin_node::<KU, VU, K, V, W, A, E>(
@@ -176,11 +155,21 @@ where
     requires fitting { IsTrue (are_fitting K.kind V.kind E) }
     requires entries { length entries.now ≡ E }
     requires children { length children.now ≡ E }
-    requires free { IsFree (shape K.kind V.kind E) scratch.old }
-    ensures ok { IfOk result (λ root. NodeWritten (shape K.kind V.kind E) KU.archival VU.archival (λ at owns. inner_image (shape K.kind V.kind E) at owns (children.now ++ last ∷ [])) (inner_size (shape K.kind V.kind E)) (W.state writer.old) (map now_of entries.now) root (W.state writer.new)) }
+    requires free { IsFree (layout_of K.kind V.kind E) scratch.old }
+    ensures ok { IfOk result (λ root.
+        NodeWritten (layout_of K.kind V.kind E) KU.archival VU.archival
+        (λ at owns.
+        inner_image (layout_of K.kind V.kind E) at owns (children.now ++ last ∷ []))
+        (inner_size (layout_of K.kind V.kind E)) (W.state writer.old)
+        (map now_of entries.now) root (W.state writer.new)) }
     ensures last { OnOk result (position (W.state writer.new) ≤ last_end) }
-    ensures err { IfErr result (λ fault. NodeStopped (shape K.kind V.kind E) KU.archival VU.archival (λ at owns. inner_image (shape K.kind V.kind E) at owns (children.now ++ last ∷ [])) (inner_size (shape K.kind V.kind E)) (W.state writer.old) (map now_of entries.now) fault (W.state writer.new)) }
-    ensures free { OnOk result (IsFree (shape K.kind V.kind E) scratch.new) }
+    ensures err { IfErr result (λ fault.
+        NodeStopped (layout_of K.kind V.kind E) KU.archival VU.archival
+        (λ at owns.
+        inner_image (layout_of K.kind V.kind E) at owns (children.now ++ last ∷ []))
+        (inner_size (layout_of K.kind V.kind E)) (W.state writer.old)
+        (map now_of entries.now) fault (W.state writer.new)) }
+    ensures free { OnOk result (IsFree (layout_of K.kind V.kind E) scratch.new) }
 {
     let size = layout::inner_size::<K, V, E>();
     let root = begin_node::<KU, VU, K, V, W, A, E>(

@@ -1,15 +1,29 @@
-//! Tests of the base at concrete types: what is written, byte for byte, and what no contract says.
+//! Tests at concrete types: what is written, byte for byte, what is read of it, and what no contract says.
 #![tactic(auto)]
 
+#[cfg(test)]
+mod damage;
 #[cfg(test)]
 mod entries;
 #[cfg(test)]
 mod faults;
 #[cfg(test)]
+mod foreign;
+#[cfg(test)]
+mod natives;
+#[cfg(test)]
 mod numbers;
+#[cfg(test)]
+mod opening;
+#[cfg(test)]
+mod pairs;
 #[cfg(test)]
 mod texts;
 #[cfg(test)]
 mod trees;
 #[cfg(test)]
 mod values;
+#[cfg(test)]
+mod views;
+#[cfg(test)]
+mod walks;

@@ -1,16 +1,16 @@
 -- A key with its value is archived by what archives both.
 use Rattle.std.specs.Prelude.{◌≡◌, ℕ, ◌+◌, ◌≤◌, ◌^◌, ◌&&◌, Bool, ◌++◌, length, nat_lt}
 use Rattle.std.proofs.Common.{arith, ap, subst, ◌∙◌, length-append}
-use Rattle.rkyv_btree_base.specs.Archiving.{Archival, Matches, IsArchived}
-use Rattle.rkyv_btree_base.specs.Bytes.{Holds}
-use Rattle.rkyv_btree_base.specs.Entry.{value_offset, entry_align, entry_size, entry_kind}
+use Rattle.rkyv_btree_writer.specs.Archiving.{Archival, Matches, IsArchived}
+use Rattle.rkyv_btree_portable.specs.Bytes.{Holds}
+use Rattle.rkyv_btree_portable.specs.Entry.{value_offset, entry_align, entry_size, entry_kind}
 use Rattle.rkyv_btree_base.specs.EntryArchival.{entry_archival}
-use Rattle.rkyv_btree_base.specs.Kind.{Kind, IsLawful}
-use Rattle.rkyv_btree_base.specs.Rounding.{aligned_left, aligned_right, aligned_add, round_up-aligned}
-use Rattle.rkyv_btree_base.specs.Standing.{IsAligned}
-use Rattle.rkyv_btree_base.specs.Writing.{appended}
-use Rattle.rkyv_btree_base.specs.laws.EntryLaws.{key_inside, value_inside, entry_of_parts}
-use Rattle.rkyv_btree_base.specs.laws.Holding.{Holds-front, Holds-back, appended-append, tail_length, tail_held}
+use Rattle.rkyv_btree_portable.specs.Kind.{Kind, IsLawful}
+use Rattle.rkyv_btree_portable.specs.laws.Rounding.{aligned_left, aligned_right, aligned_add, round_up-aligned}
+use Rattle.rkyv_btree_portable.specs.Standing.{IsAligned}
+use Rattle.rkyv_btree_writer.specs.Writing.{appended}
+use Rattle.rkyv_btree_portable.specs.laws.EntryLaws.{key_inside, value_inside, entry_of_parts}
+use Rattle.rkyv_btree_writer.proofs.Holding.{Holds-front, Holds-back, appended-append, tail_length, tail_held}
 
 -- the layouts of two entries whose keys and values lie alike
 module _ (K V A B : Kind) (k : Matches K A) (v : Matches V B) where

@@ -1,6 +1,6 @@
 use Rattle.std.proofs.Common.{◌≡◌, List, ℕ, ◌∙◌, map, refl, sym, ap, subst, arith}
 use Rattle.rkyv_btree_base.specs.Archiving.{itself}
-use Rattle.rkyv_btree_base.specs.Plain.{u32_kind}
+use Rattle.rkyv_btree_base.specs.Scalars.{u32_kind}
 use Rattle.btreearc.specs.Opening.{IsArchive}
 use Rattle.btreearc.proofs.Built.{pair, drained_pairs, tree_is, archive_written, archive_accepted, unbuilt, unbuilt_root}
 use Rattle.btreearc.proofs.build.archive.Goals as goal

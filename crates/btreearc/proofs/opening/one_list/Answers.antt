@@ -1,5 +1,6 @@
-use Rattle.rkyv_btree_base.specs.Plain.{u32_kind, u32_laws}
-use Rattle.rkyv_btree_base.specs.laws.Unique.{map_unique}
+use Rattle.rkyv_btree_base.specs.Scalars.{u32_kind}
+use Rattle.rkyv_btree_base.specs.laws.Scalars.{u32_laws}
+use Rattle.rkyv_btree_base.proofs.Unique.{map_unique}
 use Rattle.btreearc.specs.Opening.{root_of}
 use Rattle.btreearc.proofs.opening.one_list.Goals as goal
 

@@ -1,4 +1,4 @@
-use Rattle.std.proofs.Common.{ℕ, List, ◌∙◌, refl, sym, ap, subst}
+use Rattle.std.proofs.Common.{ℕ, List, ◌∙◌, refl, ap, subst}
 use Rattle.std.specs.Io.KnownBytes.{Appends}
 use Rattle.btreearc.specs.Archive.{archive_of}
 use Rattle.btreearc.specs.Grammar.{IsLines}

@@ -1,4 +1,4 @@
-use Rattle.rkyv_btree_base.specs.laws.Determined.{own_determined}
+use Rattle.rkyv_btree_base.proofs.OneArchival.{own_determined}
 use Rattle.rkyv_btree_base.proofs.archive.natives_are_determined.Goals as goal
 
 pub returns : goal.returns

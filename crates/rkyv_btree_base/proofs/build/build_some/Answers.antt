@@ -2,9 +2,9 @@ use Rattle.std.proofs.Common.{◌≡◌, ◌∙◌, length, map, sym, subst, ap,
 use Rattle.std.proofs.lemmas.List.{length-map}
 use Rattle.std.proofs.lemmas.Result.{err_from_is_err_and}
 use Rattle.std.specs.Iterator.{Yields}
-use Rattle.rkyv_btree_base.specs.Layout.{shape}
+use Rattle.rkyv_btree_format.specs.Layout.{layout_of}
 use Rattle.rkyv_btree_base.specs.Serialising.{meaning_of, Built}
-use Rattle.rkyv_btree_base.specs.Written.{now_of}
+use Rattle.rkyv_btree_base.specs.Entries.{now_of}
 use Rattle.rkyv_btree_base.proofs.Building.{drained, miscounted_of, refused_of, meaning_is, spelled_of}
 use Rattle.rkyv_btree_base.proofs.build.build_some.Goals as goal
 
@@ -43,7 +43,7 @@ returns-clause-ok g c =
     let count : length items ≡ c.args.len = ap length c.deref.ensures.value ∙ c.take_items.ensures.len took in
     let n = length-map items (now_of {M = g.row.KU.Denot} {N = g.row.VU.Denot}) in
     let wrote = c.in_ok-root.ensures in
-    let built : Built (shape K V E) g.KU.Archive.archival g.VU.Archive.archival from (map now_of items) c.unwrap_or.result to = record {
+    let built : Built (layout_of K V E) g.KU.Archive.archival g.VU.Archive.archival from (map now_of items) c.unwrap_or.result to = record {
       place = c.in_ok-root.root;
       written = wrote.ok;
       root_is = c.unwrap_or.ensures;

@@ -1,12 +1,12 @@
 use Rattle.std.proofs.Common.{◌≤◌, ◌+◌, ◌-◌, arith}
 use Rattle.std.proofs.Math.Nat.{mul-le-mul_left}
-use Rattle.rkyv_btree_base.specs.Logarithm.{ilog}
-use Rattle.rkyv_btree_base.specs.laws.Sizes.{room_of}
-use Rattle.rkyv_btree_base.proofs.Logs.{ilog_bounds, exponent_fits}
+use Rattle.rkyv_btree_shape.specs.Logarithm.{ilog}
+use Rattle.rkyv_btree_format.proofs.Sizes.{room_of}
+use Rattle.rkyv_btree_shape.proofs.Logs.{ilog_bounds, exponent_fits}
 use Rattle.rkyv_btree_base.proofs.build.waiting.Goals as goal
 
-pub entries_to_height-requires-clause-room : goal.entries_to_height-requires-clause-room
-entries_to_height-requires-clause-room g c =
+pub entries_to_height-requires-clause-entries : goal.entries_to_height-requires-clause-entries
+entries_to_height-requires-clause-entries g c =
     let room = room_of _ _ g.row.E g.met.K.Portable.laws g.met.V.Portable.laws c.requires.fitting in
     room.some
 

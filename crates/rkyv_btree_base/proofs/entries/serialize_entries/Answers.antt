@@ -1,7 +1,7 @@
 use Rattle.std.proofs.Common.{◌+◌, ◌∙◌, length, map, ap, arith}
 use Rattle.std.proofs.lemmas.List.{length_push}
 use Rattle.std.proofs.lemmas.Result.{err_from_is_err_and}
-use Rattle.rkyv_btree_base.specs.Written.{IsSerialised, now_of}
+use Rattle.rkyv_btree_base.specs.Entries.{IsSerialised, now_of}
 use Rattle.rkyv_btree_base.proofs.InOrder.{next_serialised, value_unserialised, all_serialised}
 use Rattle.rkyv_btree_base.proofs.entries.serialize_entries.Goals as goal
 

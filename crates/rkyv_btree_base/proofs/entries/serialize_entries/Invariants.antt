@@ -1,6 +1,6 @@
 use Rattle.std.proofs.Common.{◌≡◌, ◌≤◌, length, map, drop}
 use Rattle.std.specs.VecDeque.{deque_capacity}
-use Rattle.rkyv_btree_base.specs.Written.{now_of}
+use Rattle.rkyv_btree_base.specs.Entries.{now_of}
 use Rattle.rkyv_btree_base.proofs.InOrder.{SerialisedSoFar}
 use Rattle.rkyv_btree_base.proofs.entries.serialize_entries.Given as goal
 

@@ -1,7 +1,7 @@
 use Rattle.std.proofs.Common.{◌≡◌, ◌+◌, ◌-◌, ◌∙◌, length, take, drop, ap, arith}
 use Rattle.std.proofs.lemmas.List.{length-take, length-drop, take_at}
 use Rattle.std.proofs.lemmas.Result.{on_ok_weaker}
-use Rattle.rkyv_btree_base.specs.Bytes.{zeros}
+use Rattle.rkyv_btree_portable.specs.Bytes.{zeros}
 use Rattle.rkyv_btree_base.proofs.Resolving.{placed}
 use Rattle.rkyv_btree_base.proofs.node.append_value.Goals as goal
 

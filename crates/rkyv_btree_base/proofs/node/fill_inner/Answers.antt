@@ -1,7 +1,7 @@
 use Rattle.std.proofs.Common.{◌∙◌, ◌+◌, ◌*◌, ◌&&◌, ap, sym, refl, inl, inr, arith}
 use Rattle.std.proofs.lemmas.Result.{err_from_is_err_and}
-use Rattle.rkyv_btree_base.specs.Layout.{shape, len_at}
-use Rattle.rkyv_btree_base.specs.laws.Sizes.{room_of}
+use Rattle.rkyv_btree_format.specs.Layout.{layout_of, len_at}
+use Rattle.rkyv_btree_format.proofs.Sizes.{room_of}
 use Rattle.rkyv_btree_base.proofs.Nodes.{filled_inner}
 use Rattle.rkyv_btree_base.proofs.PointerRuns.{reach_end, stray_front}
 use Rattle.rkyv_btree_base.proofs.node.fill_inner.Goals as goal
@@ -68,19 +68,19 @@ returns-in_err-fill_entries-clause-err g c =
 
 pub returns-then-not-append_pointers-clause-err : goal.returns-then-not-append_pointers-clause-err
 returns-then-not-append_pointers-clause-err g c =
-    let nodes = shape g.K.Portable.kind g.V.Portable.kind g.row.E in
+    let nodes = layout_of g.K.Portable.kind g.V.Portable.kind g.row.E in
     let made = c.in_ok-fill_entries.ensures.ok in
     inr (made.0, made.1, refl, sym (stray_front (c.args.pos + len_at nodes) (c.args.pos + c.lesser_at-2.result) c.args.children.now c.args.last c.append_pointers.result c.append_pointers.ensures.reach c.if-not-append_pointers.true (omega arith)) ∙ c.if-not-append_pointers.true)
 
 pub returns-then-not-append_pointer-clause-err : goal.returns-then-not-append_pointer-clause-err
 returns-then-not-append_pointer-clause-err g c =
-    let nodes = shape g.K.Portable.kind g.V.Portable.kind g.row.E in
+    let nodes = layout_of g.K.Portable.kind g.V.Portable.kind g.row.E in
     let made = c.in_ok-fill_entries.ensures.ok in
     inr (made.0, made.1, refl, sym (reach_end (c.args.pos + len_at nodes) (c.args.pos + c.lesser_at-2.result) (c.args.pos + c.greater_at.result) c.args.children.now c.args.last c.append_pointers.result c.append_pointer.result c.append_pointers.ensures.reach c.append_pointer.ensures.reach (omega arith) (omega (arith, c.requires.children))) ∙ (ap (λ z. z && c.append_pointer.result) c.if-not-append_pointers.false ∙ c.if-not-append_pointer.true))
 
 pub returns-clause-ok : goal.returns-clause-ok
 returns-clause-ok g c =
-    let nodes = shape g.K.Portable.kind g.V.Portable.kind g.row.E in
+    let nodes = layout_of g.K.Portable.kind g.V.Portable.kind g.row.E in
     let made = c.in_ok-fill_entries.ensures.ok in (
       made.0,
       made.1,

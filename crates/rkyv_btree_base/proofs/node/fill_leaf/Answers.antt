@@ -1,8 +1,8 @@
 use Rattle.std.proofs.Common.{◌≡◌, ◌∙◌, ◌++◌, length, map, ap, sym, arith}
 use Rattle.std.proofs.lemmas.List.{length-map}
-use Rattle.rkyv_btree_base.specs.Layout.{shape}
-use Rattle.rkyv_btree_base.specs.Written.{now_of}
-use Rattle.rkyv_btree_base.specs.laws.Sizes.{room_of}
+use Rattle.rkyv_btree_format.specs.Layout.{layout_of}
+use Rattle.rkyv_btree_base.specs.Entries.{now_of}
+use Rattle.rkyv_btree_format.proofs.Sizes.{room_of}
 use Rattle.rkyv_btree_base.proofs.Resolving.{entries_length, filled_leaf}
 use Rattle.rkyv_btree_base.proofs.node.fill_leaf.Goals as goal
 
@@ -18,7 +18,7 @@ overflow_cast-entries g c =
 
 pub returns-clause-ok : goal.returns-clause-ok
 returns-clause-ok g c =
-    let nodes = shape g.K.Portable.kind g.V.Portable.kind g.row.E in
+    let nodes = layout_of g.K.Portable.kind g.V.Portable.kind g.row.E in
     let made = c.in_ok-fill_entries.ensures.ok in
     let count : length made.0 ≡ length c.args.entries.now = entries_length nodes g.KU.Archive.archival g.VU.Archive.archival c.args.pos (map now_of c.args.entries.now) c.args.keys.now.items c.args.values.now.items made.0 made.1 ∙ length-map c.args.entries.now now_of in (
       made.0,

@@ -1,4 +1,4 @@
-use Rattle.rkyv_btree_base.specs.laws.Determined.{text_determined}
+use Rattle.rkyv_btree_base.proofs.OneArchival.{text_determined}
 use Rattle.rkyv_btree_base.proofs.text.texts_are_determined.Goals as goal
 
 pub returns : goal.returns

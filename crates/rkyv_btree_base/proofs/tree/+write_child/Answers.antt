@@ -2,12 +2,13 @@ use Rattle.std.proofs.Common.{◌≡◌, ◌+◌, ◌*◌, ◌-◌, ◌≤◌, �
 use Rattle.std.proofs.lemmas.List.{length-take, length-drop, map_push, take_rest}
 use Rattle.std.proofs.lemmas.Result.{err_from_is_err_and}
 use mathlib.Core.List.{not-mem-nil}
-use Rattle.rkyv_btree_base.specs.Layout.{shape}
-use Rattle.rkyv_btree_base.specs.Plan.{planned_alone}
-use Rattle.rkyv_btree_base.specs.Written.{ChildWritten, ChildStopped, now_of}
-use Rattle.rkyv_btree_base.specs.laws.Sizes.{room_of}
-use Rattle.rkyv_btree_base.proofs.Alone.{alone_leaf, alone_inner, waiting}
-use Rattle.rkyv_btree_base.proofs.Rows.{turn-inside, turn-rest, drop-push, take-push, length-pushed, not-empty, child_small, less_on_last, some_item, last_rest, last_fits}
+use Rattle.rkyv_btree_format.specs.Layout.{layout_of}
+use Rattle.rkyv_btree_shape.specs.Plan.{planned_alone}
+use Rattle.rkyv_btree_base.specs.Entries.{now_of}
+use Rattle.rkyv_btree_base.specs.Written.{ChildWritten, ChildStopped}
+use Rattle.rkyv_btree_format.proofs.Sizes.{room_of}
+use Rattle.rkyv_btree_shape.proofs.Alone.{alone_leaf, alone_inner, waiting}
+use Rattle.rkyv_btree_shape.proofs.Rows.{turn-inside, turn-rest, drop-push, take-push, length-pushed, not-empty, child_small, less_on_last, some_item, last_rest, last_fits}
 use Rattle.rkyv_btree_base.proofs.RowsWritten.{row-more, row-stopped, last-stopped, inner-stopped, inner-written, turn-so-far, last-so-far, so-far-as}
 use Rattle.rkyv_btree_base.proofs.tree.+write_child.Goals as goal
 
@@ -25,7 +26,7 @@ pub returns-in_err-root-clause-err : goal.returns-in_err-root-clause-err
 returns-in_err-root-clause-err g t c =
     let s = g.W.Writer.state c.args.writer.now in
     let E = g.row.E in
-    let nodes = shape g.K.Portable.kind g.V.Portable.kind E in
+    let nodes = layout_of g.K.Portable.kind g.V.Portable.kind E in
     let own = now_of {M = g.row.KU.Denot} {N = g.row.VU.Denot} in
     let items = c.args.items.now in
     let room = room_of _ _ g.row.E g.met.K.Portable.laws g.met.V.Portable.laws c.requires.fitting in
@@ -37,7 +38,7 @@ pub returns-then-items-clause-ok : goal.returns-then-items-clause-ok
 returns-then-items-clause-ok g t c =
     let s = g.W.Writer.state c.args.writer.now in
     let E = g.row.E in
-    let nodes = shape g.K.Portable.kind g.V.Portable.kind E in
+    let nodes = layout_of g.K.Portable.kind g.V.Portable.kind E in
     let own = now_of {M = g.row.KU.Denot} {N = g.row.VU.Denot} in
     let items = c.args.items.now in
     let room = room_of _ _ g.row.E g.met.K.Portable.laws g.met.V.Portable.laws c.requires.fitting in
@@ -49,7 +50,7 @@ pub returns-in_err-child-clause-err : goal.returns-in_err-child-clause-err
 returns-in_err-child-clause-err g t c =
     let s = g.W.Writer.state c.args.writer.now in
     let E = g.row.E in
-    let nodes = shape g.K.Portable.kind g.V.Portable.kind E in
+    let nodes = layout_of g.K.Portable.kind g.V.Portable.kind E in
     let own = now_of {M = g.row.KU.Denot} {N = g.row.VU.Denot} in
     let items = c.args.items.now in
     let room = room_of _ _ g.row.E g.met.K.Portable.laws g.met.V.Portable.laws c.requires.fitting in
@@ -72,7 +73,7 @@ returns-in_err-child-clause-err g t c =
 pub loop-left-preserved : goal.loop-left-preserved
 loop-left-preserved g t c =
     let E = g.row.E in
-    let nodes = shape g.K.Portable.kind g.V.Portable.kind E in
+    let nodes = layout_of g.K.Portable.kind g.V.Portable.kind E in
     let own = now_of {M = g.row.KU.Denot} {N = g.row.VU.Denot} in
     let items = c.args.items.now in
     let base = c.child_base-base.result in
@@ -113,7 +114,7 @@ pub returns-in_err-last-clause-err : goal.returns-in_err-last-clause-err
 returns-in_err-last-clause-err g t c =
     let s = g.W.Writer.state c.args.writer.now in
     let E = g.row.E in
-    let nodes = shape g.K.Portable.kind g.V.Portable.kind E in
+    let nodes = layout_of g.K.Portable.kind g.V.Portable.kind E in
     let own = now_of {M = g.row.KU.Denot} {N = g.row.VU.Denot} in
     let items = c.args.items.now in
     let room = room_of _ _ g.row.E g.met.K.Portable.laws g.met.V.Portable.laws c.requires.fitting in
@@ -130,7 +131,7 @@ pub returns-in_err-root-2-clause-err : goal.returns-in_err-root-2-clause-err
 returns-in_err-root-2-clause-err g t c =
     let s = g.W.Writer.state c.args.writer.now in
     let E = g.row.E in
-    let nodes = shape g.K.Portable.kind g.V.Portable.kind E in
+    let nodes = layout_of g.K.Portable.kind g.V.Portable.kind E in
     let own = now_of {M = g.row.KU.Denot} {N = g.row.VU.Denot} in
     let items = c.args.items.now in
     let room = room_of _ _ g.row.E g.met.K.Portable.laws g.met.V.Portable.laws c.requires.fitting in
@@ -150,7 +151,7 @@ pub returns-clause-ok : goal.returns-clause-ok
 returns-clause-ok g t c =
     let s = g.W.Writer.state c.args.writer.now in
     let E = g.row.E in
-    let nodes = shape g.K.Portable.kind g.V.Portable.kind E in
+    let nodes = layout_of g.K.Portable.kind g.V.Portable.kind E in
     let own = now_of {M = g.row.KU.Denot} {N = g.row.VU.Denot} in
     let items = c.args.items.now in
     let room = room_of _ _ g.row.E g.met.K.Portable.laws g.met.V.Portable.laws c.requires.fitting in
@@ -224,8 +225,52 @@ write_child-requires g t c κs within =
     let part = take size (drop start items) in
     let len : length part ≡ (base - 1) + took = omega (arith, length-take size (drop start items), length-drop start items, inside, size_is) in
     let small : length part < base * (E + 1) = subst (λ n. n < base * (E + 1)) (sym len) (child_small base E c.loop-left.on_last took c.min-taken.ensures c.child_base-base.ensures.positive) in
-    let wait = waiting E (length items) (length part) base room.some c.if-items.false c.child_base-base.ensures.value small in
-    (omega (arith, len, inside), (within.0, (within.1.0, (within.1.1.0, (within.1.1.1.0, (within.1.1.1.1.0, (within.1.1.1.1.1.0, (λ a m. absurd (not-mem-nil m), (within.1.1.1.1.1.1.0, (within.1.1.1.1.1.1.1.0, (within.1.1.1.1.1.1.1.1, (c.requires.fitting, (omega (arith, len, inside, c.requires.count), (before.free, (omega (arith, wait, before.waiting_count, before.waiting_room, c.requires.waiting_room, c.loop-left-test.true), omega (arith, wait, before.child_count, before.child_room, c.requires.child_room, c.loop-left-test.true))))))))))))))))
+    let wait = waiting E (length items) (length part) base room.some c.if-items.false c.child_base-base.ensures.value small in (
+      omega (arith, len, inside),
+      (
+        within.0,
+        (
+          within.1.0,
+          (
+            within.1.1.0,
+            (
+              within.1.1.1.0,
+              (
+                within.1.1.1.1.0,
+                (
+                  within.1.1.1.1.1.0,
+                  (
+                    λ a m. absurd (not-mem-nil m),
+                    (
+                      within.1.1.1.1.1.1.0,
+                      (
+                        within.1.1.1.1.1.1.1.0,
+                        (
+                          within.1.1.1.1.1.1.1.1,
+                          (
+                            c.requires.fitting,
+                            (
+                              omega (arith, len, inside, c.requires.count),
+                              (
+                                before.free,
+                                (
+                                  omega (arith, wait, before.waiting_count, before.waiting_room, c.requires.waiting_room, c.loop-left-test.true),
+                                  omega (arith, wait, before.child_count, before.child_room, c.requires.child_room, c.loop-left-test.true),
+                                ),
+                              ),
+                            ),
+                          ),
+                        ),
+                      ),
+                    ),
+                  ),
+                ),
+              ),
+            ),
+          ),
+        ),
+      ),
+    )
 
 pub write_child-requires-2 : goal.write_child-requires-2
 write_child-requires-2 g t c κs within =
@@ -241,5 +286,49 @@ write_child-requires-2 g t c κs within =
     let len : length part ≡ length items - start = omega (arith, length-take (length items - start) (drop start items), length-drop start items) in
     let passed : 0 < start = omega (arith, before.passed, c.loop-left-test.false, room.some) in
     let small : length part < base * (E + 1) = omega (arith, len, rest, fits, c.child_base-base.ensures.positive) in
-    let wait = waiting E (length items) (length part) base room.some c.if-items.false c.child_base-base.ensures.value small in
-    (omega (arith, len, passed), (within.0, (within.1.0, (within.1.1.0, (within.1.1.1.0, (within.1.1.1.1.0, (within.1.1.1.1.1.0, (λ a m. absurd (not-mem-nil m), (within.1.1.1.1.1.1.0, (within.1.1.1.1.1.1.1.0, (within.1.1.1.1.1.1.1.1, (c.requires.fitting, (omega (arith, len, passed, c.requires.count), (before.free, (omega (arith, wait, before.waiting_count, before.waiting_room, c.requires.waiting_room, c.loop-left-test.false), omega (arith, wait, before.child_count, before.child_room, c.requires.child_room, c.loop-left-test.false))))))))))))))))
+    let wait = waiting E (length items) (length part) base room.some c.if-items.false c.child_base-base.ensures.value small in (
+      omega (arith, len, passed),
+      (
+        within.0,
+        (
+          within.1.0,
+          (
+            within.1.1.0,
+            (
+              within.1.1.1.0,
+              (
+                within.1.1.1.1.0,
+                (
+                  within.1.1.1.1.1.0,
+                  (
+                    λ a m. absurd (not-mem-nil m),
+                    (
+                      within.1.1.1.1.1.1.0,
+                      (
+                        within.1.1.1.1.1.1.1.0,
+                        (
+                          within.1.1.1.1.1.1.1.1,
+                          (
+                            c.requires.fitting,
+                            (
+                              omega (arith, len, passed, c.requires.count),
+                              (
+                                before.free,
+                                (
+                                  omega (arith, wait, before.waiting_count, before.waiting_room, c.requires.waiting_room, c.loop-left-test.false),
+                                  omega (arith, wait, before.child_count, before.child_room, c.requires.child_room, c.loop-left-test.false),
+                                ),
+                              ),
+                            ),
+                          ),
+                        ),
+                      ),
+                    ),
+                  ),
+                ),
+              ),
+            ),
+          ),
+        ),
+      ),
+    )

@@ -1,8 +1,8 @@
 use Rattle.std.proofs.Common.{◌≡◌, ◌+◌, ◌*◌, ◌-◌, ◌≤◌, length, map, take, drop, vec_capacity}
-use Rattle.rkyv_btree_base.specs.Layout.{shape}
-use Rattle.rkyv_btree_base.specs.Plan.{planned_alone, row_plan}
-use Rattle.rkyv_btree_base.specs.Scratch.{IsFree}
-use Rattle.rkyv_btree_base.specs.Written.{now_of}
+use Rattle.rkyv_btree_format.specs.Layout.{layout_of}
+use Rattle.rkyv_btree_shape.specs.Plan.{planned_alone, row_plan}
+use Rattle.rkyv_btree_base.specs.mirror.Scratch.{IsFree}
+use Rattle.rkyv_btree_base.specs.Entries.{now_of}
 use Rattle.rkyv_btree_base.proofs.RowsWritten.{RowSoFar}
 use Rattle.rkyv_btree_base.proofs.tree.+write_child.Given as goal
 
@@ -13,7 +13,7 @@ abbrev pub invariant-loop-left : goal.invariant-loop-left
 invariant-loop-left g l =
     let E = g.row.E in
     record {
-      row : RowSoFar (shape g.K.Portable.kind g.V.Portable.kind E) g.KU.Archive.archival g.VU.Archive.archival g.row.W-Error.Denot
+      row : RowSoFar (layout_of g.K.Portable.kind g.V.Portable.kind E) g.KU.Archive.archival g.VU.Archive.archival g.row.W-Error.Denot
           (row_plan (planned_alone E) l.base (E * l.base) E (length l.items + 1 - l.base * (E + 1)) (map now_of l.items)) (g.W.Writer.state l.fn.writer)
           (row_plan (planned_alone E) l.base (E * l.base) l.left l.on_last (map now_of (drop l.start l.items))) (g.W.Writer.state l.writer)
           (map now_of (drop l.first l.waiting.items)) (drop l.first_child l.children.items);
@@ -25,7 +25,7 @@ invariant-loop-left g l =
       children : take l.first_child l.children.items ≡ l.fn.children.items;
       waiting_count : length l.waiting.items + l.left ≡ l.first + E;
       child_count : length l.children.items + l.left ≡ l.first_child + E;
-      free : IsFree (shape g.K.Portable.kind g.V.Portable.kind E) l.scratch;
+      free : IsFree (layout_of g.K.Portable.kind g.V.Portable.kind E) l.scratch;
       waiting_room : vec_capacity l.fn.waiting ≤ vec_capacity l.waiting;
       child_room : vec_capacity l.fn.children ≤ vec_capacity l.children;
     }

@@ -1,10 +1,11 @@
 use Rattle.std.proofs.Common.{◌∙◌, ◌+◌, ◌<◌, ℕ, map, refl, ap, sym, subst, arith}
 use Rattle.std.proofs.lemmas.Result.{err_from_is_err_and}
-use Rattle.rkyv_btree_base.specs.Image.{padding}
-use Rattle.rkyv_btree_base.specs.Layout.{shape}
-use Rattle.rkyv_btree_base.specs.Rounding.{round_up}
-use Rattle.rkyv_btree_base.specs.Written.{IsPadded, in_padding, past_end, now_of}
-use Rattle.rkyv_btree_base.specs.Writing.{Wrote, Stopped, position, last_end}
+use Rattle.rkyv_btree_writer.specs.Padding.{padding}
+use Rattle.rkyv_btree_format.specs.Layout.{layout_of}
+use Rattle.rkyv_btree_portable.specs.Rounding.{round_up}
+use Rattle.rkyv_btree_base.specs.Entries.{now_of}
+use Rattle.rkyv_btree_base.specs.Written.{IsPadded, in_padding, past_end}
+use Rattle.rkyv_btree_writer.specs.Writing.{Wrote, Stopped, position, last_end}
 use Rattle.rkyv_btree_base.proofs.writes.begin_node.Goals as goal
 use Rattle.rkyv_btree_base.proofs.writes.begin_node.Goals.{then-pos-gt-LAST_END-via-then-pos-gt-LAST_END, then-pos-gt-LAST_END-via-else-pos-gt-LAST_END+then-from-pos}
 
@@ -20,7 +21,7 @@ returns-then-pos-gt-LAST_END-clause-err g c image =
     let to = g.W.Writer.state c.pad.new.writer in
     let keys = c.serialize_entries.new.keys.items in
     let values = c.serialize_entries.new.values.items in
-    let padded : IsPadded (shape g.K.Portable.kind g.V.Portable.kind g.row.E) g.KU.Archive.archival g.VU.Archive.archival (g.W.Writer.state c.args.writer.now) (map now_of c.args.entries.now) keys values to = record {
+    let padded : IsPadded (layout_of g.K.Portable.kind g.V.Portable.kind g.row.E) g.KU.Archive.archival g.VU.Archive.archival (g.W.Writer.state c.args.writer.now) (map now_of c.args.entries.now) keys values to = record {
       mid = mid;
       serialised = c.in_ok-serialize_entries.ensures.ok;
       padded = subst (λ (n : ℕ). Wrote mid (padding n (position mid)) to) c.align.ensures.value c.in_ok-pos.ensures.ok;

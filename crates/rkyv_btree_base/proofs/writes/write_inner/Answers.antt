@@ -1,18 +1,20 @@
 use Rattle.std.proofs.Common.{◌∙◌, ◌++◌, [], ◌∷◌, List, ℕ, length, map, inl, inr, refl, ap, sym, subst, arith}
 use Rattle.std.proofs.lemmas.Result.{err_from_is_err_and}
-use Rattle.rkyv_btree_base.specs.Image.{padding, inner_write, inner_image}
-use Rattle.rkyv_btree_base.specs.InPlace.{OwnBytes}
-use Rattle.rkyv_btree_base.specs.Layout.{shape, align, inner_size}
-use Rattle.rkyv_btree_base.specs.Written.{EntriesUnresolved, NodeStopped, as_fault, in_own_bytes, now_of}
-use Rattle.rkyv_btree_base.specs.Writing.{Write, Appended, Refused, position}
-use Rattle.rkyv_btree_base.specs.declared.fault.Fault.{Fault}
-use Rattle.rkyv_btree_base.specs.declared.fault.Fault.TheVariants.{OffsetOverflow}
+use Rattle.rkyv_btree_writer.specs.Padding.{padding}
+use Rattle.rkyv_btree_base.specs.Image.{inner_write, inner_image}
+use Rattle.rkyv_btree_portable.specs.InPlace.{OwnBytes}
+use Rattle.rkyv_btree_format.specs.Layout.{layout_of, align, inner_size}
+use Rattle.rkyv_btree_base.specs.Entries.{EntriesUnresolved, as_fault, now_of}
+use Rattle.rkyv_btree_base.specs.Written.{NodeStopped, in_own_bytes}
+use Rattle.rkyv_btree_writer.specs.Writing.{Write, Appended, Refused, position}
+use Rattle.rkyv_btree_writer.specs.declared.fault.Fault.{Fault}
+use Rattle.rkyv_btree_writer.specs.declared.fault.Fault.TheVariants.{OffsetOverflow}
 use Rattle.rkyv_btree_base.proofs.NodesWritten.{node_written, node_refused}
 use Rattle.rkyv_btree_base.proofs.writes.write_inner.Goals as goal
 
 pub returns-in_err-root-clause-err : goal.returns-in_err-root-clause-err
 returns-in_err-root-clause-err g c =
-    let nodes = shape g.K.Portable.kind g.V.Portable.kind g.row.E in
+    let nodes = layout_of g.K.Portable.kind g.V.Portable.kind g.row.E in
     let xs = map now_of c.args.entries.now in
     let image : ℕ → List OwnBytes → List Write = λ at owns. inner_image nodes at owns (c.args.children.now ++ c.args.last ∷ []) in
     let p = err_from_is_err_and c.from_residual.result c.from_residual.ensures.1 in
@@ -20,7 +22,7 @@ returns-in_err-root-clause-err g c =
 
 pub returns-in-Err-clause-err : goal.returns-in-Err-clause-err
 returns-in-Err-clause-err g c =
-    let nodes = shape g.K.Portable.kind g.V.Portable.kind g.row.E in
+    let nodes = layout_of g.K.Portable.kind g.V.Portable.kind g.row.E in
     let from = g.W.Writer.state c.args.writer.now in
     let to = g.W.Writer.state c.begin_node.new.writer in
     let keys = c.begin_node.new.keys.items in
@@ -43,7 +45,7 @@ returns-in-Err-clause-err g c =
 
 pub returns-clause-ok : goal.returns-clause-ok
 returns-clause-ok g c =
-    let nodes = shape g.K.Portable.kind g.V.Portable.kind g.row.E in
+    let nodes = layout_of g.K.Portable.kind g.V.Portable.kind g.row.E in
     let from = g.W.Writer.state c.args.writer.now in
     let to = g.W.Writer.state c.begin_node.new.writer in
     let t = g.W.Writer.state c.put.new.writer in
@@ -58,7 +60,7 @@ returns-clause-ok g c =
 
 pub returns-in_err-put-clause-err : goal.returns-in_err-put-clause-err
 returns-in_err-put-clause-err g c =
-    let nodes = shape g.K.Portable.kind g.V.Portable.kind g.row.E in
+    let nodes = layout_of g.K.Portable.kind g.V.Portable.kind g.row.E in
     let from = g.W.Writer.state c.args.writer.now in
     let to = g.W.Writer.state c.begin_node.new.writer in
     let t = g.W.Writer.state c.put.new.writer in

@@ -1,11 +1,12 @@
 use Rattle.std.proofs.Common.{◌∙◌, List, ℕ, true, length, map, refl, ap, sym, subst, arith}
 use Rattle.std.proofs.lemmas.Result.{err_from_is_err_and}
 use Rattle.rkyv_btree_base.specs.Image.{leaf_bytes, leaf_image}
-use Rattle.rkyv_btree_base.specs.InPlace.{OwnBytes}
-use Rattle.rkyv_btree_base.specs.Layout.{shape, leaf_size}
-use Rattle.rkyv_btree_base.specs.Written.{EntriesUnresolved, NodeStopped, in_own_bytes, now_of}
-use Rattle.rkyv_btree_base.specs.Writing.{Write, Appended, Refused}
-use Rattle.rkyv_btree_base.specs.laws.Sizes.{room_of}
+use Rattle.rkyv_btree_portable.specs.InPlace.{OwnBytes}
+use Rattle.rkyv_btree_format.specs.Layout.{layout_of, leaf_size}
+use Rattle.rkyv_btree_base.specs.Entries.{EntriesUnresolved, now_of}
+use Rattle.rkyv_btree_base.specs.Written.{NodeStopped, in_own_bytes}
+use Rattle.rkyv_btree_writer.specs.Writing.{Write, Appended, Refused}
+use Rattle.rkyv_btree_format.proofs.Sizes.{room_of}
 use Rattle.rkyv_btree_base.proofs.NodesWritten.{node_written, node_refused}
 use Rattle.rkyv_btree_base.proofs.writes.write_leaf.Goals as goal
 
@@ -16,7 +17,7 @@ fill_leaf-requires-clause-room g c =
 
 pub returns-in_err-root-clause-err : goal.returns-in_err-root-clause-err
 returns-in_err-root-clause-err g c =
-    let nodes = shape g.K.Portable.kind g.V.Portable.kind g.row.E in
+    let nodes = layout_of g.K.Portable.kind g.V.Portable.kind g.row.E in
     let xs = map now_of c.args.entries.now in
     let image : ℕ → List OwnBytes → List Write = leaf_image nodes in
     let p = err_from_is_err_and c.from_residual.result c.from_residual.ensures.1 in
@@ -24,7 +25,7 @@ returns-in_err-root-clause-err g c =
 
 pub returns-in-Err-clause-err : goal.returns-in-Err-clause-err
 returns-in-Err-clause-err g c =
-    let nodes = shape g.K.Portable.kind g.V.Portable.kind g.row.E in
+    let nodes = layout_of g.K.Portable.kind g.V.Portable.kind g.row.E in
     let keys = c.begin_node.new.keys.items in
     let values = c.begin_node.new.values.items in
     let fault = c.in-Err.fault in
@@ -32,7 +33,7 @@ returns-in-Err-clause-err g c =
 
 pub returns-clause-ok : goal.returns-clause-ok
 returns-clause-ok g c =
-    let nodes = shape g.K.Portable.kind g.V.Portable.kind g.row.E in
+    let nodes = layout_of g.K.Portable.kind g.V.Portable.kind g.row.E in
     let from = g.W.Writer.state c.args.writer.now in
     let to = g.W.Writer.state c.begin_node.new.writer in
     let t = g.W.Writer.state c.put.new.writer in
@@ -43,7 +44,7 @@ returns-clause-ok g c =
 
 pub returns-in_err-put-clause-err : goal.returns-in_err-put-clause-err
 returns-in_err-put-clause-err g c =
-    let nodes = shape g.K.Portable.kind g.V.Portable.kind g.row.E in
+    let nodes = layout_of g.K.Portable.kind g.V.Portable.kind g.row.E in
     let from = g.W.Writer.state c.args.writer.now in
     let to = g.W.Writer.state c.begin_node.new.writer in
     let t = g.W.Writer.state c.put.new.writer in

@@ -1,7 +1,7 @@
 use Rattle.std.proofs.Common.{ℕ, ◌∙◌, ap, subst}
 use Rattle.std.proofs.lemmas.Result.{err_from_is_err_and}
 use Rattle.rkyv_btree_base.specs.Image.{root_bytes}
-use Rattle.rkyv_btree_base.specs.Serialising.{RootRefusal}
+use Rattle.rkyv_btree_base.specs.Serialising.{RootFault}
 use Rattle.rkyv_btree_base.proofs.Building.{root_refused}
 use Rattle.rkyv_btree_base.proofs.map.ArchivedBTreeMap.write_root.Goals as goal
 
@@ -13,4 +13,4 @@ returns-in_err-put-clause-err g c =
     let refused = root_refused root c.args.len s (g.W.Writer.state c.pad.new.writer) t _ c.in_err-put.field-0.0
     (c.in-Ok.ensures.ok ∙ ap (λ n. root_bytes n root c.args.len) c.in_ok-pos.ensures.pos) c.in_ok-pos.ensures.ok c.in_err-put.ensures.err in
     let p = err_from_is_err_and c.from_residual-in_err-put.result c.from_residual-in_err-put.ensures.1 in
-    rw (p.1, p.2) (subst (λ (n : ℕ). RootRefusal n c.args.len s c.in_err-put.field-0.0 t) c.resolver.view_is refused)
+    rw (p.1, p.2) (subst (λ (n : ℕ). RootFault n c.args.len s c.in_err-put.field-0.0 t) c.resolver.view_is refused)

@@ -3,11 +3,11 @@ use Rattle.std.proofs.Common.{◌≡◌, ◌<◌, true, [], length, string_bytes
 use Rattle.std.proofs.lemmas.Bool.Decides.{nat_tests}
 use Rattle.std.proofs.lemmas.Str.{IsUtf8-string_bytes}
 use Rattle.std.proofs.lemmas.Result.{err_from_is_err_and}
-use Rattle.rkyv_btree_base.specs.declared.fault.Fault.TheVariants.{PositionOverflow}
-use Rattle.rkyv_btree_base.specs.TextArchival.{text_write, text_writes}
-use Rattle.rkyv_btree_base.specs.Writing.{Appended, Refused, position, last_end}
+use Rattle.rkyv_btree_writer.specs.declared.fault.Fault.TheVariants.{PositionOverflow}
+use Rattle.rkyv_btree_writer.specs.TextArchival.{text_write, text_writes}
+use Rattle.rkyv_btree_writer.specs.Writing.{Appended, Refused, position, last_end}
 use Rattle.rkyv_btree_base.proofs.TextsWritten.{text_wrote, text_refused}
-use Rattle.rkyv_btree_base.proofs.WriteRuns.{appended-position}
+use Rattle.rkyv_btree_writer.proofs.WriteRuns.{appended-position}
 use Rattle.rkyv_btree_base.proofs.text.StringSerialize.serialize.Goals as goal
 
 pub returns-then-start-gt-LAST_END-clause-err : goal.returns-then-start-gt-LAST_END-clause-err

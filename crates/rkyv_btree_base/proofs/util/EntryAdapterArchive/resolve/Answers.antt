@@ -2,7 +2,7 @@ use Rattle.std.proofs.Common.{◌≡◌, ◌∙◌, length, sym, arith}
 use Rattle.std.proofs.lemmas.List.{length-take}
 use Rattle.std.proofs.lemmas.Result.{on_ok_weaker}
 use Rattle.rkyv_btree_base.specs.laws.EntryArchived.{same_offset, same_size}
-use Rattle.rkyv_btree_base.specs.laws.EntryLaws.{key_inside}
+use Rattle.rkyv_btree_portable.specs.laws.EntryLaws.{key_inside}
 use Rattle.rkyv_btree_base.proofs.Both.{both_resolved}
 use Rattle.rkyv_btree_base.proofs.util.EntryAdapterArchive.resolve.Goals as goal
 

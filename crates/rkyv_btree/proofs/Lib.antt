@@ -1,7 +1,0 @@
-pub mod Archives
-pub mod Drained
-pub mod Nodes
-pub mod Paths
-pub mod Props
-pub mod Roots
-pub mod Visits

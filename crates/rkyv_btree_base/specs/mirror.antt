@@ -1,0 +1,2 @@
+pub use Rattle.rkyv_btree_verify.specs.mirror.Check
+pub mod Scratch

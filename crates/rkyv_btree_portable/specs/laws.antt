@@ -1,0 +1,13 @@
+-- What is proved of these definitions, as far as an archived type or a crate above cites it.
+pub mod Choices
+pub mod Standing
+pub mod Rounding
+pub mod Numbers
+pub mod Refusing
+pub mod Plain
+pub mod Scalars
+pub mod Natives
+pub mod Views
+pub mod EntryLaws
+pub mod EntryRefusals
+pub mod TextLaws

@@ -1,0 +1,70 @@
+//! Archived text.
+ghost use Rattle.std.specs.Prelude.{◌≡◌, ℕ, ◌+◌, ◌≤◌, ◌<◌, length, string_bytes, IfSome, IfNone, OnOk, IfErr, IsErrOf, ◌↔◌};
+ghost use Rattle.rkyv_btree_portable.specs.Refusing.{RefusesWhole};
+ghost use Rattle.rkyv_btree_portable.specs.Text.{IsTextRange, text_kind};
+ghost use Rattle.rkyv_btree_portable.specs.laws.Refusing.{whole_refusals};
+ghost use Rattle.rkyv_btree_portable.specs.laws.TextLaws.{text_laws};
+
+use crate::bytes::{num32, pointed_at};
+use crate::check::{CheckBytes, Portable, Window, check_place};
+use crate::refusal::Refusal;
+use std::str::from_utf8;
+
+/// A text, by an offset to its bytes and their number, four bytes each.
+pub struct ArchivedText;
+
+impl Portable for ArchivedText {
+    ghost kind = { text_kind };
+
+    fn size() -> u32 {
+        8
+    }
+
+    fn align() -> u32 {
+        4
+    }
+
+    fn fits() -> bool {
+        true
+    }
+
+    ghost laws = { text_laws };
+}
+
+/// Where the bytes of the text at `pos` stand, or `None` if they don't lie in `window`.
+pub fn text_range(buf: &[u8], pos: u32, window: Window) -> Option<Window>
+    requires short { length buf.now ≤ 4294967295 }
+    requires room { pos + 8 ≤ length buf.now }
+    ensures range { IfSome result (λ text. IsTextRange buf.now pos text.lo text.hi) }
+    ensures inside { IfSome result (λ text. (window.lo ≤ text.lo) × (text.hi ≤ window.hi)) }
+    ensures outside { IfNone result
+        ((start end : ℕ) → IsTextRange buf.now pos start end → window.lo ≤ start →
+        end ≤ window.hi → ⊥) }
+{
+    let lo = u32::try_from(pointed_at(buf, pos)).ok()?;
+    let hi = lo.checked_add(num32(buf, pos + 4))?;
+    if lo < window.lo || window.hi < hi {
+        return None;
+    }
+    Some(Window { lo, hi })
+}
+
+impl CheckBytes for ArchivedText {
+    ghost Refuses = { RefusesWhole text_kind };
+
+    fn check(buf: &[u8], pos: u32, window: Window) -> Result<Window, Refusal> {
+        check_place::<ArchivedText>(buf, pos)?;
+        let Some(text) = text_range(buf, pos, window) else {
+            return Err(Refusal::BadEntry { pos });
+        };
+        match from_utf8(&buf[text.lo as usize..text.hi as usize]) {
+            Ok(_) => Ok(Window {
+                lo: text.hi,
+                hi: window.hi,
+            }),
+            Err(_) => Err(Refusal::BadEntry { pos }),
+        }
+    }
+
+    ghost refusals = { λ _. whole_refusals text_laws };
+}

@@ -1,0 +1,5 @@
+pub mod Refusals
+pub mod Claims
+pub mod Map
+pub mod Opening
+pub mod mirror

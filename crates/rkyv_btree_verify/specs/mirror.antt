@@ -1,0 +1,3 @@
+pub mod Check
+pub mod Counted
+pub mod Maps

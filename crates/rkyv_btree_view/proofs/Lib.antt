@@ -1,0 +1,2 @@
+-- The lemmas of views.
+pub mod Drained

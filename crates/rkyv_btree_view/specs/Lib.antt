@@ -1,0 +1,7 @@
+-- The definitions over which views are stated.
+pub mod Deserializing
+pub mod Iter
+pub mod Map
+pub mod Native
+pub mod View
+pub mod laws

@@ -1,0 +1,2 @@
+-- What comparisons of views cite of the definitions.
+pub mod Comparing

@@ -1,0 +1,25 @@
+-- What comparisons of native values give those of the values that are read as them.
+use Rattle.std.specs.Prelude.{◌≡◌, ℕ, Bool, List, IsTrue, Some}
+use Rattle.std.specs.Cmp.{IsEquivalence, IsTotalOrder, IsPartialOrder, on_equiv, on_total, partial_order_from_agreeing_total}
+use Rattle.std.specs.Ordering.{is_eq}
+use Rattle.std.specs.declared.cmp.Ordering.{Ordering}
+use Rattle.std.proofs.Common.{refl, sym, ap, subst, ◌∙◌}
+use Rattle.rkyv_btree_base.specs.Kind.{Kind}
+use Rattle.rkyv_btree_view.specs.Native.{ReadAs}
+
+module _ {N : Type 0} {kind : Kind} {read_native : List ℕ → ℕ → N} {native_same : N → N → Bool} {native_order : N → N → Ordering} {native_input : N → List (List ℕ)} (r : ReadAs kind read_native native_same native_order native_input) where
+  pub native_equivalence : IsEquivalence native_same → IsEquivalence kind.same
+  native_equivalence e = subst IsEquivalence (λ i x y. sym (r.same x y) i) (on_equiv r.native e)
+
+  pub native_total : IsTotalOrder native_order → IsTotalOrder kind.order
+  native_total o = subst IsTotalOrder (λ i x y. sym (r.order x y) i) (on_total r.native o)
+
+  pub native_matches : ((m n : N) → native_same m n ≡ is_eq (native_order m n)) → (x y : kind.Value) → kind.same x y ≡ is_eq (kind.order x y)
+  native_matches h x y = r.same x y ∙ h (r.native x) (r.native y) ∙ ap is_eq (sym (r.order x y))
+
+  pub native_respects : ((m n : N) → IsTrue (native_same m n) → native_input m ≡ native_input n) → (x y : kind.Value) → IsTrue (kind.same x y) → kind.hash_input x ≡ kind.hash_input y
+  native_respects h x y e = r.hash_input x ∙ h (r.native x) (r.native y) (subst IsTrue (r.same x y) e) ∙ sym (r.hash_input y)
+
+-- views of a kind with a total order
+pub views_order : (kind : Kind) → IsTotalOrder kind.order → ((x y : kind.Value) → kind.same x y ≡ is_eq (kind.order x y)) → IsPartialOrder kind.same (λ x y. Some (kind.order x y))
+views_order kind total matches = partial_order_from_agreeing_total kind.order total (λ x y. refl) matches

@@ -1,0 +1,207 @@
+//! Comparisons of views: those of what is read, wherever it stands.
+ghost use Rattle.std.specs.Cmp.{IsEquivalence, IsTotalOrder, on_per, on_equiv, on_po, on_total, and_equiv, then_total, both_tied, nat_eq_equiv, nat_cmp_total, partial_equiv_from_equiv};
+ghost use Rattle.std.specs.Cmp.Lexicographic.{nat_list_eq_equiv, nat_list_cmp_total, texts_ties};
+ghost use Rattle.std.specs.List.{fold};
+ghost use Rattle.std.specs.Ordering.{is_eq};
+ghost use Rattle.std.specs.Prelude.{◌≡◌, IsTrue, Some};
+ghost use Rattle.std.proofs.Common.{rules};
+ghost use Rattle.rkyv_btree_view.specs.View.{reads};
+ghost use Rattle.rkyv_btree_view.specs.laws.Comparing.{native_equivalence, native_total, native_matches, native_respects, views_order};
+
+use crate::native::ToNative;
+use crate::view::View;
+use rkyv_btree_base::check::Portable;
+use rkyv_btree_base::scalars::ArchivedNonZeroU32;
+use rkyv_btree_base::text::ArchivedText;
+use rkyv_btree_base::util::Entry;
+use std::cmp::Ordering;
+use std::hash::{Hash, Hasher};
+
+/// An archived type whose views can be tested for equality.
+pub trait ViewEq: Portable {
+    /// Whether what both views read is equal.
+    fn is_same(a: &View<'_, Self>, b: &View<'_, Self>) -> bool
+        ensures { result ≡ Self.kind.same (reads a.now) (reads b.now) };
+
+    ghost equivalence: { IsEquivalence Self.kind.same };
+}
+
+/// An archived type whose views are ordered.
+pub trait ViewOrd: ViewEq {
+    /// How what the first view reads compares to what the second reads.
+    fn compare(a: &View<'_, Self>, b: &View<'_, Self>) -> Ordering
+        ensures { result ≡ Self.kind.order (reads a.now) (reads b.now) };
+
+    ghost total: { IsTotalOrder Self.kind.order };
+
+    ghost matches_same: { (x y : Self.kind.Value)
+        → Self.kind.same x y ≡ is_eq (Self.kind.order x y) };
+}
+
+/// An archived type whose views can be hashed.
+pub trait ViewHash: ViewEq {
+    /// Feeds the hasher what the view reads.
+    fn hash_view<H: Hasher>(view: &View<'_, Self>, state: &mut H)
+        ensures { state.new ≡ fold H.write state.old (Self.kind.hash_input (reads view.now)) };
+
+    ghost respects_same: { (x y : Self.kind.Value) → IsTrue (Self.kind.same x y)
+        → Self.kind.hash_input x ≡ Self.kind.hash_input y };
+}
+
+impl<T: ToNative> ViewEq for T {
+    fn is_same(a: &View<'_, T>, b: &View<'_, T>) -> bool {
+        T::native(a) == T::native(b)
+    }
+
+    ghost equivalence = { native_equivalence T.reads T.Native.Eq.laws };
+}
+
+impl<T: ToNative> ViewOrd for T {
+    fn compare(a: &View<'_, T>, b: &View<'_, T>) -> Ordering {
+        T::native(a).cmp(&T::native(b))
+    }
+
+    ghost total = { native_total T.reads T.Native.total };
+
+    ghost matches_same = { native_matches T.reads T.Native.matches_eq };
+}
+
+impl<T: ToNative> ViewHash for T {
+    fn hash_view<H: Hasher>(view: &View<'_, T>, state: &mut H) {
+        T::native(view).hash(state);
+    }
+
+    ghost respects_same = { native_respects T.reads T.Native.respects_eq };
+}
+
+impl ViewEq for ArchivedNonZeroU32 {
+    fn is_same(a: &View<'_, ArchivedNonZeroU32>, b: &View<'_, ArchivedNonZeroU32>) -> bool {
+        a.to_native().get() == b.to_native().get()
+    }
+
+    ghost equivalence = { nat_eq_equiv };
+}
+
+impl ViewOrd for ArchivedNonZeroU32 {
+    fn compare(a: &View<'_, ArchivedNonZeroU32>, b: &View<'_, ArchivedNonZeroU32>) -> Ordering {
+        a.to_native().get().cmp(&b.to_native().get())
+    }
+
+    ghost total = { nat_cmp_total };
+
+    ghost matches_same = { Prim.search rules };
+}
+
+impl ViewHash for ArchivedNonZeroU32 {
+    fn hash_view<H: Hasher>(view: &View<'_, ArchivedNonZeroU32>, state: &mut H) {
+        view.to_native().get().hash(state);
+    }
+
+    ghost respects_same = { Prim.search rules };
+}
+
+impl ViewEq for ArchivedText {
+    fn is_same(a: &View<'_, ArchivedText>, b: &View<'_, ArchivedText>) -> bool {
+        a.as_str() == b.as_str()
+    }
+
+    ghost equivalence = { nat_list_eq_equiv };
+}
+
+impl ViewOrd for ArchivedText {
+    fn compare(a: &View<'_, ArchivedText>, b: &View<'_, ArchivedText>) -> Ordering {
+        a.as_str().cmp(&b.as_str())
+    }
+
+    ghost total = { nat_list_cmp_total };
+
+    ghost matches_same = { texts_ties };
+}
+
+impl ViewHash for ArchivedText {
+    fn hash_view<H: Hasher>(view: &View<'_, ArchivedText>, state: &mut H) {
+        view.as_str().hash(state);
+    }
+
+    ghost respects_same = { Prim.search rules };
+}
+
+impl<K: ViewEq, V: ViewEq> ViewEq for Entry<K, V> {
+    fn is_same(a: &View<'_, Entry<K, V>>, b: &View<'_, Entry<K, V>>) -> bool {
+        K::is_same(&a.key(), &b.key()) && V::is_same(&a.value(), &b.value())
+    }
+
+    ghost equivalence = { and_equiv (on_equiv (λ e. e.0) K.equivalence)
+        (on_equiv (λ e. e.1) V.equivalence) };
+}
+
+impl<K: ViewOrd, V: ViewOrd> ViewOrd for Entry<K, V> {
+    fn compare(a: &View<'_, Entry<K, V>>, b: &View<'_, Entry<K, V>>) -> Ordering {
+        match K::compare(&a.key(), &b.key()) {
+            Ordering::Equal => V::compare(&a.value(), &b.value()),
+            unequal => unequal,
+        }
+    }
+
+    ghost total = { then_total (on_total (λ e. e.0) K.total) (on_total (λ e. e.1) V.total) };
+
+    ghost matches_same = { λ e f. both_tied _ _ (K.kind.order e.0 f.0) (V.kind.order e.1 f.1)
+        (K.matches_same e.0 f.0) (V.matches_same e.1 f.1) };
+}
+
+impl<K: ViewHash, V: ViewHash> ViewHash for Entry<K, V> {
+    fn hash_view<H: Hasher>(view: &View<'_, Entry<K, V>>, state: &mut H) {
+        K::hash_view(&view.key(), state);
+        V::hash_view(&view.value(), state);
+    }
+
+    ghost respects_same = { Prim.search rules };
+}
+
+impl<'a, T: ViewEq> PartialEq for View<'a, T> {
+    ghost eq = { λ v w. T.kind.same (reads v) (reads w) };
+
+    ghost laws = { on_per reads (partial_equiv_from_equiv T.equivalence) };
+
+    fn eq(&self, other: &View<'a, T>) -> bool {
+        T::is_same(self, other)
+    }
+}
+
+impl<'a, T: ViewEq> Eq for View<'a, T> {
+    ghost laws = { on_equiv reads T.equivalence };
+}
+
+impl<'a, T: ViewOrd> PartialOrd for View<'a, T> {
+    ghost partial_cmp = { λ v w. Some (T.kind.order (reads v) (reads w)) };
+
+    ghost laws = { on_po reads (views_order T.kind T.total T.matches_same) };
+
+    fn partial_cmp(&self, other: &View<'a, T>) -> Option<Ordering> {
+        Some(T::compare(self, other))
+    }
+}
+
+impl<'a, T: ViewOrd> Ord for View<'a, T> {
+    ghost cmp = { λ v w. T.kind.order (reads v) (reads w) };
+
+    ghost total = { on_total reads T.total };
+
+    ghost matches_partial_cmp = { Prim.search rules };
+
+    ghost matches_eq = { λ v w. T.matches_same (reads v) (reads w) };
+
+    fn cmp(&self, other: &View<'a, T>) -> Ordering {
+        T::compare(self, other)
+    }
+}
+
+impl<'a, T: ViewHash> Hash for View<'a, T> {
+    ghost hash_input = { λ v. T.kind.hash_input (reads v) };
+
+    ghost respects_eq = { λ v w. T.respects_same (reads v) (reads w) };
+
+    fn hash<H: Hasher>(&self, state: &mut H) {
+        T::hash_view(self, state);
+    }
+}

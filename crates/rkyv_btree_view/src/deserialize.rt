@@ -1,0 +1,120 @@
+//! Native values from views.
+ghost use Rattle.std.specs.Prelude.{◌≡◌, ℕ, List, Result, Ok, IsOk, IfOk, IfErr, string_bytes};
+ghost use Rattle.std.specs.Int.NonZero.{non_zero_u32_get};
+ghost use Rattle.std.proofs.Common.{ap, ◌∙◌, sym};
+ghost use Rattle.rkyv_btree_base.specs.Scalars.{non_zero_kind};
+ghost use Rattle.rkyv_btree_base.specs.Text.{text_kind};
+ghost use Rattle.rkyv_btree_base.specs.EntryFault.{EntryFault};
+ghost use Rattle.rkyv_btree_view.specs.Deserializing.{IsRefused};
+
+use crate::native::ToNative;
+use crate::view::View;
+use rkyv_btree_base::check::Portable;
+use rkyv_btree_base::fault::EntryFault;
+use rkyv_btree_base::scalars::ArchivedNonZeroU32;
+use rkyv_btree_base::text::ArchivedText;
+use std::alloc::{AllocError, Global};
+use std::error::Error;
+use std::fmt;
+use std::num::NonZeroU32;
+
+/// Why no native value was made.
+#[derive(Clone, Copy, Debug, PartialEq, Eq)]
+pub enum DeserializeFault {
+    /// A growth was refused.
+    Memory(AllocError),
+    /// The entry refused itself.
+    Entry(EntryFault),
+}
+
+impl fmt::Display for DeserializeFault {
+    fn fmt<W: fmt::Write>(&self, f: &mut fmt::Formatter<W>) -> fmt::Result {
+        match self {
+            DeserializeFault::Memory(_) => write!(f, "out of memory"),
+            DeserializeFault::Entry(_) => write!(f, "entry refused"),
+        }
+    }
+}
+
+impl Error for DeserializeFault {}
+
+/// An archived type of whose values native ones of type `T` are made.
+pub trait Deserialize<T>: Portable {
+    /// The type of what contracts tell of a native value: of a text its bytes, of a number the number.
+    ghost Told: { Type 0 };
+
+    /// What they tell of a native value.
+    ghost told: { T → Told };
+
+    /// What the bytes at a position of a buffer give: what is told of the native value, or the entry's own fault.
+    ghost native: { List ℕ → ℕ → Result Told EntryFault };
+
+    /// Makes the native value of what the view reads, in memory of `alloc` where it takes any.
+    fn deserialize(alloc: Global, view: &View<'_, Self>) -> Result<T, DeserializeFault>
+        ensures ok { IfOk result (λ value. native view.now.buf.now view.now.pos ≡ Ok (told value)) }
+        ensures refused { IfErr result (IsRefused (native view.now.buf.now view.now.pos)) };
+
+    ghost by_meaning: { (b c : List ℕ) (p q : ℕ) → Self.kind.read b p ≡ Self.kind.read c q
+        → native b p ≡ native c q };
+}
+
+impl<T: ToNative> Deserialize<T::Native> for T {
+    ghost Told = { T.Native };
+
+    ghost told = { λ x. x };
+
+    ghost native = { λ b p. Ok (T.read_native b p) };
+
+    /// The native value. There is no error.
+    fn deserialize(_alloc: Global, view: &View<'_, T>) -> Result<T::Native, DeserializeFault>
+        ensures { result ≡ Ok (T.read_native view.now.buf.now view.now.pos) }
+    {
+        Ok(T::native(view))
+    }
+
+    ghost by_meaning = { λ b c p q same. ap Ok
+        (T.reads.reads b p ∙ ap T.reads.native same ∙ sym (T.reads.reads c q)) };
+}
+
+impl Deserialize<NonZeroU32> for ArchivedNonZeroU32 {
+    ghost Told = { ℕ };
+
+    ghost told = { non_zero_u32_get };
+
+    ghost native = { λ b p. Ok (non_zero_kind.read b p) };
+
+    /// The number. There is no error.
+    fn deserialize(
+        _alloc: Global,
+        view: &View<'_, ArchivedNonZeroU32>,
+    ) -> Result<NonZeroU32, DeserializeFault>
+        ensures always { IsOk result }
+        ensures value { let read = non_zero_kind.read view.now.buf.now view.now.pos in
+            IfOk result (λ number. non_zero_u32_get number ≡ read) }
+    {
+        Ok(view.to_native())
+    }
+
+    ghost by_meaning = { λ b c p q same. ap Ok same };
+}
+
+impl Deserialize<String> for ArchivedText {
+    ghost Told = { List ℕ };
+
+    ghost told = { string_bytes };
+
+    ghost native = { λ b p. Ok (text_kind.read b p) };
+
+    /// A copy of the text. The only error is a refused growth.
+    fn deserialize(
+        alloc: Global,
+        view: &View<'_, ArchivedText>,
+    ) -> Result<String, DeserializeFault> {
+        match String::from_str(alloc, view.as_str()) {
+            Ok(text) => Ok(text),
+            Err(error) => Err(DeserializeFault::Memory(error)),
+        }
+    }
+
+    ghost by_meaning = { λ b c p q same. ap Ok same };
+}

@@ -1,0 +1,12 @@
+//! Views of archived values and maps, and what is made of them.
+#![tactic(auto)]
+
+pub mod compare;
+pub mod debug;
+pub mod deserialize;
+pub mod entry;
+pub mod iter;
+pub mod map;
+pub mod native;
+pub mod view;
+mod visit;

@@ -1,0 +1,89 @@
+//! Values in a buffer.
+ghost use Rattle.std.specs.Prelude.{◌≡◌, IsTrue, IsOk, IfOk, IfErr, Err, ⊤};
+ghost use Rattle.rkyv_btree_base.specs.Views.{stands, MeansAt};
+ghost use Rattle.rkyv_btree_base.specs.Refusal.{Refusal};
+
+use rkyv_btree_base::check::{CheckBytes, Portable, Window};
+use rkyv_btree_base::refusal::Refusal;
+use rkyv_btree_base::text::{ArchivedText, text_range};
+use rkyv_btree_walk::shows::Shows;
+use std::alloc::AllocError;
+use std::marker::PhantomData;
+use std::str::from_utf8_unchecked;
+
+/// The value of `T` at position `pos` of `buf`, where the bytes mean one. All calls read in place: nothing is copied,
+/// and no memory is taken. A view is made by `View::check`, `access` or `access_valid`, or by a call on another view.
+pub struct View<'a, T: Portable> {
+    pub buf: &'a [u8],
+    pub pos: u32,
+    pub of: PhantomData<T>,
+    // The type's own decision, so a call on a view asks nothing of its caller.
+    pub ghost valid: { IsTrue (stands T.kind buf.now pos) },
+}
+
+impl<'a, T: Portable> Copy for View<'a, T> {}
+
+impl<'a, T: Portable> Clone for View<'a, T> {
+    ghost is_clone = { λ s r. r ≡ s };
+
+    ghost is_infallible = { λ _. ⊤ };
+
+    fn clone(&self) -> Result<View<'a, T>, AllocError> {
+        Ok(*self)
+    }
+}
+
+impl<'a, T: CheckBytes> View<'a, T> {
+    /// The view of the value at position `pos` of `buf`, whoever wrote it, if the bytes mean one in the window of all
+    /// that stands before it.
+    pub fn check(buf: &'a [u8], pos: u32) -> Result<View<'a, T>, Refusal>
+        requires { IsTrue T.kind.is_fitting }
+        ensures buffer { IfOk result (λ view. view.buf.now ≡ buf.now) }
+        ensures position { IfOk result (λ view. view.pos ≡ pos) }
+        ensures accepted { IfOk result (λ _. MeansAt T.kind buf.now pos (T.kind.read buf.now pos)) }
+        ensures all_accepted { (v : T.kind.Value) → MeansAt T.kind buf.now pos v → IsOk result }
+        ensures refused { IfErr result (λ refusal. T.Refuses buf.now 0 pos pos refusal) }
+        ensures all_refused { (refusal : Refusal) → T.Refuses buf.now 0 pos pos refusal
+            → result ≡ Err refusal }
+    {
+        match T::check(buf, pos, Window { lo: 0, hi: pos }) {
+            Ok(_) => Ok(View::<T>::at(buf, pos)),
+            Err(refusal) => Err(refusal),
+        }
+    }
+}
+
+impl<'a, T: Portable> Shows<'a, T> for View<'a, T> {
+    ghost bytes = { λ v. v.buf.now };
+
+    ghost place = { λ v. v.pos };
+
+    fn at(buf: &'a [u8], pos: u32) -> View<'a, T> {
+        View {
+            buf,
+            pos,
+            of: PhantomData,
+        }
+    }
+}
+
+impl<'a> View<'a, ArchivedText> {
+    ghost use Rattle.rkyv_btree_view.specs.View.{reads};
+
+    /// The text, which stays in the buffer.
+    pub fn as_str(self) -> &'a str
+        ensures { result.now ≡ reads self.entry }
+    {
+        let before = Window {
+            lo: 0,
+            hi: self.pos,
+        };
+        // A view stands on a text before it alone, and on UTF-8 alone.
+        match text_range(self.buf, self.pos, before) {
+            Some(text) => unsafe {
+                from_utf8_unchecked(&self.buf[text.lo as usize..text.hi as usize])
+            },
+            None => unreachable!(),
+        }
+    }
+}

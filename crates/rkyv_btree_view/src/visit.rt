@@ -1,0 +1,30 @@
+//! Visits of all entries of a map.
+ghost use Rattle.rkyv_btree_walk.specs.Visit.{Visited, shown_both};
+ghost use Rattle.rkyv_btree_view.specs.View.{entries_of};
+
+use crate::view::View;
+use arrayvec::ArrayVec;
+use rkyv_btree_base::check::Portable;
+use rkyv_btree_walk::map::ArchivedMap;
+use rkyv_btree_walk::path::begin;
+use rkyv_btree_walk::shows::Shows;
+use rkyv_btree_walk::visit::visit_rest;
+use std::ops::ControlFlow;
+
+impl<'a, K: Portable, V: Portable, M: ArchivedMap<Key = K, Mapped = V>> View<'a, M> {
+    /// Calls `visit` with the key and the value of each entry, in order, up to the first call that breaks, whose value
+    /// it answers. Where no call breaks, the answer is `None`. The walk takes no memory.
+    pub fn visit<W: Shows<'a, K>, X: Shows<'a, V>, T, F: FnMut(W, X) -> ControlFlow<T, ()>>(
+        self,
+        visit: F,
+    ) -> Option<T>
+        requires { F.IsAlwaysCallable visit }
+        ensures { Visited F.step (shown_both K.kind V.kind W.Shows X.Shows) visit
+            (entries_of K.kind V.kind M.E self.entry) result }
+    {
+        M::opened(self.buf, self.pos);
+        let mut path = ArrayVec::new();
+        let first = begin::<K, V, M>(self.buf, self.pos, &mut path);
+        visit_rest::<K, V, M, W, X, T, F>(self.buf, first, &mut path, visit)
+    }
+}

@@ -1,0 +1,6 @@
+-- The lemmas of walks.
+pub mod Nodes
+pub mod Paths
+pub mod Props
+pub mod Roots
+pub mod Visits

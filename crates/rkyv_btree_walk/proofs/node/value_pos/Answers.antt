@@ -1,0 +1,10 @@
+-- A value stands within its node.
+use Rattle.std.proofs.Common.{arith}
+use Rattle.rkyv_btree_base.proofs.Sizes.{sound_of, value_inside}
+use Rattle.rkyv_btree_walk.proofs.node.value_pos.Goals as goal
+
+pub overflow_add-result : goal.overflow_add-result
+overflow_add-result g c =
+    let sound = sound_of _ _ _ g.met.K.Portable.laws g.met.V.Portable.laws c.requires.fitting in
+    let inside = value_inside _ c.args.i sound c.requires.within in
+    omega arith

@@ -1,0 +1,20 @@
+-- The way down: no entry is lost of what is left, and each child stands before its node.
+use Rattle.std.proofs.Common.{◌≡◌, ◌-◌, ◌++◌, length}
+use Rattle.rkyv_btree_base.specs.Layout.{layout_of}
+use Rattle.rkyv_btree_walk.specs.mirror.Node.{TreeStands}
+use Rattle.rkyv_btree_walk.specs.mirror.Path.{tree_rest, path_rest, IsPath}
+use Rattle.rkyv_btree_walk.proofs.path.descend.Given as goal
+
+-- what is left of the tree at `at` and of the path is what was left of the whole tree and the first path
+abbrev pub invariant-down : goal.invariant-down
+invariant-down g l =
+    let K = g.K.Portable.kind in let V = g.V.Portable.kind in let E = g.M.ArchivedMap.E in
+    record {
+      path : IsPath K V E l.buf 32 l.path.items;
+      tree : TreeStands K V E l.buf (32 - length l.path.items) l.at;
+      rest : tree_rest (layout_of K V E) l.buf (32 - length l.path.items) l.at 0 ++ path_rest (layout_of K V E) l.buf 32 l.path.items
+          ≡ tree_rest (layout_of K V E) l.buf (32 - length l.fn.path.items) l.node 0 ++ path_rest (layout_of K V E) l.buf 32 l.fn.path.items;
+    }
+
+abbrev pub decreases-down : goal.decreases-down
+decreases-down g l = l.at

@@ -1,0 +1,4 @@
+-- What walks promise, the laws of it, and functions that mirror the code.
+pub mod Visit
+pub mod laws
+pub mod mirror

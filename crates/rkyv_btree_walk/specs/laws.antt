@@ -1,0 +1,2 @@
+-- What callers may cite of the definitions.
+pub mod Visits

@@ -1,0 +1,137 @@
+//! Steps along the entries of a tree, over the path of nodes from its root.
+ghost use Rattle.std.specs.Prelude.{◌≡◌, ◌+◌, ◌-◌, ◌≤◌, [], ◌++◌, length, IfSome, IsTrue};
+ghost use Rattle.rkyv_btree_base.specs.Layout.{layout_of, are_fitting};
+ghost use Rattle.rkyv_btree_base.specs.Read.{map_tree};
+ghost use Rattle.rkyv_btree_base.specs.Tree.{list};
+ghost use Rattle.rkyv_btree_base.specs.Views.{stands};
+ghost use Rattle.rkyv_btree_walk.specs.mirror.Node.{TreeStands};
+ghost use Rattle.rkyv_btree_walk.specs.mirror.Path.{tree_rest, path_rest, leaf_rest, LeafStands, StepStands, Steps, IsPath};
+
+use crate::map::{ArchivedMap, map_len};
+use crate::node::{child, is_leaf, leaf_count, root};
+use arrayvec::ArrayVec;
+use rkyv_btree_base::check::Portable;
+
+/// The inner nodes from the root on, one a level, each with the number of its next entry. A tree has at most 32 levels.
+pub type Path = ArrayVec<(u32, u32), 32>;
+
+/// A leaf that a walk has come to, with the number of its entries. Where no leaf comes next, that is 0.
+#[derive(Clone, Copy)]
+pub struct Leaf {
+    /// Where it stands.
+    pub node: u32,
+    /// How many entries it has.
+    pub count: u32,
+}
+
+/// An entry of an inner node, and the leaf behind it.
+#[derive(Clone, Copy)]
+pub struct Step {
+    /// Where the inner node stands.
+    pub node: u32,
+    /// The number of the entry in it.
+    pub index: u32,
+    /// The leaf, from which the walk goes on.
+    pub leaf: Leaf,
+}
+
+/// Goes down from the node at `node` to the leaf below its first child and the first children of these, and puts the
+/// inner nodes met on the path.
+fn descend<K: Portable, V: Portable, M: ArchivedMap<Key = K, Mapped = V>>(
+    buf: &[u8],
+    node: u32,
+    path: &mut Path,
+) -> Leaf
+    requires fitting { IsTrue (are_fitting K.kind V.kind M.E) }
+    requires short { length buf.now ≤ 4294967295 }
+    requires path { IsPath K.kind V.kind M.E buf.now 32 path.old.items }
+    requires tree { TreeStands K.kind V.kind M.E buf.now (32 - length path.old.items) node }
+    ensures path { IsPath K.kind V.kind M.E buf.now 32 path.new.items }
+    ensures stands { LeafStands K.kind V.kind M.E buf.now result }
+    ensures rest { let s = layout_of K.kind V.kind M.E in
+        leaf_rest s buf.now result path.new.items
+        ≡ tree_rest s buf.now (32 - length path.old.items) node 0
+        ++ path_rest s buf.now 32 path.old.items }
+{
+    let mut at = node;
+    'down: loop {
+        if is_leaf::<K, V, M>(buf, at) {
+            return Leaf {
+                node: at,
+                count: leaf_count::<K, V, M>(buf, at),
+            };
+        }
+        path.push((at, 0));
+        match child::<K, V, M>(buf, at, 0) {
+            None => return Leaf { node: at, count: 0 },
+            Some(below) => at = below,
+        }
+    }
+}
+
+/// Takes the first entry that is left of the path, and finds the leaf behind it.
+#[inline(always)]
+pub(crate) fn climb<K: Portable, V: Portable, M: ArchivedMap<Key = K, Mapped = V>>(
+    buf: &[u8],
+    path: &mut Path,
+) -> Option<Step>
+    requires fitting { IsTrue (are_fitting K.kind V.kind M.E) }
+    requires short { length buf.now ≤ 4294967295 }
+    requires path { IsPath K.kind V.kind M.E buf.now 32 path.old.items }
+    ensures path { IsPath K.kind V.kind M.E buf.now 32 path.new.items }
+    ensures entry { IfSome result (StepStands K.kind V.kind M.E buf.now) }
+    ensures leaf { IfSome result (λ e. LeafStands K.kind V.kind M.E buf.now e.leaf) }
+    ensures rest { Steps (layout_of K.kind V.kind M.E) buf.now result path.old.items
+        path.new.items }
+{
+    'up: while let Some((node, index)) = path.pop() {
+        if (index as usize) < M::entries_per_node() {
+            let next = index + 1;
+            path.push((node, next));
+            let leaf = match child::<K, V, M>(buf, node, next as usize) {
+                None => Leaf { node, count: 0 },
+                Some(below) => descend::<K, V, M>(buf, below, path),
+            };
+            return Some(Step { node, index, leaf });
+        }
+    }
+    None
+}
+
+/// Does as `climb` does, in a function of its own, so that the `next` of an iterator is short.
+#[inline(never)]
+pub fn advance<K: Portable, V: Portable, M: ArchivedMap<Key = K, Mapped = V>>(
+    buf: &[u8],
+    path: &mut Path,
+) -> Option<Step>
+    requires fitting { IsTrue (are_fitting K.kind V.kind M.E) }
+    requires short { length buf.now ≤ 4294967295 }
+    requires path { IsPath K.kind V.kind M.E buf.now 32 path.old.items }
+    ensures path { IsPath K.kind V.kind M.E buf.now 32 path.new.items }
+    ensures entry { IfSome result (StepStands K.kind V.kind M.E buf.now) }
+    ensures leaf { IfSome result (λ e. LeafStands K.kind V.kind M.E buf.now e.leaf) }
+    ensures rest { Steps (layout_of K.kind V.kind M.E) buf.now result path.old.items
+        path.new.items }
+{
+    climb::<K, V, M>(buf, path)
+}
+
+/// Puts the nodes from the root of the map at `pos` to its first leaf on an empty path, and finds that leaf.
+pub fn begin<K: Portable, V: Portable, M: ArchivedMap<Key = K, Mapped = V>>(
+    buf: &[u8],
+    pos: u32,
+    path: &mut Path,
+) -> Leaf
+    requires stands { IsTrue (stands M.kind buf.now pos) }
+    requires empty { path.old.items ≡ [] }
+    ensures path { IsPath K.kind V.kind M.E buf.now 32 path.new.items }
+    ensures stands { LeafStands K.kind V.kind M.E buf.now result }
+    ensures rest { let s = layout_of K.kind V.kind M.E in
+        leaf_rest s buf.now result path.new.items ≡ list (map_tree s buf.now pos) }
+{
+    M::opened(buf, pos);
+    if map_len::<K, V, M>(buf, pos) > 0 {
+        return descend::<K, V, M>(buf, root(buf, pos), path);
+    }
+    Leaf { node: 0, count: 0 }
+}

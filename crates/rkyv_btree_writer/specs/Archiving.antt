@@ -1,0 +1,95 @@
+-- What it takes to archive a value: the writes before its own bytes, and the own bytes.
+use Rattle.std.specs.Prelude.{◌≡◌, ℕ, ◌+◌, ◌≤◌, List, [], ◌++◌, length}
+use Rattle.std.proofs.Common.{refl}
+use Rattle.rkyv_btree_portable.specs.Bytes.{Holds}
+use Rattle.rkyv_btree_portable.specs.InPlace.{NativeForm}
+use Rattle.rkyv_btree_portable.specs.Kind.{Kind}
+use Rattle.rkyv_btree_portable.specs.Plain.{plain_kind}
+use Rattle.rkyv_btree_portable.specs.Standing.{IsAligned}
+use Rattle.rkyv_btree_writer.specs.Writing.{Writing, position, Write, appended, Stopped}
+use Rattle.rkyv_btree_writer.specs.declared.fault.EntryFault.{EntryFault}
+use Rattle.rkyv_btree_writer.specs.declared.fault.Fault.{Fault}
+use Rattle.rkyv_btree_writer.specs.declared.fault.Fault.TheVariants.{Length, LengthOverflow, PositionOverflow, OffsetOverflow, Writer, Memory, Entry}
+use Rattle.rkyv_btree_writer.specs.declared.fault.ResolveFault.{ResolveFault}
+use Rattle.rkyv_btree_writer.specs.declared.fault.ResolveFault.TheVariants as resolving
+
+-- the second kind's bytes mean what the first's do, and lie alike
+pub record Matches (kind other : Kind) : Type 0 where
+  pub to : kind.Value → other.Value
+  pub size : kind.size ≡ other.size
+  pub align : kind.align ≡ other.align
+  pub fits : kind.is_fitting ≡ other.is_fitting
+  pub means : (b : List ℕ) (lo hi at left : ℕ) (v : kind.Value) → kind.Means b lo hi at left v → other.Means b lo hi at left (to v)
+
+abbrev pub itself : (kind : Kind) → Matches kind kind
+itself kind = record { to = λ v. v; size = refl; align = refl; fits = refl; means = λ b lo hi at left v m. m }
+
+-- what archiving the values of a type does, with what serialising tells resolving
+pub record Archival (X R : Type 0) : Type 1 where
+  -- what the archived bytes are, and what those of a value mean
+  pub kind : Kind
+  pub meaning : X → kind.Value
+  -- the writes that serialising makes from a position on, with what it tells; and what they may be, or a beginning of them
+  pub Writes : X → ℕ → List Write → R → Type 0
+  pub Begins : X → ℕ → List Write → Type 0
+  -- the own bytes that resolving writes at a position
+  pub Resolves : X → R → ℕ → List ℕ → Type 0
+  -- a length of the value is past 32 bits; a pointer in its own bytes at a position doesn't reach; memory is asked for
+  pub IsTooLong : X → Type 0
+  pub IsTooFar : X → R → ℕ → Type 0
+  pub Grows : X → Type 0
+  -- the value refuses itself from a position on
+  pub Refuses : X → ℕ → EntryFault → Type 0
+
+-- a value that was serialised from a position on, and resolved at an aligned place behind that, means itself in the
+-- window of what was written, in every buffer that holds these bytes
+abbrev pub IsArchived : {X R : Type 0} → Archival X R → Type 0
+IsArchived {X} {R} T =
+    (x : X) (from at : ℕ) (writes : List Write) (r : R) (own : List ℕ) → T.Writes x from writes r → T.Resolves x r at own → (length own ≡ T.kind.size)
+    × ((b : List ℕ) → length b ≤ 4294967295 → IsAligned T.kind.align at → from + length (appended writes) ≤ at → at + T.kind.size ≤ length b → Holds b from (appended writes) → Holds b at own →
+    (left : ℕ) × T.kind.Means b from (from + length (appended writes)) at left (T.meaning x))
+
+-- why a value's own bytes aren't written at a position
+abbrev pub IsUnresolved : {X R : Type 0} → Archival X R → X → R → ℕ → ResolveFault → Type 0
+IsUnresolved T x r at resolving.LengthOverflow = T.IsTooLong x
+IsUnresolved T x r at resolving.OffsetOverflow = T.IsTooFar x r at
+
+-- the contents of t begin with those of s
+abbrev pub BeginsWith : Writing → Writing → Type 0
+BeginsWith t s = (more : List ℕ) × (t.contents ≡ s.contents ++ more)
+
+-- some of the writes of a value were made, and the next was refused
+abbrev pub StopsIn : {X R E : Type 0} → Archival X R → X → Writing → Fault E → Writing → Type 0
+StopsIn T x s fault t = (writes : List Write) × T.Begins x (position s) writes × Stopped s writes fault t
+
+-- why a value isn't serialised, and the state that is left
+abbrev pub IsUnserialised : {X R E : Type 0} → Archival X R → X → Writing → Fault E → Writing → Type 0
+IsUnserialised T x s (Length mismatch) t = ⊥
+IsUnserialised T x s LengthOverflow t = T.IsTooLong x × BeginsWith t s
+IsUnserialised {X} {R} {E} T x s PositionOverflow t = StopsIn {E = E} T x s PositionOverflow t
+IsUnserialised {X} {R} {E} T x s OffsetOverflow t = StopsIn {E = E} T x s OffsetOverflow t
+IsUnserialised T x s (Writer error) t = StopsIn T x s (Writer error) t
+IsUnserialised T x s (Memory error) t = T.Grows x × BeginsWith t s
+IsUnserialised T x s (Entry fault) t = T.Refuses x (position s) fault × BeginsWith t s
+
+-- values that lie in their own bytes alone, of which some may refuse themselves: nothing is written before
+abbrev pub own_archival : {X : Type 0} (kind : Kind) → (X → kind.Value) → (X → Type 0) → (X → List ℕ) → (X → ℕ → EntryFault → Type 0) → Archival X (Unit {0})
+own_archival kind meaning IsIn own Refuses = record {
+  kind = kind;
+  meaning = meaning;
+  Writes = λ x from writes r. IsIn x × (writes ≡ []);
+  Begins = λ x from writes. writes ≡ [];
+  Resolves = λ x r at bytes. bytes ≡ own x;
+  IsTooLong = λ x. ⊥;
+  IsTooFar = λ x r at. ⊥;
+  Grows = λ x. ⊥;
+  Refuses = Refuses;
+}
+
+-- and none refuses itself
+abbrev pub plain_archival : {X : Type 0} (kind : Kind) → (X → kind.Value) → (X → Type 0) → (X → List ℕ) → Archival X (Unit {0})
+plain_archival kind meaning IsIn own = own_archival kind meaning IsIn own (λ x from fault. ⊥)
+
+-- native values, as their form says
+abbrev pub native_archival : {X : Type 0} → NativeForm X → Archival X (Unit {0})
+native_archival form = plain_archival (plain_kind form.plain) form.meaning form.IsIn form.own

@@ -1,0 +1,5 @@
+pub mod Writing
+pub mod Pointers
+pub mod Padding
+pub mod Archiving
+pub mod TextArchival

@@ -1,0 +1,6 @@
+//! Writers of bytes, places for archived values, relative pointers, and what serialising refuses.
+#![tactic(auto)]
+
+pub mod fault;
+pub mod place;
+pub mod writes;

@@ -1,0 +1,2 @@
+-- What the walks know of the archives that they are over.
+mod Archives

@@ -1,0 +1,69 @@
+//! Built archives with a byte changed, or cut.
+
+use rkyv_btree::map::access;
+use rkyv_btree::view::View;
+use rkyv_btree_base::layout;
+use rkyv_btree_base::map::ArchivedBTreeMap;
+use rkyv_btree_base::numbers::ArchivedU32;
+use rkyv_btree_base::place::VecWriter;
+use std::alloc::Global;
+use std::ops::ControlFlow;
+use std::process::Abort;
+use std::test::Fail;
+
+/// The archive of the keys 1 to `count`, each with ten times itself as its value.
+fn built(rt: &impl Abort, alloc: Global, count: u32) -> Result<Vec<u8>, Fail> {
+    assert!(rt; layout::fits::<ArchivedU32, ArchivedU32, 5>());
+    let mut entries = Vec::new(alloc);
+    for key in 0..count {
+        let key = key.wrapping_add(1);
+        entries.push((key, key.wrapping_mul(10)))?;
+    }
+    let mut writer = VecWriter::new(alloc);
+    let root = ArchivedBTreeMap::<ArchivedU32, ArchivedU32, 5>::serialize_from_ordered_iter(
+        alloc,
+        entries.len(),
+        entries
+            .iter()
+            .map(|entry: &(u32, u32)| (&entry.0, &entry.1)),
+        &mut writer,
+    )?;
+    ArchivedBTreeMap::<ArchivedU32, ArchivedU32, 5>::write_root(entries.len(), root, &mut writer)?;
+    Ok(writer.into_vec())
+}
+
+/// Asserts that the bytes are refused, or that a visit meets as many entries as their map says.
+fn is_refused_or_whole(rt: &impl Abort, bytes: &[u8]) {
+    assert!(rt; layout::fits::<ArchivedU32, ArchivedU32, 5>());
+    let root = u32::try_from(bytes.len().saturating_sub(8)).expect(rt, "a position");
+    let Ok(map) = access::<ArchivedU32, ArchivedU32, 5>(bytes, root) else {
+        return;
+    };
+    let mut met = 0u32;
+    let broken = map.visit(|_: View<ArchivedU32>, _: View<ArchivedU32>| {
+        met = met.wrapping_add(1);
+        ControlFlow::<(), ()>::Continue(())
+    });
+    assert_eq!(rt; broken, None);
+    assert_eq!(rt; met, map.len());
+}
+
+#[test]
+fn archives_with_any_byte_changed_or_cut_are_refused_or_whole(rt: HostRuntime) -> Result<(), Fail> {
+    for count in [1, 6, 17] {
+        let mut archive = built(&rt, rt.alloc(), count)?;
+        let bytes = archive.as_mut_slice();
+        for end in 0..bytes.len() {
+            is_refused_or_whole(&rt, &bytes[..end]);
+        }
+        for at in 0..bytes.len() {
+            let own = bytes[at];
+            for other in 0..=255 {
+                bytes[at] = other;
+                is_refused_or_whole(&rt, bytes);
+            }
+            bytes[at] = own;
+        }
+    }
+    Ok(())
+}

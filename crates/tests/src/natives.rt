@@ -1,0 +1,75 @@
+//! Native values that are made of views.
+
+use rkyv_btree::deserialize::{Deserialize, DeserializeFault};
+use rkyv_btree::view::View;
+use rkyv_btree_base::check::{CheckBytes, Portable};
+use rkyv_btree_base::fault::EntryFault;
+use rkyv_btree_base::numbers::{ArchivedU16, ArchivedU32, ArchivedU64};
+use rkyv_btree_base::scalars::{ArchivedChar, ArchivedNonZeroU32};
+use rkyv_btree_base::signed::{ArchivedI16, ArchivedI32, ArchivedI64};
+use rkyv_btree_base::text::ArchivedText;
+use std::alloc::{AllocError, Global};
+use std::num::NonZeroU32;
+use std::process::Abort;
+use std::test::Fail;
+
+/// The native value that is made of what stands at a position.
+fn made<T: CheckBytes + Deserialize<N>, N>(
+    rt: &impl Abort,
+    alloc: Global,
+    buf: &[u8],
+    pos: u32,
+) -> Result<N, DeserializeFault> {
+    assert!(rt; T::fits());
+    let view = View::<T>::check(buf, pos).expect(rt, "a value");
+    T::deserialize(alloc, &view)
+}
+
+#[test]
+fn native_values_are_made(rt: HostRuntime) -> Result<(), Fail> {
+    let alloc = rt.alloc();
+    let buf = [1u8, 2, 3, 4, 5, 6, 7, 248, 65, 0, 0, 0];
+    assert_eq!(rt; made::<u8, u8>(&rt, alloc, &buf, 1)?, 2);
+    assert_eq!(rt; made::<i8, i8>(&rt, alloc, &buf, 7)?, -8);
+    assert!(rt; made::<bool, bool>(&rt, alloc, &buf, 0)?);
+    assert_eq!(rt; made::<(), ()>(&rt, alloc, &buf, 3)?, ());
+    assert_eq!(rt; made::<ArchivedU16, u16>(&rt, alloc, &buf, 2)?, 0x0403);
+    assert_eq!(rt; made::<ArchivedI16, i16>(&rt, alloc, &buf, 6)?, -2041);
+    assert_eq!(rt; made::<ArchivedU32, u32>(&rt, alloc, &buf, 0)?, 0x04030201);
+    let low = made::<ArchivedI32, i32>(&rt, alloc, &buf, 4)?;
+    assert_eq!(rt; low, -133_757_435);
+    let high = made::<ArchivedU64, u64>(&rt, alloc, &buf, 0)?;
+    assert_eq!(rt; high, 0xF807_0605_0403_0201);
+    let low = made::<ArchivedI64, i64>(&rt, alloc, &buf, 0)?;
+    assert_eq!(rt; low, -574_483_808_854_539_775);
+    assert_eq!(rt; made::<ArchivedChar, char>(&rt, alloc, &buf, 8)?, 'A');
+    let number = made::<ArchivedNonZeroU32, NonZeroU32>(&rt, alloc, &buf, 8)?;
+    assert_eq!(rt; number.get(), 65);
+    Ok(())
+}
+
+// The text's copy is the one growth. `rt try --test --fail-alloc 1` refuses it.
+#[test]
+fn a_text_is_copied_or_its_growth_is_refused(rt: HostRuntime) {
+    let buf = [195u8, 169, 98, 0, 252, 255, 255, 255, 3, 0, 0, 0];
+    match made::<ArchivedText, String>(&rt, rt.alloc(), &buf, 4) {
+        Ok(text) => assert_eq!(rt; text.as_str(), "\u{E9}b"),
+        Err(fault) => assert_eq!(rt; fault, DeserializeFault::Memory(AllocError)),
+    }
+}
+
+#[test]
+fn faults_of_deserializing_are_told(rt: HostRuntime) -> Result<(), Fail> {
+    let rows = [
+        (DeserializeFault::Memory(AllocError), "out of memory"),
+        (
+            DeserializeFault::Entry(EntryFault { code: 7 }),
+            "entry refused",
+        ),
+    ];
+    for (fault, text) in rows {
+        let told = format!(in rt.alloc(); "{fault}")?;
+        assert_eq!(rt; told.as_str(), text);
+    }
+    Ok(())
+}
