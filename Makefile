@@ -1,5 +1,5 @@
 # RT is the command of the Rattle kit.
-RT ?= rt
+export RT ?= rt
 PROGRAM := crates/btreearc/out/btreearc
 TEXTS := crates/bench/out/bench
 
@@ -27,9 +27,10 @@ bench: program texts
 	@$(TEXTS) 100000
 
 # rt proves the program and its libraries before it builds it, which takes minutes the first time; where nothing has changed it does neither.
+# The script says on standard error which crate is being proved.
 program:
-	@cd crates/btreearc && $(RT) run -- build < /dev/null > /dev/null
+	@tools/program.sh btreearc build
 
 # The program that times maps of texts, built in the same way. Without an argument it does nothing.
 texts:
-	@cd crates/bench && $(RT) run > /dev/null
+	@tools/program.sh bench
