@@ -1,11 +1,12 @@
 -- What is built for entries is their archive.
 use Rattle.std.proofs.Common.{◌≡◌, ℕ, ◌^◌, ◌≤◌, ◌<◌, IsTrue, IfSome, Option, Some, None, List, [], ◌∷◌, ◌++◌, length, map, Bor, unwrap_or, inl, inr, refl, sym, ap, subst, ◌∙◌, arith}
-use Rattle.std.proofs.lemmas.List.{length-map, length-append, append-nil, nil_from_length}
+use Rattle.std.proofs.lemmas.List.{length-map, length-append}
+use Rattle.std.proofs.lemmas.Simd.{map-map}
 use Rattle.std.specs.Int.{w32, to_le_bytes}
 use Rattle.std.specs.Io.KnownBytes.{Appends}
-use Rattle.std.specs.Iterator.{Yields, Drains, YieldsFirstBy}
+use Rattle.std.specs.Iterator.{Drains, YieldsFirstBy}
 use Rattle.rkyv_btree_base.specs.Image.{child_image, child_root, root_image}
-use Rattle.rkyv_btree_base.specs.InPlace.{OwnBytes}
+use Rattle.rkyv_btree_base.specs.InPlace.{IsOwn, OwnBytes}
 use Rattle.rkyv_btree_base.specs.Layout.{are_fitting, inner_size, len_at, node_size, values_at, keys_at, align, node_align}
 use Rattle.rkyv_btree_base.specs.Scalars.{u32_kind}
 use Rattle.rkyv_btree_base.specs.laws.Natives.{u32_faithful}
@@ -17,8 +18,10 @@ use Rattle.rkyv_btree_base.specs.Plan.{planned_alone}
 use Rattle.rkyv_btree_base.specs.Tree.{Child, ChildHasShape}
 use Rattle.rkyv_btree_base.specs.Entries.{now_of}
 use Rattle.rkyv_btree_base.proofs.Holding.{appended-append}
+use Rattle.rkyv_btree_base.specs.Written.{ChildStopped}
+use Rattle.rkyv_btree_base.proofs.Alike.{AreAlike, alike_length, alike_reach, same_child_root, child_alike}
 use Rattle.rkyv_btree_base.proofs.Imaged.{child_written, child_stopped}
-use Rattle.rkyv_btree_base.proofs.Mapped.{alone_mapped}
+use Rattle.rkyv_btree_base.proofs.Mapped.{map_child, alone_mapped}
 use Rattle.rkyv_btree_base.proofs.Smallest.{plan_is_left_complete}
 use Rattle.rkyv_btree_base.specs.Spells.{Accepted}
 use Rattle.rkyv_btree_base.specs.Writing.{Writing, position, Write, AllReach, Wrote, Stopped, appended, last_end}
@@ -88,40 +91,80 @@ archive_written entries root s t built wrote =
     wrote.done.contents ∙ (ap (λ z. z ++ appended (root_image (position s) root (length entries))) tree
     ∙ (ap (λ ws. appended (tree_writes entries) ++ appended ws) (roots_are entries root s built) ∙ sym (appended-append (tree_writes entries) (root_writes entries))))
 
--- all that an iterator has is what its state shows
-taken_pairs : {S : Type 0} (rest : S → List (ℕ × ℕ)) (s : S) (xs : List (Bor ℕ × Bor ℕ)) (t : S) → Yields (YieldsFirstBy pair rest) s xs t → map pair xs ++ rest t ≡ rest s
-taken_pairs rest s [] t y = ap rest (sym y)
-taken_pairs rest s (x ∷ xs) t y = ap (λ ys. pair x ∷ ys) (taken_pairs rest y.0 xs t y.2) ∙ sym y.1
-
-all_taken : (xs ys zs : List (ℕ × ℕ)) → xs ++ ys ≡ zs → length xs ≡ length zs → xs ≡ zs
-all_taken xs ys zs whole count = sym (append-nil xs) ∙ (ap (λ none. xs ++ none) (sym (nil_from_length ys (omega (arith, ap length whole, length-append xs ys, count)))) ∙ whole)
-
-alone_shape : (xs : List (ℕ × ℕ)) → ChildHasShape 5 (planned_alone 5 xs)
+alone_shape : {A : Type 0} (xs : List A) → ChildHasShape 5 (planned_alone 5 xs)
 alone_shape [] = tt
-alone_shape (x ∷ xs) = (plan_is_left_complete (ℕ × ℕ) 5 (omega arith) (x ∷ xs) (omega arith)).0.has_shape
+alone_shape {A} (x ∷ xs) = (plan_is_left_complete A 5 (omega arith) (x ∷ xs) (omega arith)).0.has_shape
+
+-- two lists of one length, side by side
+paired : {A : Type 0} (xs ys : List A) → length xs ≡ length ys → (zs : List (A × A)) × (map (λ z. z.0) zs ≡ xs) × (map (λ z. z.1) zs ≡ ys)
+paired [] [] n = ([], refl, refl)
+paired [] (y ∷ ys) n = absurd (omega (arith, n))
+paired (x ∷ xs) [] n = absurd (omega (arith, n))
+paired (x ∷ xs) (y ∷ ys) n =
+    let rest = paired xs ys (omega (arith, n)) in
+    ((x, y) ∷ rest.0, ap (λ zs. x ∷ zs) rest.1, ap (λ zs. y ∷ zs) rest.2)
+
+planned_by : (f : (ℕ × ℕ) × (ℕ × ℕ) → ℕ × ℕ) (zs : List ((ℕ × ℕ) × (ℕ × ℕ))) (xs : List (ℕ × ℕ)) → map f zs ≡ xs → planned_alone 5 (map own xs) ≡ map_child (λ z. own (f z)) (planned_alone 5 zs)
+planned_by f zs xs e = ap (λ ys. planned_alone 5 (map own ys)) (sym e) ∙ (ap (planned_alone 5) (map-map own f zs) ∙ alone_mapped (λ z. own (f z)) 5 zs)
+
+own_is : (x : ℕ × ℕ) → IsOwn u32_kind (own x).0 × IsOwn u32_kind (own x).1
+own_is x = (u32_faithful.is_own x.0, u32_faithful.is_own x.1)
+
+-- as many entries have a tree of the same writes but for their numbers, and so the same map
+module _ (xs ys : List (ℕ × ℕ)) (same : length xs ≡ length ys) where
+  trees_alike : AreAlike (tree_writes xs) (tree_writes ys)
+  trees_alike =
+      let p = paired xs ys same in
+      let front = planned_by (λ z. z.0) p.0 xs p.1 in
+      let back = planned_by (λ z. z.1) p.0 ys p.2 in
+      subst (λ (c : Child OwnBytes). AreAlike (child_image five 0 c) (tree_writes ys)) (sym front)
+      (subst (λ (c : Child OwnBytes). AreAlike (child_image five 0 (map_child (λ z. own z.0) (planned_alone 5 p.0))) (child_image five 0 c)) (sym back)
+      (child_alike u32_kind u32_kind 5 u32_laws u32_laws numbers_fit (λ z. own z.0) (λ z. own z.1) (λ z. own_is z.0) (λ z. own_is z.1) 0 (planned_alone 5 p.0) (alone_shape p.0)))
+
+  roots_alike : root_writes xs ≡ root_writes ys
+  roots_alike =
+      let p = paired xs ys same in
+      let ends = alike_length (tree_writes xs) (tree_writes ys) trees_alike in
+      let root : child_root five 0 (planned_alone 5 (map own xs)) ≡ child_root five 0 (planned_alone 5 (map own ys)) =
+      ap (child_root five 0) (planned_by (λ z. z.0) p.0 xs p.1)
+      ∙ (same_child_root u32_kind u32_kind 5 u32_laws u32_laws numbers_fit (λ z. own z.0) (λ z. own z.1) (λ z. own_is z.0) (λ z. own_is z.1) 0 (planned_alone 5 p.0) ∙ ap (child_root five 0) (sym (planned_by (λ z. z.1) p.0 ys p.2))) in
+      ap (λ n. root_image n (unwrap_or (child_root five 0 (planned_alone 5 (map own xs))) 0) (length xs)) ends
+      ∙ (ap (λ r. root_image (length (appended (tree_writes ys))) (unwrap_or r 0) (length xs)) root
+      ∙ ap (λ n. root_image (length (appended (tree_writes ys))) (unwrap_or (child_root five 0 (planned_alone 5 (map own ys))) 0) n) same)
 
 module _ {S : Type 0} (rest : S → List (ℕ × ℕ)) (entries : List (ℕ × ℕ)) where
-  -- the writes of the entries' tree are those of the items'
-  stopped_tree : {X : Type 0} (iter : S) (fault : Fault X) (t : Writing) → rest iter ≡ entries → StoppedBuilding u32_kind u32_kind 5 numbers numbers (YieldsFirstBy pair rest) iter (length entries) nothing_written fault t → Stopped nothing_written (tree_writes entries) fault t
-  stopped_tree iter fault t is h =
-      let taken = taken_pairs rest iter h.items h.rest h.taken ∙ is in
-      let are : map pair h.items ≡ entries = all_taken (map pair h.items) (rest h.rest) entries taken (length-map h.items pair ∙ h.count) in
-      let tree = planned_alone 5 (map pair h.items) in
-      let stopped = child_stopped u32_kind u32_kind 5 u32_laws u32_laws numbers_fit (λ x. x) (λ x. x) (λ x. x < 2 ^ 32) (λ x. x < 2 ^ 32) (to_le_bytes w32) (to_le_bytes w32) u32_faithful.is_own u32_faithful.is_own nothing_written tree fault t (alone_shape (map pair h.items)) h.stopped in
-      subst (λ (xs : List (ℕ × ℕ)). Stopped nothing_written (tree_writes xs) fault t) are (subst (λ (c : Child OwnBytes). Stopped nothing_written (child_image five 0 c) fault t) (sym (alone_mapped own 5 (map pair h.items))) stopped)
+  -- writing the tree of as many entries was stopped
+  abbrev Given : {X : Type 0} → S → Writing → Fault X → Writing → Type 0
+  Given {X} iter from fault t = StoppedBuilding u32_kind u32_kind 5 numbers numbers (YieldsFirstBy pair rest) {X = X} iter (length entries) from fault t
 
-  unbuilt_past : {X : Type 0} (t : Writing) → Stopped {E = X} nothing_written (tree_writes entries) PositionOverflow t → last_end < length (archive_of entries)
-  unbuilt_past t h = omega (arith, stopped_past nothing_written (tree_writes entries) t h, ap length (appended-append (tree_writes entries) (root_writes entries)), length-append (appended (tree_writes entries)) (appended (root_writes entries)))
+  stopped_tree : {X : Type 0} (iter : S) (from : Writing) (fault : Fault X) (t : Writing) → from ≡ nothing_written → (h : Given iter from fault t) → Stopped nothing_written (tree_writes h.entries) fault t
+  stopped_tree iter from fault t start h =
+      let tree = planned_alone 5 h.entries in
+      let stopped = child_stopped u32_kind u32_kind 5 u32_laws u32_laws numbers_fit (λ x. x) (λ x. x) (λ x. x < 2 ^ 32) (λ x. x < 2 ^ 32) (to_le_bytes w32) (to_le_bytes w32) u32_faithful.is_own u32_faithful.is_own nothing_written tree fault t (alone_shape h.entries)
+      (subst (λ (s : Writing). ChildStopped five numbers numbers s tree fault t) start h.stopped) in
+      subst (λ (c : Child OwnBytes). Stopped nothing_written (child_image five 0 c) fault t) (sym (alone_mapped own 5 h.entries)) stopped
+
+  unbuilt_past : {X : Type 0} (xs : List (ℕ × ℕ)) (t : Writing) → length xs ≡ length entries → Stopped {E = X} nothing_written (tree_writes xs) PositionOverflow t → last_end < length (archive_of entries)
+  unbuilt_past xs t same h =
+      omega (
+        arith,
+        stopped_past nothing_written (tree_writes xs) t h,
+        alike_length (tree_writes xs) (tree_writes entries) (trees_alike xs entries same),
+        ap length (appended-append (tree_writes entries) (root_writes entries)),
+        length-append (appended (tree_writes entries)) (appended (root_writes entries)),
+      )
 
   pub unbuilt : {X : Type 0} (iter : S) (from : Writing) (fault : Fault X) (t : Writing) → from ≡ nothing_written → rest iter ≡ entries → BuildFault u32_kind u32_kind 5 numbers numbers (YieldsFirstBy pair rest) iter (length entries) from fault t → IsUnbuilt entries fault
   unbuilt iter from LengthOverflow t start is (inl h) = h.0
-  unbuilt {X} iter from LengthOverflow t start is (inr h) = absurd (stopped_tree {X = X} iter LengthOverflow t is (subst (λ s. StoppedBuilding u32_kind u32_kind 5 numbers numbers (YieldsFirstBy pair rest) {X = X} iter (length entries) s LengthOverflow t) start h)).refused
-  unbuilt {X} iter from PositionOverflow t start is h = unbuilt_past t (stopped_tree {X = X} iter PositionOverflow t is (subst (λ s. StoppedBuilding u32_kind u32_kind 5 numbers numbers (YieldsFirstBy pair rest) {X = X} iter (length entries) s PositionOverflow t) start h))
-  unbuilt {X} iter from OffsetOverflow t start is h = λ all. stopped_stray nothing_written (tree_writes entries) t (stopped_tree {X = X} iter OffsetOverflow t is (subst (λ s. StoppedBuilding u32_kind u32_kind 5 numbers numbers (YieldsFirstBy pair rest) {X = X} iter (length entries) s OffsetOverflow t) start h)) (reach_front (tree_writes entries) (root_writes entries) all)
+  unbuilt {X} iter from LengthOverflow t start is (inr h) = absurd (stopped_tree {X = X} iter from LengthOverflow t start h).refused
+  unbuilt {X} iter from PositionOverflow t start is h = unbuilt_past {X = X} h.entries t h.claimed.count (stopped_tree {X = X} iter from PositionOverflow t start h)
+  unbuilt {X} iter from OffsetOverflow t start is h = λ all.
+      stopped_stray {E = X} nothing_written (tree_writes h.entries) t (stopped_tree {X = X} iter from OffsetOverflow t start h)
+      (alike_reach (tree_writes entries) (tree_writes h.entries) (trees_alike entries h.entries (sym h.claimed.count)) (reach_front (tree_writes entries) (root_writes entries) all))
   unbuilt iter from (Writer error) t start is h = tt
   unbuilt iter from (Memory error) t start is h = tt
   unbuilt iter from (Length mismatch) t start is h = absurd (h.differs (sym (length-map h.items pair) ∙ ap length (drained_pairs rest iter h.items h.all ∙ is)))
-  unbuilt {X} iter from (Entry fault) t start is h = absurd (stopped_tree {X = X} iter (Entry fault) t is (subst (λ s. StoppedBuilding u32_kind u32_kind 5 numbers numbers (YieldsFirstBy pair rest) {X = X} iter (length entries) s (Entry fault) t) start h)).refused
+  unbuilt {X} iter from (Entry fault) t start is h = absurd (stopped_tree {X = X} iter from (Entry fault) t start h).refused
 
 -- neither is the map written
 module _ (entries : List (ℕ × ℕ)) (root : ℕ) (s : Writing) (tree : TreeIs entries root s) where

@@ -6,7 +6,7 @@ use Rattle.btreearc.specs.Archive.{archive_of, IsUnbuilt}
 use Rattle.btreearc.specs.Grammar.{IsLines, BadLine, text_of}
 use Rattle.btreearc.specs.Opening.{IsArchive, RefusesArchive}
 use Rattle.btreearc.specs.declared.fault.ProgramFault.{ProgramFault}
-use Rattle.btreearc.specs.declared.fault.ProgramFault.TheVariants.{Usage, Line, Refused, NotBuilt, InputFailed, OutputFailed, Memory}
+use Rattle.btreearc.specs.declared.fault.ProgramFault.TheVariants.{Line, Refused, NotBuilt, InputFailed, OutputFailed, Memory}
 
 -- one word, and this
 abbrev pub IsWord : List ℕ → List (String Global) → Type 0
@@ -55,9 +55,3 @@ Checks input old new (Err InputFailed) = new ≡ old
 Checks input old new (Err Memory) = new ≡ old
 Checks input old new (Err OutputFailed) = IfSome input (λ bytes. (entries : List (ℕ × ℕ)) × IsArchive bytes entries)
 Checks input old new (Err _) = ⊥
-
--- a wrong use is told before anything is read or written
-pub record IsMisused (input input_left old new : Option (List ℕ)) (result : Result ℕ ProgramFault) : Type 0 where
-  pub told : result ≡ Err Usage
-  pub unread : input_left ≡ input
-  pub unwritten : new ≡ old

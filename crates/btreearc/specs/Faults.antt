@@ -1,19 +1,21 @@
 -- What the program's faults say, and where each comes from.
-use Rattle.std.specs.Prelude.{ℕ, List, ◌++◌, Option, Some, None, codes, decimal}
+use Rattle.std.specs.Prelude.{ℕ, List, ◌++◌, codes, decimal}
+use Rattle.rkyv_btree_base.specs.FaultText.{fault_text}
+use Rattle.rkyv_btree_base.specs.RefusalText.{refusal_text}
 use Rattle.btreearc.specs.Archive.{IsUnbuilt}
 use Rattle.btreearc.specs.Opening.{RefusesArchive}
 use Rattle.btreearc.specs.declared.fault.ProgramFault.{ProgramFault}
 use Rattle.btreearc.specs.declared.fault.ProgramFault.TheVariants.{Usage, Line, Refused, NotBuilt, InputFailed, OutputFailed, Memory}
 
--- the line that is printed for a fault; of a refusal or a building's fault, whose texts say the rest, it isn't stated
-abbrev pub fault_text : ProgramFault → Option (List ℕ)
-fault_text Usage = Some (codes "usage: btreearc build | list | get KEY | range LOW HIGH | check | set KEY VALUE")
-fault_text (Line n) = Some (codes "btreearc: line " ++ (decimal n ++ codes ": not KEY VALUE"))
-fault_text (Refused refusal) = None
-fault_text (NotBuilt fault) = None
-fault_text InputFailed = Some (codes "btreearc: input failed")
-fault_text OutputFailed = Some (codes "btreearc: output failed")
-fault_text Memory = Some (codes "btreearc: out of memory")
+-- the line that is printed for a fault
+abbrev pub line_of : ProgramFault → List ℕ
+line_of Usage = codes "usage: btreearc build | list | get KEY | range LOW HIGH | check | set KEY VALUE"
+line_of (Line n) = codes "btreearc: line " ++ (decimal n ++ codes ": not KEY VALUE")
+line_of (Refused refusal) = codes "btreearc: refused: " ++ refusal_text refusal
+line_of (NotBuilt fault) = codes "btreearc: not built: " ++ fault_text fault
+line_of InputFailed = codes "btreearc: input failed"
+line_of OutputFailed = codes "btreearc: output failed"
+line_of Memory = codes "btreearc: out of memory"
 
 -- a fault of reading all input
 abbrev pub IsReadFault : ProgramFault → Type 0

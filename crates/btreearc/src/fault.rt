@@ -1,5 +1,6 @@
 //! Why the program fails.
-ghost use Rattle.btreearc.specs.Faults.{fault_text};
+ghost use Rattle.std.specs.Prelude.{Some};
+ghost use Rattle.btreearc.specs.Faults.{line_of};
 
 use rkyv_btree_base::fault::Fault;
 use rkyv_btree_base::refusal::Refusal;
@@ -27,7 +28,7 @@ pub enum ProgramFault {
 }
 
 impl fmt::Display for ProgramFault {
-    ghost output = { λ fault. fault_text fault };
+    ghost output = { λ fault. Some (line_of fault) };
 
     fn fmt<W: fmt::Write>(&self, f: &mut fmt::Formatter<W>) -> fmt::Result {
         match self {

@@ -1,8 +1,8 @@
 //! The text of entries.
-ghost use Rattle.std.specs.Prelude.{◌≡◌, ◌++◌, List, ℕ, OnOk, ◌↔◌, map, string_bytes};
-ghost use Rattle.std.specs.Iterator.{Drains, IsFinite};
+ghost use Rattle.std.specs.Prelude.{◌≡◌, ◌++◌, List, ℕ, OnOk, ◌↔◌, string_bytes};
+ghost use Rattle.std.specs.Iterator.{IsFinite};
 ghost use Rattle.rkyv_btree.specs.View.{reads_both};
-ghost use Rattle.btreearc.specs.Grammar.{text_of, line, AreShort, IsLines, IsSpelled};
+ghost use Rattle.btreearc.specs.Grammar.{AppendsLines, text_of, line, AreShort, IsLines, IsSpelled};
 
 use rkyv_btree::view::View;
 use rkyv_btree_base::numbers::ArchivedU32;
@@ -30,9 +30,7 @@ pub fn write_entries<'a, I: Iterator<Item = (View<'a, ArchivedU32>, View<'a, Arc
 ) -> Result<(), AllocError>
     requires can { I.can_next entries }
     requires ends { IsFinite (I.remaining entries) }
-    ensures { OnOk result
-        ((items : _) × Drains I.next_gives entries items
-        × (string_bytes out.new ≡ string_bytes out.old ++ text_of (map reads_both items))) }
+    ensures { OnOk result (AppendsLines I.next_gives reads_both entries out.old out.new) }
 {
     while let Some((key, value)) = entries.next() {
         write_entry(out, key.to_native(), value.to_native())?;

@@ -1,7 +1,7 @@
 //! The commands over a reader and a writer.
-ghost use Rattle.std.specs.Prelude.{codes, OnOk};
+ghost use Rattle.std.specs.Prelude.{◌≡◌, codes, Err, OnOk};
 ghost use Rattle.std.specs.Io.KnownBytes.{IsAtEnd};
-ghost use Rattle.btreearc.specs.Commands.{IsWord, IsNoCommand, Builds, Lists, Checks, IsMisused};
+ghost use Rattle.btreearc.specs.Commands.{IsWord, IsNoCommand, Builds, Lists, Checks};
 
 use crate::build;
 use crate::fault::ProgramFault;
@@ -31,9 +31,9 @@ pub fn run<R: Read, W: Write>(
         Lists (R.remaining input.old) (W.contents output.old) (W.contents output.new) result }
     ensures check { IsWord (codes "check") args.now →
         Checks (R.remaining input.old) (W.contents output.old) (W.contents output.new) result }
-    ensures usage { IsNoCommand args.now →
-        IsMisused (R.remaining input.old) (R.remaining input.new) (W.contents output.old)
-        (W.contents output.new) result }
+    ensures usage { IsNoCommand args.now → result ≡ Err ProgramFault.Usage }
+    ensures unread { IsNoCommand args.now → R.remaining input.new ≡ R.remaining input.old }
+    ensures unwritten { IsNoCommand args.now → W.contents output.new ≡ W.contents output.old }
     ensures end { OnOk result (IsAtEnd (R.remaining input.new)) }
 {
     let [word] = args else {

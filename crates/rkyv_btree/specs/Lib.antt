@@ -1,5 +1,6 @@
 -- What contracts and specs of callers may name of the crates below.
 pub use Rattle.rkyv_btree_view.specs.Deserializing
+pub use Rattle.rkyv_btree_view.specs.Items
 pub use Rattle.rkyv_btree_view.specs.Iter
 pub use Rattle.rkyv_btree_view.specs.Map
 pub use Rattle.rkyv_btree_view.specs.Native

@@ -15,7 +15,7 @@ use Rattle.rkyv_btree_writer.proofs.Holding.{length-filled}
 use Rattle.rkyv_btree_writer.proofs.WriteRuns.{appended-position, wrote-both, stopped-behind}
 
 begins-behind : (s : Writing) (first : List Write) (m t : Writing) → Wrote s first m → BeginsWith t m → BeginsWith t s
-begins-behind s first m t w h = (appended first ++ h.0, h.1 ∙ (ap (λ z. z ++ h.0) w.done.contents ∙ append_assoc s.contents (appended first) h.0))
+begins-behind s first m t w h = (h.0 ∙ w.done.base, (appended first ++ h.1.0, h.1.1 ∙ (ap (λ z. z ++ h.1.0) w.done.contents ∙ append_assoc s.contents (appended first) h.1.0)))
 
 module _ {M N R S : Type 0} (F : Type 0) (K : Archival M R) (V : Archival N S) (x : EntryAdapter M N) (s : Writing) where
   pub key_refused : (fault : Fault F) (t : Writing) → IsUnserialised K x.key.now s fault t → IsUnserialised (entry_archival K V) x s fault t

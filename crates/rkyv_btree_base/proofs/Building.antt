@@ -1,7 +1,7 @@
 -- What building leaves, from what its parts leave.
-use Rattle.std.proofs.Common.{◌≡◌, ◌≢◌, ℕ, ◌+◌, ◌<◌, ◌≤◌, ◌∙◌, Bool, IsTrue, List, [], ◌∷◌, ◌++◌, length, map, take, Bor, Option, unwrap_or, inl, inr, refl, sym, subst, ap, arith}
+use Rattle.std.proofs.Common.{◌≡◌, ◌≢◌, ℕ, ◌+◌, ◌-◌, ◌<◌, ◌≤◌, ◌∙◌, Bool, IsTrue, List, [], ◌∷◌, ◌++◌, length, map, replicate, take, Bor, Option, unwrap_or, inl, inr, refl, sym, subst, ap, arith}
 use Rattle.std.specs.Iterator.{Yields, Drains}
-use Rattle.std.proofs.lemmas.List.{length-append, append-nil, nil_from_length, take_at}
+use Rattle.std.proofs.lemmas.List.{length-append, length-map, length-replicate, append-nil, nil_from_length, take_at}
 use Rattle.rkyv_btree_writer.specs.Archiving.{Archival, IsArchived, Matches}
 use Rattle.rkyv_btree_portable.specs.Bytes.{Holds}
 use Rattle.rkyv_btree_writer.specs.Padding.{padding}
@@ -11,7 +11,8 @@ use Rattle.rkyv_btree_portable.specs.Kind.{Kind, IsLawful}
 use Rattle.rkyv_btree_format.specs.Layout.{NodeLayout, layout_of, are_fitting, leaf_size, inner_size}
 use Rattle.rkyv_btree_shape.specs.Plan.{plan, planned_alone}
 use Rattle.rkyv_btree_portable.specs.Rounding.{round_up}
-use Rattle.rkyv_btree_base.specs.Serialising.{meaning_of, Built, Spelled, Miscounted, BuildFault, RootFault}
+use Rattle.rkyv_btree_base.specs.Begun.{TreeBegun, RowBegun, ChildBegun, between}
+use Rattle.rkyv_btree_base.specs.Serialising.{meaning_of, BeginClaimed, Built, Spelled, Miscounted, BuildFault, RootFault}
 use Rattle.rkyv_btree_format.specs.Spells.{Spells}
 use Rattle.rkyv_btree_shape.specs.Tree.{Tree, leaf, inner, Row, last, step, Child, absent, child, row_entries, list}
 use Rattle.rkyv_btree_writer.specs.Writing.{Writing, position, Write, Wrote, Refused, last_end}
@@ -75,7 +76,49 @@ module _ (X : Type 0) {M N R S : Type 0} (s : NodeLayout) (KA : Archival M R) (V
     uncounted_child from absent t h = h
     uncounted_child from (child tree) t h = uncounted_tree from tree t h
 
+-- as many items as claimed are a list of as many entries
+all_claimed : {M N : Type 0} (items : List (Bor M × Bor N)) (claim : ℕ) → length items ≡ claim → BeginClaimed items claim (map now_of items)
+all_claimed items claim n = record { later = []; parts = sym (append-nil (map now_of items)); count = length-map items now_of ∙ n }
+
+-- and some, but fewer, are the first of one
+some_claimed : {M N : Type 0} (items : List (Bor M × Bor N)) (claim : ℕ) → 0 < length items → length items ≤ claim → (xs : List (M × N)) × BeginClaimed items claim xs
+some_claimed [] claim some few = absurd (omega arith)
+some_claimed (x ∷ items) claim some few =
+    let others = replicate (claim - length (x ∷ items)) (now_of x) in
+    let same = length-map (x ∷ items) now_of in
+    let front = length-append (map now_of (x ∷ items)) others in
+    let back = length-replicate (claim - length (x ∷ items)) (now_of x) in
+    (map now_of (x ∷ items) ++ others, record { later = others; parts = refl; count = omega (arith, same, front, back, few) })
+
+-- nothing written is a beginning
+module _ {M N R S : Type 0} (s : NodeLayout) (KA : Archival M R) (VA : Archival N S) where
+  mutual
+    untouched_tree : (from : Writing) (t : Tree (M × N)) → TreeBegun s KA VA from t from
+    untouched_tree from (leaf xs) = between [] xs [] [] refl (refl, refl, refl)
+    untouched_tree from (inner row) = inl (untouched_row from row)
+
+    untouched_row : (from : Writing) (row : Row (M × N)) → RowBegun s KA VA from row from
+    untouched_row from (last c) = untouched from c
+    untouched_row from (step c x row) = inl (untouched from c)
+
+    untouched : (from : Writing) (c : Child (M × N)) → ChildBegun s KA VA from c from
+    untouched from absent = refl
+    untouched from (child t) = untouched_tree from t
+
 module _ {M N R S P : Type 0} (K V : Kind) (E : ℕ) (KA : Archival M R) (VA : Archival N S) (steps : P → Option (Bor M × Bor N) → P → Type 0) where
+  -- the iterator gave too few items, and nothing was written
+  pub short_of : (iter : P) (claim count : ℕ) (s : Writing) (items : List (Bor M × Bor N)) → Drains steps iter items → count ≡ length items → length items < claim → Miscounted K V E KA VA steps iter claim claim count s s
+  short_of iter claim count s items all counted short = record {
+    items = items;
+    all = all;
+    differs = λ e. omega (arith, e);
+    claimed = refl;
+    counted = counted;
+    none = λ empty. refl;
+    few = λ some less. let xs = some_claimed items claim some (omega arith) in (xs.0, xs.1, untouched (layout_of K V E) KA VA s (planned_alone E xs.0));
+    many = λ more. absurd (omega arith);
+  }
+
   pub miscounted_of : (iter : P) (claim more : ℕ) (s t : Writing) (xs : List (Bor M × Bor N)) (rest : P) (ys : List (Bor M × Bor N)) (place : Option ℕ) →
       Yields steps iter xs rest → Drains steps rest ys → more ≡ length ys → more ≢ 0 → length xs ≡ claim → ChildWritten (layout_of K V E) KA VA s (planned_alone E (map now_of xs)) place t → Miscounted K V E KA VA steps iter claim claim (claim + more) s t
   miscounted_of iter claim more s t xs rest ys place y d is many n written =
@@ -87,7 +130,8 @@ module _ {M N R S P : Type 0} (K V : Kind) (E : ℕ) (KA : Archival M R) (VA : A
         differs = λ e. many (omega (arith, all, e));
         claimed = refl;
         counted = omega (arith, all);
-        few = λ less. absurd (omega (arith, all));
+        none = λ empty. absurd (many (omega (arith, all, ap length empty)));
+        few = λ some less. absurd (omega (arith, all));
         many = λ more. (place, subst (λ (zs : List (Bor M × Bor N)). ChildWritten (layout_of K V E) KA VA s (planned_alone E (map now_of zs)) place t) (sym taken) written);
       }
 
@@ -95,12 +139,12 @@ module _ {M N R S P : Type 0} (K V : Kind) (E : ℕ) (KA : Archival M R) (VA : A
   pub refused_of : {X : Type 0} (iter : P) (claim : ℕ) (s : Writing) (fault : Fault X) (t : Writing) (items : List (Bor M × Bor N)) (rest : P) →
       Yields steps iter items rest → length items ≡ claim → ChildStopped (layout_of K V E) KA VA s (planned_alone E (map now_of items)) fault t → BuildFault K V E KA VA steps iter claim s fault t
   refused_of {X} iter claim s (Length m) t items rest y n h = absurd (uncounted_child X (layout_of K V E) KA VA m s (planned_alone E (map now_of items)) t h)
-  refused_of iter claim s LengthOverflow t items rest y n h = inr (record { items = items; rest = rest; taken = y; count = n; stopped = h })
-  refused_of iter claim s PositionOverflow t items rest y n h = record { items = items; rest = rest; taken = y; count = n; stopped = h }
-  refused_of iter claim s OffsetOverflow t items rest y n h = record { items = items; rest = rest; taken = y; count = n; stopped = h }
-  refused_of iter claim s (Writer error) t items rest y n h = record { items = items; rest = rest; taken = y; count = n; stopped = h }
-  refused_of iter claim s (Memory error) t items rest y n h = inr (record { items = items; rest = rest; taken = y; count = n; stopped = h })
-  refused_of iter claim s (Entry fault) t items rest y n h = record { items = items; rest = rest; taken = y; count = n; stopped = h }
+  refused_of iter claim s LengthOverflow t items rest y n h = inr (record { items = items; rest = rest; taken = y; entries = map now_of items; claimed = all_claimed items claim n; stopped = h })
+  refused_of iter claim s PositionOverflow t items rest y n h = record { items = items; rest = rest; taken = y; entries = map now_of items; claimed = all_claimed items claim n; stopped = h }
+  refused_of iter claim s OffsetOverflow t items rest y n h = record { items = items; rest = rest; taken = y; entries = map now_of items; claimed = all_claimed items claim n; stopped = h }
+  refused_of iter claim s (Writer error) t items rest y n h = record { items = items; rest = rest; taken = y; entries = map now_of items; claimed = all_claimed items claim n; stopped = h }
+  refused_of iter claim s (Memory error) t items rest y n h = inr (record { items = items; rest = rest; taken = y; entries = map now_of items; claimed = all_claimed items claim n; stopped = h })
+  refused_of iter claim s (Entry fault) t items rest y n h = record { items = items; rest = rest; taken = y; entries = map now_of items; claimed = all_claimed items claim n; stopped = h }
 
 module _ {M N R S : Type 0} (K V : Kind) (E : ℕ) (k : IsLawful K) (v : IsLawful V) (fits : IsTrue (are_fitting K V E)) (KA : Archival M R) (VA : Archival N S) (key : Matches KA.kind K) (value : Matches VA.kind V) (ka : IsArchived KA) (va : IsArchived VA) where
   pub meaning_is : (xs : List (Bor M × Bor N)) → map (meant K V E k v fits KA VA key value ka va) (map now_of xs) ≡ map (meaning_of K V KA VA key value) xs

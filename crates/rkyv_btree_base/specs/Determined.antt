@@ -1,7 +1,8 @@
 -- Where archiving values is a function of them and of positions, and what that makes of trees.
 use Rattle.std.specs.Prelude.{◌≡◌, ℕ, List}
 use Rattle.rkyv_btree_writer.specs.Archiving.{Archival}
-use Rattle.rkyv_btree_format.specs.Layout.{NodeLayout}
+use Rattle.rkyv_btree_portable.specs.Kind.{Kind}
+use Rattle.rkyv_btree_format.specs.Layout.{NodeLayout, layout_of}
 use Rattle.rkyv_btree_base.specs.Serialising.{Built}
 use Rattle.rkyv_btree_writer.specs.Writing.{Writing, position, Appended, Write}
 
@@ -20,3 +21,7 @@ pub record AppendAlike (from to start end : Writing) : Type 0 where
 abbrev pub BuildsAlike : {M N R S : Type 0} → NodeLayout → Archival M R → Archival N S → Type 0
 BuildsAlike {M} {N} s K V =
     (from to start end : Writing) (xs : List (M × N)) (root place : ℕ) → position from ≡ position start → Built s K V from xs root to → Built s K V start xs place end → (root ≡ place) × AppendAlike from to start end
+
+-- where archiving keys and values is a function, so is building
+abbrev pub TreesAreDetermined : {M N R S : Type 0} → Kind → Kind → ℕ → Archival M R → Archival N S → Type 0
+TreesAreDetermined K V E KA VA = IsDetermined KA → IsDetermined VA → BuildsAlike (layout_of K V E) KA VA

@@ -10,6 +10,7 @@ pub use Rattle.rkyv_btree_portable.specs.Standing
 pub use Rattle.rkyv_btree_portable.specs.Rounding
 pub use Rattle.rkyv_btree_portable.specs.Kind
 pub use Rattle.rkyv_btree_portable.specs.Refusing
+pub use Rattle.rkyv_btree_portable.specs.RefusalText
 pub use Rattle.rkyv_btree_portable.specs.Plain
 pub use Rattle.rkyv_btree_portable.specs.Scalars
 pub use Rattle.rkyv_btree_portable.specs.InPlace
@@ -26,6 +27,7 @@ pub use Rattle.rkyv_btree_verify.specs.Claims
 pub use Rattle.rkyv_btree_verify.specs.Map
 pub use Rattle.rkyv_btree_verify.specs.Opening
 pub use Rattle.rkyv_btree_writer.specs.Writing
+pub use Rattle.rkyv_btree_writer.specs.FaultText
 pub use Rattle.rkyv_btree_writer.specs.Pointers
 pub use Rattle.rkyv_btree_writer.specs.Padding
 pub use Rattle.rkyv_btree_writer.specs.Archiving
@@ -36,6 +38,8 @@ pub use Rattle.rkyv_btree_writer.specs.declared.fault.EntryFault
 pub mod Image
 pub mod Entries
 pub mod Written
+pub mod Begun
+pub mod Miscounts
 pub mod Serialising
 pub mod Archives
 pub mod Determined

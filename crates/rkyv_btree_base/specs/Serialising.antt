@@ -1,9 +1,10 @@
 -- Serialising the items of an iterator, and the map itself.
-use Rattle.std.specs.Prelude.{◌≡◌, ◌≢◌, ℕ, ◌<◌, ◌≤◌, ◌⊎◌, List, length, map, take, ◌++◌, Option, unwrap_or}
+use Rattle.std.specs.Prelude.{◌≡◌, ◌≢◌, ℕ, ◌<◌, ◌≤◌, ◌⊎◌, List, [], length, map, take, ◌++◌, Option, unwrap_or}
 use Rattle.std.specs.Borrow.{Bor}
 use Rattle.std.specs.Iterator.{Yields, Drains}
 use Rattle.rkyv_btree_portable.specs.Bytes.{Holds}
 use Rattle.rkyv_btree_writer.specs.Archiving.{Archival, Matches}
+use Rattle.rkyv_btree_base.specs.Begun.{ChildBegun}
 use Rattle.rkyv_btree_base.specs.Image.{root_image}
 use Rattle.rkyv_btree_portable.specs.Kind.{Kind}
 use Rattle.rkyv_btree_format.specs.Layout.{NodeLayout, layout_of}
@@ -37,6 +38,12 @@ pub record Spelled (K V : Kind) (E : ℕ) (from : Writing) (m : List (K.Value ×
   pub contents : t.contents ≡ from.contents ++ appended
   pub spelled : (b : List ℕ) → length b ≤ 4294967295 → Holds b (position from) appended → position t ≤ length b → Spells K V E b (position from) (position t) root tree
 
+-- items are the first of a list of as many entries as claimed
+pub record BeginClaimed {M N : Type 0} (items : List (Bor M × Bor N)) (claim : ℕ) (xs : List (M × N)) : Type 0 where
+  pub later : List (M × N)
+  pub parts : xs ≡ map now_of items ++ later
+  pub count : length xs ≡ claim
+
 module _ {M N R S P : Type 0} (K V : Kind) (E : ℕ) (KA : Archival M R) (VA : Archival N S) (steps : P → Option (Bor M × Bor N) → P → Type 0) where
   -- the iterator gave as many items as claimed, and then no more; the tree of them was written
   pub record Serialised (iter : P) (claim : ℕ) (from : Writing) (root : ℕ) (t : Writing) : Type 0 where
@@ -46,13 +53,15 @@ module _ {M N R S P : Type 0} (K V : Kind) (E : ℕ) (KA : Archival M R) (VA : A
     pub built : Built (layout_of K V E) KA VA from (map now_of items) root t
     pub spelled : 0 < claim → (key : Matches KA.kind K) (value : Matches VA.kind V) → Spelled K V E from (map (meaning_of K V KA VA key value) items) root t
 
-  -- the iterator gave as many items as claimed, and the writing of their tree was stopped
+  -- the items that the iterator gave are the first of a list of as many entries as claimed, and the writing of its tree
+  -- was stopped there
   pub record StoppedBuilding {X : Type 0} (iter : P) (claim : ℕ) (from : Writing) (fault : Fault X) (t : Writing) : Type 0 where
     pub items : List (Bor M × Bor N)
     pub rest : P
     pub taken : Yields steps iter items rest
-    pub count : length items ≡ claim
-    pub stopped : ChildStopped (layout_of K V E) KA VA from (planned_alone E (map now_of items)) fault t
+    pub entries : List (M × N)
+    pub claimed : BeginClaimed items claim entries
+    pub stopped : ChildStopped (layout_of K V E) KA VA from (planned_alone E entries) fault t
 
   -- the iterator gave another number of items than the claim
   pub record Miscounted (iter : P) (claim expected actual : ℕ) (from t : Writing) : Type 0 where
@@ -61,8 +70,10 @@ module _ {M N R S P : Type 0} (K V : Kind) (E : ℕ) (KA : Archival M R) (VA : A
     pub differs : length items ≢ claim
     pub claimed : expected ≡ claim
     pub counted : actual ≡ length items
-    -- of too few nothing is written, and of too many the tree of as many as claimed
-    pub few : length items < claim → t ≡ from
+    -- of none nothing is written; of too few a beginning of the tree of a list of as many entries as claimed, of which
+    -- they are the first; of too many the tree of as many as claimed
+    pub none : items ≡ [] → t ≡ from
+    pub few : 0 < length items → length items < claim → (xs : List (M × N)) × BeginClaimed items claim xs × ChildBegun (layout_of K V E) KA VA from (planned_alone E xs) t
     pub many : claim < length items → (place : Option ℕ) × ChildWritten (layout_of K V E) KA VA from (planned_alone E (map now_of (take claim items))) place t
 
   -- each fault's cause, and what it leaves
@@ -74,6 +85,15 @@ module _ {M N R S P : Type 0} (K V : Kind) (E : ℕ) (KA : Archival M R) (VA : A
   BuildFault iter claim from (Writer error) t = StoppedBuilding iter claim from (Writer error) t
   BuildFault {X} iter claim from (Memory error) t = (t ≡ from) ⊎ StoppedBuilding {X = X} iter claim from (Memory error) t
   BuildFault {X} iter claim from (Entry fault) t = StoppedBuilding {X = X} iter claim from (Entry fault) t
+
+module _ {M N R S P Q : Type 0} (K V : Kind) (E : ℕ) (KA : Archival M R) (VA : Archival N S) (steps : P → Option (Bor M × Bor N) → P → Type 0) (iter : P) (claim : ℕ) (state : Q → Writing) (before after : Q) where
+  -- between two states of a writer the tree was built, whose node is at the root
+  abbrev pub BuildsTree : ℕ → Type 0
+  BuildsTree root = Serialised K V E KA VA steps iter claim (state before) root (state after)
+
+  -- a fault stopped it
+  abbrev pub FailsToBuild : {X : Type 0} → Fault X → Type 0
+  FailsToBuild fault = BuildFault K V E KA VA steps iter claim (state before) fault (state after)
 
 -- each fault's cause in writing a map, and what it leaves
 abbrev pub RootFault : {X : Type 0} → ℕ → ℕ → Writing → Fault X → Writing → Type 0

@@ -1,12 +1,11 @@
 //! Values that can be archived.
-ghost use Rattle.std.specs.Prelude.{◌≡◌, ◌+◌, ◌≤◌, List, length, IsTrue, OnOk, IfOk, IfErr};
+ghost use Rattle.std.specs.Prelude.{◌≡◌, ◌+◌, ◌≤◌, length, IsTrue, OnOk, IfOk, IfErr};
 ghost use Rattle.rkyv_btree_base.specs.Determined.{IsDetermined};
 ghost use Rattle.rkyv_btree_portable.specs.Kind.{IsLawful};
 ghost use Rattle.rkyv_btree_portable.specs.Plain.{plain_kind};
 ghost use Rattle.rkyv_btree_portable.specs.Scalars.{u8_kind, u16_kind, u32_kind, u64_kind, i8_kind, i16_kind, i32_kind, i64_kind, bool_kind, unit_kind, char_kind, non_zero_kind};
 ghost use Rattle.rkyv_btree_writer.proofs.Archiving.{native_archived};
-ghost use Rattle.rkyv_btree_writer.specs.Archiving.{Archival, Matches, IsArchived, IsUnresolved, IsUnserialised, itself, native_archival};
-ghost use Rattle.rkyv_btree_writer.specs.Writing.{Write, Wrote, position};
+ghost use Rattle.rkyv_btree_writer.specs.Archiving.{Archival, Matches, IsArchived, IsUnresolved, IsUnserialised, Serialises, itself, native_archival};
 
 use rkyv_btree_portable::check::{InPlace, Portable};
 use rkyv_btree_portable::numbers::{ArchivedU16, ArchivedU32, ArchivedU64};
@@ -53,10 +52,8 @@ pub trait Archive {
 pub trait Serialize<W: Writer, A>: Archive {
     /// Makes the writes that come before its own bytes. After an error the writer's contents begin with the old ones.
     fn serialize(&self, alloc: A, writer: &mut W) -> Result<Self::Resolver, Fault<W::Error>>
-        ensures ok { IfOk result (λ r.
-            (writes : List Write)
-            × Self.archival.Writes self.now (position (W.state writer.old)) writes r
-            × Wrote (W.state writer.old) writes (W.state writer.new)) }
+        ensures ok { IfOk result
+            (Serialises Self.archival self.now (W.state writer.old) (W.state writer.new)) }
         ensures err { IfErr result (λ fault.
             IsUnserialised Self.archival self.now (W.state writer.old) fault
             (W.state writer.new)) };

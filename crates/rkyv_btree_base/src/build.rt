@@ -1,15 +1,17 @@
 //! Building archived maps.
-ghost use Rattle.std.specs.Prelude.{◌≡◌, ℕ, ◌+◌, ◌*◌, ◌<◌, ◌≤◌, ◌↔◌, [], length, true, false, vec_capacity, IsOk, OnOk, OnErr, IfOk, IfErr, IsErrOf, IsTrue};
+ghost use Rattle.std.specs.Prelude.{◌≡◌, ℕ, List, ◌+◌, ◌*◌, ◌<◌, ◌≤◌, ◌↔◌, [], length, true, false, vec_capacity, IsOk, OnOk, OnErr, IfOk, IfErr, IsErrOf, IsTrue};
 ghost use Rattle.std.specs.Iterator.{Yields, Drains, IsFinite, UpTo, size};
+ghost use Rattle.rkyv_btree_writer.specs.Archiving.{BeginsWith};
 ghost use Rattle.rkyv_btree_base.specs.Archives.{SerialisedIsAccepted, EmptyIsAccepted};
-ghost use Rattle.rkyv_btree_base.specs.Determined.{IsDetermined, BuildsAlike};
+ghost use Rattle.rkyv_btree_base.specs.Determined.{TreesAreDetermined};
 ghost use Rattle.rkyv_btree_base.specs.Image.{root_bytes, root_reaches, root_image};
 ghost use Rattle.rkyv_btree_format.specs.Layout.{layout_of, are_fitting};
 ghost use Rattle.rkyv_btree_shape.specs.Logarithm.{ilog};
 ghost use Rattle.rkyv_btree_portable.specs.Rounding.{round_up};
 ghost use Rattle.rkyv_btree_base.specs.mirror.Scratch.{IsFree, IsReserved};
-ghost use Rattle.rkyv_btree_base.specs.Serialising.{Serialised, BuildFault, RootFault};
-ghost use Rattle.rkyv_btree_writer.specs.Writing.{position, Wrote, last_end};
+ghost use Rattle.rkyv_btree_base.specs.Miscounts.{IsMiscount};
+ghost use Rattle.rkyv_btree_base.specs.Serialising.{Serialised, BuildFault, BuildsTree, FailsToBuild, RootFault};
+ghost use Rattle.rkyv_btree_writer.specs.Writing.{position, Appended, Wrote, last_end};
 
 use crate::archive::{Archive, Serialize};
 use crate::map::ArchivedBTreeMap;
@@ -143,6 +145,10 @@ where
     ensures err { IfErr result (λ fault.
         BuildFault K.kind V.kind E KU.archival VU.archival I.next_gives iter len
         (W.state writer.old) fault (W.state writer.new)) }
+    ensures went { OnOk result ((bytes : List ℕ)
+        × Appended (W.state writer.old) bytes (W.state writer.new)) }
+    ensures kept { OnErr result (BeginsWith (W.state writer.new) (W.state writer.old)) }
+    ensures end { OnOk result (position (W.state writer.new) ≤ last_end) }
 {
     let Ok(lists) = reserve::<KU, VU, K, V, A, E>(alloc, len) else {
         return Err(Fault::Memory(AllocError));
@@ -203,14 +209,26 @@ impl<K: Portable, V: Portable, const E: usize> ArchivedBTreeMap<K, V, E> {
         requires fitting { IsTrue (are_fitting K.kind V.kind E) }
         requires can { I.can_next iter }
         requires ends { UpTo (I.remaining iter) 18446744073709551615 }
-        ensures ok { IfOk result (λ resolver.
-            Serialised K.kind V.kind E KU.archival VU.archival I.next_gives iter len
-            (W.state writer.old) resolver (W.state writer.new)) }
-        ensures err { IfErr result (λ fault.
-            BuildFault K.kind V.kind E KU.archival VU.archival I.next_gives iter len
-            (W.state writer.old) fault (W.state writer.new)) }
+        ensures ok { IfOk result
+            (BuildsTree K.kind V.kind E KU.archival VU.archival I.next_gives iter len
+            W.state writer.old writer.new) }
+        ensures err { IfErr result
+            (FailsToBuild K.kind V.kind E KU.archival VU.archival I.next_gives iter len
+            W.state writer.old writer.new) }
+        ensures end { OnOk result (0 < len → position (W.state writer.new) ≤ last_end) }
+        // On success no write failed, and nothing but bytes behind the old ones has changed.
+        ensures went { OnOk result ((bytes : List ℕ)
+            × Appended (W.state writer.old) bytes (W.state writer.new)) }
+        // Whatever refuses, what the writer held stays in front.
+        ensures kept { OnErr result (BeginsWith (W.state writer.new) (W.state writer.old)) }
+        // A claim past 32 bits is refused as that, whatever else there is, and nothing is written.
+        ensures past { last_end < len → IsErrOf result Fault.LengthOverflow }
+        ensures past_kept { last_end < len → W.state writer.new ≡ W.state writer.old }
+        // A claim of nothing is refused for items that come, and for nothing else.
+        ensures none { len ≡ 0 → IfErr result IsMiscount }
+        ensures none_kept { len ≡ 0 → W.state writer.new ≡ W.state writer.old }
     {
-        if len > 4294967295 {
+        if len > LAST_END as usize {
             return Err(Fault::LengthOverflow);
         }
         if len == 0 {
@@ -311,6 +329,5 @@ pub fn archives_are_accepted<K: Portable, V: Portable, const E: usize>()
 /// Where what archiving keys and values writes follows from them and from positions, two builds of one list from one
 /// position append the same bytes, whatever the writers, and have one root.
 pub fn trees_are_determined<KU: Archive, VU: Archive, const E: usize>()
-    ensures { IsDetermined KU.archival → IsDetermined VU.archival →
-        BuildsAlike (layout_of KU.Archived.kind VU.Archived.kind E) KU.archival VU.archival }
+    ensures { TreesAreDetermined KU.Archived.kind VU.Archived.kind E KU.archival VU.archival }
 {}

@@ -9,7 +9,7 @@ ghost use Rattle.rkyv_btree_base.specs.laws.EntryArchived.{same_entry, entry_arc
 
 use crate::archive::{Archive, Serialize, resolve_into};
 use rkyv_btree_portable::check::Portable;
-pub use rkyv_btree_portable::entry::{Entry, value_offset};
+pub use rkyv_btree_portable::entry::{Entry, entries_compare_key_first, value_offset};
 use rkyv_btree_writer::fault::{Fault, ResolveFault};
 use rkyv_btree_writer::place::{Place, Writer};
 

@@ -9,6 +9,7 @@ pub mod Scalars
 pub mod InPlace
 pub mod Natives
 pub mod Views
+pub mod RefusalText
 pub mod Text
 pub mod Entry
 pub mod laws

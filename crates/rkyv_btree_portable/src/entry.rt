@@ -1,5 +1,7 @@
 //! A key with its value.
-ghost use Rattle.std.specs.Prelude.{◌≡◌, ◌+◌, ◌≤◌, ◌<◌, ◌^◌, length, IsTrue, OnOk, IfErr};
+ghost use Rattle.std.specs.Prelude.{◌≡◌, ◌+◌, ◌≤◌, ◌<◌, ◌^◌, ◌&&◌, ◌++◌, length, IsTrue, OnOk, IfErr};
+ghost use Rattle.std.specs.Ordering.{ordering_then};
+ghost use Rattle.rkyv_btree_portable.specs.declared.entry.Entry.{Entry};
 ghost use Rattle.rkyv_btree_portable.specs.Entry.{value_offset, entry_size, entry_kind, RefusesEntry};
 ghost use Rattle.rkyv_btree_portable.specs.laws.EntryLaws.{entry_laws};
 ghost use Rattle.rkyv_btree_portable.specs.laws.EntryRefusals.{entry_refusals};
@@ -7,6 +9,7 @@ ghost use Rattle.rkyv_btree_portable.specs.laws.EntryRefusals.{entry_refusals};
 use crate::check::{CheckBytes, Portable, Window, check_part, check_place};
 use crate::refusal::Refusal;
 use crate::rounding::round_up;
+use std::hash::Hash;
 
 /// A key with its value, compared, ordered and hashed key first. As an archived type it is the key, then the value at the
 /// next multiple of the value's alignment, then padding up to a multiple of the greater alignment.
@@ -77,3 +80,13 @@ impl<K: CheckBytes, V: CheckBytes> CheckBytes for Entry<K, V> {
 
     ghost refusals = { λ _. entry_refusals K.kind V.kind K.laws V.laws };
 }
+
+/// Entries are equal, ordered and hashed by their keys and then by their values.
+pub fn entries_compare_key_first<K: Ord + Hash, V: Ord + Hash>()
+    ensures same { (a b : Entry K V) → ⟦<Entry<K, V> as PartialEq>⟧.eq a b
+        ≡ (K.eq a.key b.key && V.eq a.value b.value) }
+    ensures order { (a b : Entry K V) → ⟦<Entry<K, V> as Ord>⟧.cmp a b
+        ≡ ordering_then (K.cmp a.key b.key) (V.cmp a.value b.value) }
+    ensures hash { (a : Entry K V) → ⟦<Entry<K, V> as Hash>⟧.hash_input a
+        ≡ K.hash_input a.key ++ V.hash_input a.value }
+{}

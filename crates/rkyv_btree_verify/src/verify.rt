@@ -400,6 +400,8 @@ pub fn verify_counted<K: CheckBytes, V: CheckBytes, const E: usize>(
     // On all bytes it counts few.
     ensures few { steps.new
         ≤ steps.old + (window.hi - window.lo) / leaf_size (layout_of K.kind V.kind E) + 1 }
+    // It never counts back.
+    ensures more { steps.old ≤ steps.new }
 {
     let lo = check_map::<K, V, E>(buf, pos, window, steps)?;
     Ok(Window { lo, hi: window.hi })

@@ -1,11 +1,11 @@
 //! Native values from views.
-ghost use Rattle.std.specs.Prelude.{◌≡◌, ℕ, List, Result, Ok, IsOk, IfOk, IfErr, string_bytes};
+ghost use Rattle.std.specs.Prelude.{◌≡◌, ℕ, List, Some, Result, Ok, IsOk, IfOk, IfErr, string_bytes};
 ghost use Rattle.std.specs.Int.NonZero.{non_zero_u32_get};
 ghost use Rattle.std.proofs.Common.{ap, ◌∙◌, sym};
 ghost use Rattle.rkyv_btree_base.specs.Scalars.{non_zero_kind};
 ghost use Rattle.rkyv_btree_base.specs.Text.{text_kind};
 ghost use Rattle.rkyv_btree_base.specs.EntryFault.{EntryFault};
-ghost use Rattle.rkyv_btree_view.specs.Deserializing.{IsRefused};
+ghost use Rattle.rkyv_btree_view.specs.Deserializing.{IsRefused, deserialize_text};
 
 use crate::native::ToNative;
 use crate::view::View;
@@ -28,6 +28,8 @@ pub enum DeserializeFault {
 }
 
 impl fmt::Display for DeserializeFault {
+    ghost output = { λ fault. Some (deserialize_text fault) };
+
     fn fmt<W: fmt::Write>(&self, f: &mut fmt::Formatter<W>) -> fmt::Result {
         match self {
             DeserializeFault::Memory(_) => write!(f, "out of memory"),

@@ -1,6 +1,7 @@
 //! Iterators over the entries of a map.
 ghost use Rattle.std.specs.Prelude.{◌≡◌, ◌+◌, ◌-◌, ◌≤◌, length, map, IsTrue};
-ghost use Rattle.std.specs.Iterator.{Drains, IsFinite};
+ghost use Rattle.std.specs.Iterator.{IsFinite};
+ghost use Rattle.rkyv_btree_view.specs.Items.{ShowsAll};
 ghost use Rattle.rkyv_btree_base.specs.Layout.{layout_of, are_fitting};
 ghost use Rattle.rkyv_btree_base.specs.Read.{entry_at};
 ghost use Rattle.rkyv_btree_walk.specs.mirror.Node.{RunStands};
@@ -111,8 +112,8 @@ impl<'a, K: Portable, V: Portable, M: ArchivedMap<Key = K, Mapped = V>> View<'a,
 
     /// The entries, in order. Neither this call nor the iterator takes memory.
     pub fn iter(self) -> Iter<'a, M>
-        ensures all { (items : _) → Drains ⟦<Iter<'a, M> as Iterator>⟧.next_gives result items
-            → map reads_both items ≡ entries_of K.kind V.kind M.E self.entry }
+        ensures all { ShowsAll ⟦<Iter<'a, M> as Iterator>⟧.next_gives reads_both result
+            (entries_of K.kind V.kind M.E self.entry) }
         ensures ends { IsFinite (⟦<Iter<'a, M> as Iterator>⟧.remaining result) }
     {
         self.walk()

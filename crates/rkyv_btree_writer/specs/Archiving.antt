@@ -6,7 +6,7 @@ use Rattle.rkyv_btree_portable.specs.InPlace.{NativeForm}
 use Rattle.rkyv_btree_portable.specs.Kind.{Kind}
 use Rattle.rkyv_btree_portable.specs.Plain.{plain_kind}
 use Rattle.rkyv_btree_portable.specs.Standing.{IsAligned}
-use Rattle.rkyv_btree_writer.specs.Writing.{Writing, position, Write, appended, Stopped}
+use Rattle.rkyv_btree_writer.specs.Writing.{Writing, position, Write, appended, Stopped, Wrote}
 use Rattle.rkyv_btree_writer.specs.declared.fault.EntryFault.{EntryFault}
 use Rattle.rkyv_btree_writer.specs.declared.fault.Fault.{Fault}
 use Rattle.rkyv_btree_writer.specs.declared.fault.Fault.TheVariants.{Length, LengthOverflow, PositionOverflow, OffsetOverflow, Writer, Memory, Entry}
@@ -54,9 +54,13 @@ abbrev pub IsUnresolved : {X R : Type 0} → Archival X R → X → R → ℕ �
 IsUnresolved T x r at resolving.LengthOverflow = T.IsTooLong x
 IsUnresolved T x r at resolving.OffsetOverflow = T.IsTooFar x r at
 
--- the contents of t begin with those of s
+-- t has the same first position as s, and its contents begin with those of s
 abbrev pub BeginsWith : Writing → Writing → Type 0
-BeginsWith t s = (more : List ℕ) × (t.contents ≡ s.contents ++ more)
+BeginsWith t s = (t.base ≡ s.base) × ((more : List ℕ) × (t.contents ≡ s.contents ++ more))
+
+-- the writes of a value were made, and serialising told this
+abbrev pub Serialises : {X R : Type 0} → Archival X R → X → Writing → Writing → R → Type 0
+Serialises T x s t r = (writes : List Write) × T.Writes x (position s) writes r × Wrote s writes t
 
 -- some of the writes of a value were made, and the next was refused
 abbrev pub StopsIn : {X R E : Type 0} → Archival X R → X → Writing → Fault E → Writing → Type 0

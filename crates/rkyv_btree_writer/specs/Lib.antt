@@ -1,4 +1,5 @@
 pub mod Writing
+pub mod FaultText
 pub mod Pointers
 pub mod Padding
 pub mod Archiving

@@ -48,6 +48,14 @@ fn native_values_are_made(rt: HostRuntime) -> Result<(), Fail> {
     Ok(())
 }
 
+#[test]
+fn a_text_is_copied(rt: HostRuntime) -> Result<(), Fail> {
+    let buf = [195u8, 169, 98, 0, 252, 255, 255, 255, 3, 0, 0, 0];
+    let text = made::<ArchivedText, String>(&rt, rt.alloc(), &buf, 4)?;
+    assert_eq!(rt; text.as_str(), "\u{E9}b");
+    Ok(())
+}
+
 // The text's copy is the one growth. `rt try --test --fail-alloc 1` refuses it.
 #[test]
 fn a_text_is_copied_or_its_growth_is_refused(rt: HostRuntime) {

@@ -5,8 +5,15 @@ use Rattle.std.specs.Iterator.{Yields}
 use Rattle.rkyv_btree_format.specs.Layout.{layout_of}
 use Rattle.rkyv_btree_base.specs.Serialising.{meaning_of, Built}
 use Rattle.rkyv_btree_base.specs.Entries.{now_of}
-use Rattle.rkyv_btree_base.proofs.Building.{drained, miscounted_of, refused_of, meaning_is, spelled_of}
+use Rattle.rkyv_btree_shape.specs.Plan.{planned_alone}
+use Rattle.rkyv_btree_base.proofs.Kept.{stops_begin, child_begins, child_went}
+use Rattle.rkyv_btree_base.proofs.Building.{short_of, drained, miscounted_of, refused_of, meaning_is, spelled_of}
 use Rattle.rkyv_btree_base.proofs.build.build_some.Goals as goal
+
+pub returns-then-not-take_items-clause-err : goal.returns-then-not-take_items-clause-err
+returns-then-not-take_items-clause-err g c =
+    short_of g.K.Portable.kind g.V.Portable.kind g.row.E g.KU.Archive.archival g.VU.Archive.archival g.I.Iterator.next_gives c.args.iter c.args.len c.len.result (g.W.Writer.state c.args.writer.now) c.take_items.new.items.items
+    (c.take_items.ensures.few c.if-not-take_items.true) (omega arith) (c.take_items.ensures.short c.if-not-take_items.true)
 
 pub returns-in_err-root-clause-err : goal.returns-in_err-root-clause-err
 returns-in_err-root-clause-err g c =
@@ -59,3 +66,16 @@ returns-clause-ok g c =
           (meaning_is K V E g.met.K.Portable.laws g.met.V.Portable.laws c.requires.fitting g.KU.Archive.archival g.VU.Archive.archival key value g.met.KU.Archive.archived g.met.VU.Archive.archived items)
           (omega (arith, n, count, some)) (omega (arith, n, count, c.requires.small)) built;
     }
+
+pub returns-in_err-root-clause-kept : goal.returns-in_err-root-clause-kept
+returns-in_err-root-clause-kept g c =
+    let p = err_from_is_err_and c.from_residual.result c.from_residual.ensures.1 in
+    rw p.1 (stops_begin (layout_of g.K.Portable.kind g.V.Portable.kind g.row.E) g.KU.Archive.archival g.VU.Archive.archival (g.W.Writer.state c.args.writer.now) (planned_alone g.row.E (map now_of c.deref.result.now)) c.in_err-root.field-0.0 (g.W.Writer.state c.write_child.new.writer) c.in_err-root.ensures.err)
+
+pub returns-then-more-ne0-clause-kept : goal.returns-then-more-ne0-clause-kept
+returns-then-more-ne0-clause-kept g c =
+    child_begins (layout_of g.K.Portable.kind g.V.Portable.kind g.row.E) g.KU.Archive.archival g.VU.Archive.archival (g.W.Writer.state c.args.writer.now) (planned_alone g.row.E (map now_of c.deref.result.now)) c.in_ok-root.root (g.W.Writer.state c.write_child.new.writer) c.in_ok-root.ensures.ok
+
+pub returns-clause-went : goal.returns-clause-went
+returns-clause-went g c =
+    child_went (layout_of g.K.Portable.kind g.V.Portable.kind g.row.E) g.KU.Archive.archival g.VU.Archive.archival (g.W.Writer.state c.args.writer.now) (planned_alone g.row.E (map now_of c.deref.result.now)) c.in_ok-root.root (g.W.Writer.state c.write_child.new.writer) c.in_ok-root.ensures.ok
