@@ -1,3 +1,4 @@
+-- Laws that impls and callers cite: those of archived values, and of archived pairs.
 pub use Rattle.rkyv_btree_portable.specs.laws.Rounding
 pub use Rattle.rkyv_btree_portable.specs.laws.Refusing
 pub use Rattle.rkyv_btree_portable.specs.laws.Plain

@@ -11,7 +11,7 @@ module _ (K V : Kind) (E : ℕ) (b : List ℕ) (window : Window) (at : ℕ) wher
   abbrev pub IsMapIn : Window → Type 0
   IsMapIn left = (left.hi ≡ window.hi) × ((m : List (K.Value × V.Value)) × Accepted K V E b window.lo window.hi at left.lo m)
 
-  -- they have this fault
+  -- they are no map there, for this fact
   abbrev pub RefusesMapIn : Refusal → Type 0
   RefusesMapIn e = RefusesMap K V E b window.lo window.hi at e
 

@@ -1,2 +1,3 @@
+-- Functions and facts that mirror the code of a walk.
 pub mod Node
 pub mod Path
