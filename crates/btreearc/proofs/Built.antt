@@ -141,7 +141,7 @@ module _ {S : Type 0} (rest : S → List (ℕ × ℕ)) (entries : List (ℕ × �
   stopped_tree iter from fault t start h =
       let tree = planned_alone 5 h.entries in
       let stopped = child_stopped u32_kind u32_kind 5 u32_laws u32_laws numbers_fit (λ x. x) (λ x. x) (λ x. x < 2 ^ 32) (λ x. x < 2 ^ 32) (to_le_bytes w32) (to_le_bytes w32) u32_faithful.is_own u32_faithful.is_own nothing_written tree fault t (alone_shape h.entries)
-      (subst (λ (s : Writing). ChildStopped five numbers numbers s tree fault t) start h.stopped) in
+      (subst (λ (s : Writing). ChildStopped five numbers numbers s tree fault t) start (h.stopped h.entries h.claimed)) in
       subst (λ (c : Child OwnBytes). Stopped nothing_written (child_image five 0 c) fault t) (sym (alone_mapped own 5 h.entries)) stopped
 
   unbuilt_past : {X : Type 0} (xs : List (ℕ × ℕ)) (t : Writing) → length xs ≡ length entries → Stopped {E = X} nothing_written (tree_writes xs) PositionOverflow t → last_end < length (archive_of entries)

@@ -80,6 +80,12 @@ module _ (X : Type 0) {M N R S : Type 0} (s : NodeLayout) (KA : Archival M R) (V
 all_claimed : {M N : Type 0} (items : List (Bor M × Bor N)) (claim : ℕ) → length items ≡ claim → BeginClaimed items claim (map now_of items)
 all_claimed items claim n = record { later = []; parts = sym (append-nil (map now_of items)); count = length-map items now_of ∙ n }
 
+-- and of no other
+only_claimed : {M N : Type 0} (items : List (Bor M × Bor N)) (claim : ℕ) → length items ≡ claim → (xs : List (M × N)) → BeginClaimed items claim xs → xs ≡ map now_of items
+only_claimed items claim n xs b =
+    let none : b.later ≡ [] = nil_from_length b.later (omega (arith, n, b.count, ap length b.parts, length-append (map now_of items) b.later, length-map items now_of)) in
+    b.parts ∙ (ap (λ later. map now_of items ++ later) none ∙ append-nil (map now_of items))
+
 -- and some, but fewer, are the first of one
 some_claimed : {M N : Type 0} (items : List (Bor M × Bor N)) (claim : ℕ) → 0 < length items → length items ≤ claim → (xs : List (M × N)) × BeginClaimed items claim xs
 some_claimed [] claim some few = absurd (omega arith)
@@ -135,16 +141,21 @@ module _ {M N R S P : Type 0} (K V : Kind) (E : ℕ) (KA : Archival M R) (VA : A
         many = λ more. (place, subst (λ (zs : List (Bor M × Bor N)). ChildWritten (layout_of K V E) KA VA s (planned_alone E (map now_of zs)) place t) (sym taken) written);
       }
 
+  -- of as many items as claimed the list is the only one
+  each_stops : {X : Type 0} (claim : ℕ) (s : Writing) (fault : Fault X) (t : Writing) (items : List (Bor M × Bor N)) → length items ≡ claim → ChildStopped (layout_of K V E) KA VA s (planned_alone E (map now_of items)) fault t →
+      (xs : List (M × N)) → BeginClaimed items claim xs → ChildStopped (layout_of K V E) KA VA s (planned_alone E xs) fault t
+  each_stops {X} claim s fault t items n h xs b = subst (λ (ys : List (M × N)). ChildStopped (layout_of K V E) KA VA {E = X} s (planned_alone E ys) fault t) (sym (only_claimed items claim n xs b)) h
+
   -- which faults stop the building, and how
   pub refused_of : {X : Type 0} (iter : P) (claim : ℕ) (s : Writing) (fault : Fault X) (t : Writing) (items : List (Bor M × Bor N)) (rest : P) →
       Yields steps iter items rest → length items ≡ claim → ChildStopped (layout_of K V E) KA VA s (planned_alone E (map now_of items)) fault t → BuildFault K V E KA VA steps iter claim s fault t
   refused_of {X} iter claim s (Length m) t items rest y n h = absurd (uncounted_child X (layout_of K V E) KA VA m s (planned_alone E (map now_of items)) t h)
-  refused_of iter claim s LengthOverflow t items rest y n h = inr (record { items = items; rest = rest; taken = y; entries = map now_of items; claimed = all_claimed items claim n; stopped = h })
-  refused_of iter claim s PositionOverflow t items rest y n h = record { items = items; rest = rest; taken = y; entries = map now_of items; claimed = all_claimed items claim n; stopped = h }
-  refused_of iter claim s OffsetOverflow t items rest y n h = record { items = items; rest = rest; taken = y; entries = map now_of items; claimed = all_claimed items claim n; stopped = h }
-  refused_of iter claim s (Writer error) t items rest y n h = record { items = items; rest = rest; taken = y; entries = map now_of items; claimed = all_claimed items claim n; stopped = h }
-  refused_of iter claim s (Memory error) t items rest y n h = inr (record { items = items; rest = rest; taken = y; entries = map now_of items; claimed = all_claimed items claim n; stopped = h })
-  refused_of iter claim s (Entry fault) t items rest y n h = record { items = items; rest = rest; taken = y; entries = map now_of items; claimed = all_claimed items claim n; stopped = h }
+  refused_of {X} iter claim s LengthOverflow t items rest y n h = inr (record { items = items; rest = rest; taken = y; entries = map now_of items; claimed = all_claimed items claim n; stopped = each_stops {X = X} claim s LengthOverflow t items n h })
+  refused_of {X} iter claim s PositionOverflow t items rest y n h = record { items = items; rest = rest; taken = y; entries = map now_of items; claimed = all_claimed items claim n; stopped = each_stops {X = X} claim s PositionOverflow t items n h }
+  refused_of {X} iter claim s OffsetOverflow t items rest y n h = record { items = items; rest = rest; taken = y; entries = map now_of items; claimed = all_claimed items claim n; stopped = each_stops {X = X} claim s OffsetOverflow t items n h }
+  refused_of {X} iter claim s (Writer error) t items rest y n h = record { items = items; rest = rest; taken = y; entries = map now_of items; claimed = all_claimed items claim n; stopped = each_stops {X = X} claim s (Writer error) t items n h }
+  refused_of {X} iter claim s (Memory error) t items rest y n h = inr (record { items = items; rest = rest; taken = y; entries = map now_of items; claimed = all_claimed items claim n; stopped = each_stops {X = X} claim s (Memory error) t items n h })
+  refused_of {X} iter claim s (Entry fault) t items rest y n h = record { items = items; rest = rest; taken = y; entries = map now_of items; claimed = all_claimed items claim n; stopped = each_stops {X = X} claim s (Entry fault) t items n h }
 
 module _ {M N R S : Type 0} (K V : Kind) (E : ℕ) (k : IsLawful K) (v : IsLawful V) (fits : IsTrue (are_fitting K V E)) (KA : Archival M R) (VA : Archival N S) (key : Matches KA.kind K) (value : Matches VA.kind V) (ka : IsArchived KA) (va : IsArchived VA) where
   pub meaning_is : (xs : List (Bor M × Bor N)) → map (meant K V E k v fits KA VA key value ka va) (map now_of xs) ≡ map (meaning_of K V KA VA key value) xs

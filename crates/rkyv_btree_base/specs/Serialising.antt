@@ -53,15 +53,16 @@ module _ {M N R S P : Type 0} (K V : Kind) (E : ℕ) (KA : Archival M R) (VA : A
     pub built : Built (layout_of K V E) KA VA from (map now_of items) root t
     pub spelled : 0 < claim → (key : Matches KA.kind K) (value : Matches VA.kind V) → Spelled K V E from (map (meaning_of K V KA VA key value) items) root t
 
-  -- the items that the iterator gave are the first of a list of as many entries as claimed, and the writing of its tree
-  -- was stopped there
+  -- the items that the iterator gave are the first of a list of as many entries as claimed, and the writing of the tree of
+  -- each such list is stopped there
   pub record StoppedBuilding {X : Type 0} (iter : P) (claim : ℕ) (from : Writing) (fault : Fault X) (t : Writing) : Type 0 where
     pub items : List (Bor M × Bor N)
     pub rest : P
     pub taken : Yields steps iter items rest
     pub entries : List (M × N)
     pub claimed : BeginClaimed items claim entries
-    pub stopped : ChildStopped (layout_of K V E) KA VA from (planned_alone E entries) fault t
+    -- whatever the entries are that would come later, the iterator's own too
+    pub stopped : (xs : List (M × N)) → BeginClaimed items claim xs → ChildStopped (layout_of K V E) KA VA from (planned_alone E xs) fault t
 
   -- the iterator gave another number of items than the claim
   pub record Miscounted (iter : P) (claim expected actual : ℕ) (from t : Writing) : Type 0 where
