@@ -1,9 +1,9 @@
 # RT is the command of the Rattle kit.
 export RT ?= rt
 PROGRAM := crates/btreearc/out/btreearc
-TEXTS := crates/bench/out/bench
+MAPS := crates/bench/out/bench
 
-.PHONY: run test bench program texts
+.PHONY: run test bench program maps
 
 # Two lines become an archive, and the archive becomes the two lines again.
 run: program
@@ -20,17 +20,17 @@ run: program
 	cmp "$$work/lines" "$$work/listed"
 
 test:
-	$(RT) ci
+	@tools/gate.sh
 
-bench: program texts
+bench: program maps
 	@bench/program.sh $(PROGRAM)
-	@$(TEXTS) 100000
+	@set -e; for count in 1000 100000 1000000; do $(MAPS) $$count; done
 
 # rt proves the program and its libraries before it builds it, which takes minutes the first time; where nothing has changed it does neither.
 # The script says on standard error which crate is being proved.
 program:
 	@tools/program.sh btreearc build
 
-# The program that times maps of texts, built in the same way. Without an argument it does nothing.
-texts:
+# The program that times maps in memory, built in the same way. Without an argument it does nothing.
+maps:
 	@tools/program.sh bench

@@ -1,6 +1,9 @@
-//! Times a map of texts to numbers: building, checking and walking it, in nanoseconds an entry. Its one argument is the
-//! number of entries. Without one it does nothing.
+//! Times maps in memory, of so many entries as its one argument says: a map of texts to numbers, in nanoseconds an entry
+//! for building, checking and walking it, and look-ups in a map of numbers. Without an argument it does nothing.
 #![tactic(auto)]
+
+mod numbers;
+mod report;
 
 use anyhow::{Context, ensure};
 use rkyv_btree::map::access;
@@ -70,7 +73,11 @@ fn measure(rt: &HostRuntime, count: u32) -> anyhow::Result<()> {
 
 fn main(rt: HostRuntime) -> anyhow::Result<()> {
     match env::args(&rt)?.nth(1) {
-        Some(count) => measure(&rt, count.parse().context("no number of entries")?),
+        Some(count) => {
+            let count = count.parse().context("no number of entries")?;
+            measure(&rt, count)?;
+            numbers::measure(&rt, count)
+        }
         None => Ok(()),
     }
 }

@@ -1,10 +1,10 @@
 -- Digits at the front of a list.
-use Rattle.std.proofs.Common.{◌≡◌, ℕ, zero, suc, ◌+◌, ◌*◌, ◌-◌, ◌<◌, ◌≤◌, ◌^◌, List, [], ◌∷◌, ◌++◌, length, take, drop, get_or, refl, ap, sym, subst, ◌∙◌, arith, rules, inl, inr}
+use Rattle.std.proofs.Common.{◌≡◌, ℕ, zero, suc, ◌+◌, ◌*◌, ◌-◌, ◌<◌, ◌≤◌, ◌^◌, List, [], ◌∷◌, ◌++◌, length, take, drop, get_or, refl, ap, sym, subst, ◌∙◌, arith, rules, inl, inr, Option, Some, None, IfNone}
 use Rattle.std.specs.Int.{IsOutOfRange}
 use Rattle.std.proofs.lemmas.Str.Parse.{IsNumeralModel, numerals_by_fold, digits_value_short}
-use Rattle.std.proofs.lemmas.List.{take_more, take-append-drop, get_or_past}
+use Rattle.std.proofs.lemmas.List.{append-nil, take_more, take-append-drop, get_or_past}
 use Rattle.std.proofs.lemmas.Grind.{common_steps}
-use Rattle.btreearc.specs.Grammar.{IsDigit, AreDigits, value_after}
+use Rattle.btreearc.specs.Grammar.{IsDigit, AreDigits, IsNumber, value_after}
 use Rattle.btreearc.specs.Reading.{NoDigitFirst, NumberFirst}
 
 pub own : IsNumeralModel AreDigits (value_after 0)
@@ -100,3 +100,11 @@ none_past bytes len h d =
 pub out_of_range : (c : ℕ) → IsOutOfRange 48 57 c → IsDigit c → ⊥
 out_of_range c (inl h) d = omega (arith, d.0)
 out_of_range c (inr h) d = omega (arith, d.1)
+
+-- a number by itself is at the front, with nothing behind it
+pub whole_first : (bytes : List ℕ) (n : ℕ) → IsNumber bytes n → NumberFirst bytes n []
+whole_first bytes n is = record { digits = bytes; spelled = sym (append-nil bytes); is = is; ends = tt }
+
+pub if_none : {A P : Type 0} (o : Option A) → P → IfNone o P
+if_none None p = p
+if_none (Some x) p = tt

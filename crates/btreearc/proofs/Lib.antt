@@ -1,5 +1,6 @@
 pub mod Built
 pub mod Digits
+pub mod Found
 pub mod Listed
 pub mod Once
 pub mod Spelling

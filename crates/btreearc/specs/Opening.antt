@@ -1,10 +1,14 @@
 -- What an archive is, and why other bytes are refused.
-use Rattle.std.specs.Prelude.{ℕ, ◌-◌, List, length}
+use Rattle.std.specs.Prelude.{ℕ, ◌-◌, List, length, Option}
+use Rattle.std.specs.Option.{option_map}
+use Rattle.std.specs.Ordering.{nat_cmp}
 use Rattle.rkyv_btree_base.specs.Refusal.{Refusal}
 use Rattle.rkyv_btree_base.specs.Refusals.{RefusesMap}
 use Rattle.rkyv_btree_base.specs.Scalars.{u32_kind}
-use Rattle.rkyv_btree_base.specs.Read.{read_map}
+use Rattle.rkyv_btree_base.specs.Read.{entry_at, map_tree, read_map}
+use Rattle.rkyv_btree_base.specs.Layout.{layout_of}
 use Rattle.rkyv_btree_base.specs.Spells.{Accepted}
+use Rattle.rkyv_btree.specs.Search.{probe}
 
 -- the position of the root: the last eight bytes, or position 0 where there are fewer
 abbrev pub root_of : List ℕ → ℕ
@@ -21,3 +25,11 @@ RefusesArchive b refusal = RefusesMap u32_kind u32_kind 5 b 0 (root_of b) (root_
 -- the entries that are read of the map at a position
 abbrev pub entries_read : List ℕ → ℕ → List (ℕ × ℕ)
 entries_read b at = read_map u32_kind u32_kind 5 b at
+
+-- the entry of the map at a position that a search for a key asks and finds equal
+abbrev pub found_at : List ℕ → ℕ → ℕ → Option (ℕ × ℕ)
+found_at b at key = option_map (entry_at u32_kind u32_kind 5 b) (probe (λ e. nat_cmp key (entry_at u32_kind u32_kind 5 b e).0) (map_tree (layout_of u32_kind u32_kind 5) b at))
+
+-- that of an archive
+abbrev pub found_in_archive : List ℕ → ℕ → Option (ℕ × ℕ)
+found_in_archive b key = found_at b (root_of b) key

@@ -1,6 +1,6 @@
 //! Entries in lines of two numbers.
 ghost use Rattle.std.specs.Prelude.{◌≡◌, ℕ, ◌+◌, ◌<◌, ◌≤◌, List, [], ◌∷◌, ◌++◌, length, IfOk, OnOk, IfErr, IfSome, IfNone};
-ghost use Rattle.btreearc.specs.Grammar.{LineEnds, IsLines, BadLine};
+ghost use Rattle.btreearc.specs.Grammar.{LineEnds, IsLines, IsNumber, BadLine};
 ghost use Rattle.btreearc.specs.Reading.{NumberFirst, EntryFirst, Refuses, GivesEntries, GivesBadLine};
 
 use crate::fault::ProgramFault;
@@ -27,6 +27,15 @@ fn first_number(bytes: &[u8]) -> Option<(u32, &[u8])>
         return None;
     }
     Some((value as u32, &bytes[len..]))
+}
+
+/// The number that the bytes are.
+pub fn whole_number(bytes: &[u8]) -> Option<u32>
+    ensures found { IfSome result (IsNumber bytes.now) }
+    ensures none { IfNone result ((n : ℕ) → IsNumber bytes.now n → ⊥) }
+{
+    let (number, rest) = first_number(bytes)?;
+    if rest.is_empty() { Some(number) } else { None }
 }
 
 /// What is behind a space.

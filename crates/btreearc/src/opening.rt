@@ -2,7 +2,7 @@
 ghost use Rattle.std.specs.Prelude.{◌≡◌, ℕ, List, IfOk, IfErr, IsOk, Err};
 ghost use Rattle.rkyv_btree_base.specs.Refusal.{Refusal};
 ghost use Rattle.btreearc.specs.Faults.{IsOpenFault};
-ghost use Rattle.btreearc.specs.Opening.{IsArchive, RefusesArchive, entries_read};
+ghost use Rattle.btreearc.specs.Opening.{IsArchive, RefusesArchive, entries_read, root_of};
 
 use crate::fault::ProgramFault;
 use rkyv_btree::map::access;
@@ -25,6 +25,8 @@ const ROOT_SIZE: usize = 8;
 /// `Refused` by the first fact, in the order of checking, for which the bytes are no archive.
 #[tactic(auto, using(crate::proofs::Built::numbers_fit))]
 pub fn open(archive: &[u8]) -> Result<View<'_, Numbers>, ProgramFault>
+    ensures buffer { IfOk result (λ map. map.buf.now ≡ archive.now) }
+    ensures position { IfOk result (λ map. map.pos ≡ root_of archive.now) }
     ensures accepted { IfOk result (λ map.
         IsArchive archive.now (entries_read map.buf.now map.pos)) }
     ensures all_accepted { (entries : List (ℕ × ℕ)) → IsArchive archive.now entries → IsOk result }

@@ -1,11 +1,11 @@
 //! The commands over a reader and a writer.
-ghost use Rattle.std.specs.Prelude.{◌≡◌, codes, Err, OnOk};
+ghost use Rattle.std.specs.Prelude.{◌≡◌, ℕ, codes, Err, OnOk};
 ghost use Rattle.std.specs.Io.KnownBytes.{IsAtEnd};
-ghost use Rattle.btreearc.specs.Commands.{IsWord, IsNoCommand, Builds, Lists, Checks};
+ghost use Rattle.btreearc.specs.Commands.{IsWord, IsWordAndNumber, IsNoCommand, Builds, Lists, Checks, Gets};
 
 use crate::build;
 use crate::fault::ProgramFault;
-use crate::lines::parse_lines;
+use crate::lines::{parse_lines, whole_number};
 use crate::listing::write_entries;
 use crate::opening::open;
 use crate::streams::{read_all, write_all};
@@ -31,11 +31,19 @@ pub fn run<R: Read, W: Write>(
         Lists (R.remaining input.old) (W.contents output.old) (W.contents output.new) result }
     ensures check { IsWord (codes "check") args.now →
         Checks (R.remaining input.old) (W.contents output.old) (W.contents output.new) result }
+    ensures get { (key : ℕ) → IsWordAndNumber (codes "get") key args.now →
+        Gets key (R.remaining input.old) (W.contents output.old) (W.contents output.new) result }
     ensures usage { IsNoCommand args.now → result ≡ Err ProgramFault.Usage }
     ensures unread { IsNoCommand args.now → R.remaining input.new ≡ R.remaining input.old }
     ensures unwritten { IsNoCommand args.now → W.contents output.new ≡ W.contents output.old }
     ensures end { OnOk result (IsAtEnd (R.remaining input.new)) }
 {
+    if let [word, key] = args {
+        return match whole_number(key.as_str().as_bytes()) {
+            Some(key) if word.as_str() == "get" => get(alloc, key, input, output),
+            _ => Err(ProgramFault::Usage),
+        };
+    }
     let [word] = args else {
         return Err(ProgramFault::Usage);
     };
@@ -111,6 +119,33 @@ fn check<R: Read, W: Write>(
     let count = open(&archive)?.len();
     let mut text = String::new(alloc);
     if writeln!(text, "ok {count} entries").is_err() {
+        return Err(ProgramFault::Memory);
+    }
+    write_all(output, text.as_str().as_bytes())?;
+    Ok(0)
+}
+
+/// Writes the value of the entry whose key is this, and answers 1 where a search of the input's archive finds none.
+///
+/// # Errors
+///
+/// `Refused` for the first fact for which the input is no archive, and `InputFailed`, `OutputFailed` or `Memory`.
+fn get<R: Read, W: Write>(
+    alloc: Global,
+    key: u32,
+    input: &mut R,
+    output: &mut W,
+) -> Result<u8, ProgramFault>
+    ensures done { Gets key (R.remaining input.old) (W.contents output.old)
+        (W.contents output.new) result }
+    ensures end { OnOk result (IsAtEnd (R.remaining input.new)) }
+{
+    let archive = read_all(alloc, input)?;
+    let Some(value) = open(&archive)?.get_by(key) else {
+        return Ok(1);
+    };
+    let mut text = String::new(alloc);
+    if writeln!(text, "{}", value.to_native()).is_err() {
         return Err(ProgramFault::Memory);
     }
     write_all(output, text.as_str().as_bytes())?;

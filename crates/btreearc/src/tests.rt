@@ -101,7 +101,62 @@ fn two_entries_keep_their_order(rt: HostRuntime) -> Result<(), Fail> {
     two[44] = 2;
     two[52] = 2;
     writes(&rt, alloc, &["build"], b"1 10\n2 20\n", &two)?;
-    writes(&rt, alloc, &["list"], &two, b"1 10\n2 20\n")
+    writes(&rt, alloc, &["list"], &two, b"1 10\n2 20\n")?;
+    writes(&rt, alloc, &["check"], &two, b"ok 2 entries\n")
+}
+
+/// Looking the key up in the archive writes this, with this status.
+fn gets(
+    rt: &impl Abort,
+    alloc: Global,
+    archive: &[u8],
+    key: &str,
+    expected: &[u8],
+    status: u8,
+) -> Result<(), Fail> {
+    let args = words_of(alloc, &["get", key])?;
+    let mut input = archive;
+    let mut output = Vec::new(alloc);
+    assert_eq!(rt; run(alloc, &args, &mut input, &mut output)?, status);
+    assert_eq!(rt; output.as_slice(), expected);
+    Ok(())
+}
+
+#[test]
+fn a_value_is_got_by_its_key(rt: HostRuntime) -> Result<(), Fail> {
+    let alloc = rt.alloc();
+    let two = built(&rt, alloc, "1 10\n2 20\n")?;
+    gets(&rt, alloc, &two, "2", b"20\n", 0)?;
+    gets(&rt, alloc, &two, "0000000001", b"10\n", 0)?;
+    gets(&rt, alloc, &two, "3", b"", 1)?;
+    gets(&rt, alloc, &two, "0", b"", 1)?;
+    gets(&rt, alloc, &SEVEN, "7", b"11\n", 0)?;
+    let many = built(&rt, alloc, lines(alloc, 215)?.as_str())?;
+    gets(&rt, alloc, &many, "215", b"2150\n", 0)?;
+    gets(&rt, alloc, &many, "216", b"", 1)?;
+    let none = built(&rt, alloc, "")?;
+    gets(&rt, alloc, &none, "1", b"", 1)
+}
+
+// The search of a node stops at the first key that it isn't past.
+#[test]
+fn what_is_out_of_order_may_not_be_found(rt: HostRuntime) -> Result<(), Fail> {
+    let alloc = rt.alloc();
+    let unordered = built(&rt, alloc, "3 30\n1 10\n2 20\n")?;
+    gets(&rt, alloc, &unordered, "3", b"30\n", 0)?;
+    gets(&rt, alloc, &unordered, "1", b"", 1)
+}
+
+#[test]
+fn a_key_is_a_number(rt: HostRuntime) -> Result<(), Fail> {
+    let alloc = rt.alloc();
+    for key in ["", "x", "1x", "+1", " 1", "4294967296", "00000000001"] {
+        fails(&rt, alloc, &["get", key], &SEVEN, USAGE)?;
+    }
+    fails(&rt, alloc, &["get"], &SEVEN, USAGE)?;
+    fails(&rt, alloc, &["get", "7", "7"], &SEVEN, USAGE)?;
+    let refused = "btreearc: refused: position 0 is out of range";
+    fails(&rt, alloc, &["get", "7"], b"", refused)
 }
 
 #[test]
@@ -185,6 +240,20 @@ fn archives_of_every_height_are_listed_and_counted(rt: HostRuntime) -> Result<()
     Ok(())
 }
 
+// 50000 lines of 22 bytes.
+#[test]
+fn an_output_of_more_than_a_megabyte_is_whole(rt: HostRuntime) -> Result<(), Fail> {
+    let alloc = rt.alloc();
+    let mut text = String::new(alloc);
+    for _ in 0..50000 {
+        text.push_str("4294967295 4294967295\n")?;
+    }
+    assert_eq!(rt; text.len(), 1_100_000);
+    let archive = built(&rt, alloc, text.as_str())?;
+    writes(&rt, alloc, &["list"], &archive, text.as_str().as_bytes())?;
+    writes(&rt, alloc, &["check"], &archive, b"ok 50000 entries\n")
+}
+
 /// Six entries in two nodes: a leaf of the first, and the root over it.
 #[test]
 fn six_entries_have_two_nodes(rt: HostRuntime) -> Result<(), Fail> {
@@ -225,6 +294,7 @@ fn what_is_no_archive_is_refused(rt: HostRuntime) -> Result<(), Fail> {
     let alloc = rt.alloc();
     let out = "btreearc: refused: position 0 is out of range";
     fails(&rt, alloc, &["list"], b"", out)?;
+    fails(&rt, alloc, &["check"], b"", out)?;
     fails(&rt, alloc, &["list"], &SEVEN[..7], out)?;
     let odd = "btreearc: refused: position 1 is misaligned";
     fails(&rt, alloc, &["list"], &SEVEN[..9], odd)?;

@@ -1,14 +1,16 @@
 -- Versions: what their bytes mean, and what archiving them does.
 use Rattle.std.specs.Prelude.{◌≡◌, ℕ, Bool, false, not, ◌&&◌, IsTrue, List, [], ◌∷◌, ◌++◌, nat_eq, slice_index}
+use Rattle.std.specs.Cmp.{IsTotalOrder, nat_cmp_total, on_total, then_total}
 use Rattle.std.specs.Hash as fed
 use Rattle.std.specs.Ordering.{nat_cmp, ordering_then}
 use Rattle.std.proofs.Common.{refl, arith}
 use Rattle.rkyv_btree_base.specs.Archiving.{Archival, IsArchived, own_archival}
+use Rattle.rkyv_btree_base.specs.Causes.{HasCauses}
 use Rattle.rkyv_btree_base.specs.laws.Plain.{plain_own, plain_laws}
 use Rattle.rkyv_btree_base.specs.Kind.{Kind, IsLawful}
 use Rattle.rkyv_btree_base.specs.Plain.{Plain, plain_kind}
 use Rattle.rkyv_btree_base.specs.Rounding.{one}
-use Rattle.rkyv_btree_base.proofs.Archiving.{archived_where}
+use Rattle.rkyv_btree_base.proofs.Archiving.{archived_where, own_causes}
 use Rattle.rkyv_btree_base.specs.EntryFault.{EntryFault}
 use Rattle.examples.specs.declared.version.Version.{Version}
 
@@ -19,6 +21,10 @@ is_version v = not (nat_eq v.major 0 && nat_eq v.minor 0 && nat_eq v.patch 0)
 -- what three bytes say: the major, the minor and the patch number
 abbrev pub version_of : List ℕ → Version
 version_of bytes = record { major = slice_index bytes 0; minor = slice_index bytes 1; patch = slice_index bytes 2 }
+
+-- the version of three numbers
+abbrev pub version_by : ℕ × ℕ × ℕ → Version
+version_by numbers = record { major = numbers.0; minor = numbers.1; patch = numbers.2 }
 
 -- its three bytes
 abbrev pub bytes_of : Version → List ℕ
@@ -40,6 +46,9 @@ version = record {
 abbrev pub version_kind : Kind
 version_kind = plain_kind version
 
+pub version_total : IsTotalOrder version_kind.order
+version_total = then_total (on_total (λ v. v.major) nat_cmp_total) (then_total (on_total (λ v. v.minor) nat_cmp_total) (on_total (λ v. v.patch) nat_cmp_total))
+
 pub version_laws : IsLawful version_kind
 version_laws = plain_laws version one refl (omega arith)
 
@@ -59,3 +68,6 @@ version_archival = own_archival version_kind (λ v. v) IsVersion bytes_of Refuse
 
 pub version_archived : IsArchived version_archival
 version_archived = archived_where version_kind (λ v. v) IsVersion bytes_of Refuses (λ v valid. plain_own version (bytes_of v) refl valid) (λ v valid. refl)
+
+pub version_causes : HasCauses version_archival
+version_causes = own_causes version_kind (λ v. v) IsVersion bytes_of Refuses

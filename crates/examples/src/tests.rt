@@ -1,7 +1,7 @@
 //! Maps of versions, as a program archives and reads them, and a map that is built in a heap of one's own.
 use crate::version::{ArchivedVersion, NO_VERSION, Version};
 use linked_list_allocator::LocalHeap;
-use rkyv_btree::base::fault::{EntryFault, Fault};
+use rkyv_btree::base::fault::{EntryFault, Fault, IteratorLengthMismatch};
 use rkyv_btree::base::layout;
 use rkyv_btree::base::map::ArchivedBTreeMap;
 use rkyv_btree::base::numbers::ArchivedU32;
@@ -60,6 +60,43 @@ fn versions_are_archived_and_read(rt: HostRuntime) -> Result<(), Fail> {
         left = rest;
     }
     assert!(rt; left.is_empty());
+    Ok(())
+}
+
+#[test]
+fn versions_are_looked_up(rt: HostRuntime) -> Result<(), Fail> {
+    let releases = [
+        (version(0, 9, 1), 2019),
+        (version(1, 0, 0), 2020),
+        (version(1, 2, 10), 2023),
+    ];
+    let mut writer = VecWriter::new(rt.alloc());
+    let pos = archive(&rt, rt.alloc(), &releases, &mut writer)?;
+    assert!(rt; layout::fits::<ArchivedVersion, ArchivedU32, 2>());
+    let opened = access::<ArchivedVersion, ArchivedU32, 2>(writer.bytes(), pos);
+    let map = opened.expect(&rt, "a map");
+    let rows = [
+        (version(0, 9, 0), None),
+        (version(0, 9, 1), Some(2019)),
+        (version(1, 0, 0), Some(2020)),
+        (version(1, 2, 9), None),
+        (version(1, 2, 10), Some(2023)),
+        (version(1, 10, 0), None),
+        (version(0, 0, 0), None),
+    ];
+    for (wanted, year) in rows {
+        let found = map.get_by(wanted).map(|value| value.to_native());
+        assert_eq!(rt; found, year);
+        let numbers = (wanted.major, wanted.minor, wanted.patch);
+        let found = map.get_by(numbers).map(|value| value.to_native());
+        assert_eq!(rt; found, year);
+        assert_eq!(rt; map.contains_by(wanted), year.is_some());
+    }
+    assert!(rt; map.contains_by((1, 0, 0)));
+    for (key, value) in map.iter() {
+        let found = map.get(key).map(|value| value.to_native());
+        assert_eq!(rt; found, Some(value.to_native()));
+    }
     Ok(())
 }
 
@@ -159,4 +196,27 @@ fn a_refused_growth_writes_nothing(rt: HostRuntime) -> Result<(), Fail> {
         assert_eq!(rt; heap.used(), 0);
     }
     Err("no heap had room".into())
+}
+
+// The heap has no room at all, so that every growth is refused.
+#[test]
+fn a_claim_of_nothing_takes_no_memory(rt: HostRuntime) -> Result<(), Fail> {
+    assert!(rt; layout::fits::<ArchivedVersion, ArchivedU32, 2>());
+    let heap = LocalHeap::new(rt.alloc(), 0)?;
+    let mut writer = VecWriter::from_vec([0xAA].to_vec(rt.alloc())?);
+    let releases = [(version(0, 9, 1), 2019u32), (version(1, 0, 0), 2020)];
+    let one = releases[..1].iter().map(|release| (&release.0, &release.1));
+    let refused = Releases::serialize_from_ordered_iter(&heap, 1, one, &mut writer);
+    assert!(rt; matches!(refused, Err(Fault::Memory(_))));
+    let none = releases[..0].iter().map(|release| (&release.0, &release.1));
+    assert!(rt; Releases::serialize_from_ordered_iter(&heap, 0, none, &mut writer).is_ok());
+    let two = releases.iter().map(|release| (&release.0, &release.1));
+    let refused = Releases::serialize_from_ordered_iter(&heap, 0, two, &mut writer);
+    let wrong = IteratorLengthMismatch {
+        expected: 0,
+        actual: 2,
+    };
+    assert!(rt; matches!(refused, Err(Fault::Length(mismatch)) if mismatch == wrong));
+    assert_eq!(rt; writer.bytes(), [0xAA].as_slice());
+    Ok(())
 }

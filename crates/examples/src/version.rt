@@ -1,11 +1,12 @@
 //! Versions as keys and values: what it takes to join.
 ghost use Rattle.std.specs.Prelude.{◌≡◌, ◌+◌, ◌≤◌, length, not, false, IsTrue, OnOk, OnErr, IfErr};
-ghost use Rattle.examples.specs.Version.{is_version, no_version, bytes_of, version_of, version_kind, version_laws, version_archival, version_archived};
+ghost use Rattle.examples.specs.Version.{is_version, no_version, bytes_of, version_of, version_by, version_kind, version_total, version_laws, version_archival, version_archived, version_causes};
 ghost use Rattle.rkyv_btree_base.specs.Archiving.{IsUnresolved, itself};
 ghost use Rattle.rkyv_btree_base.specs.Bytes.{bytes_at};
 ghost use Rattle.rkyv_btree_base.specs.Refusing.{RefusesWhole};
 ghost use Rattle.rkyv_btree_base.specs.laws.Refusing.{whole_refusals};
 ghost use Rattle.rkyv_btree.specs.Native.{as_itself};
+ghost use Rattle.rkyv_btree.specs.laws.Cuts.{order_compares};
 
 use rkyv_btree::base::archive::{Archive, Serialize};
 use rkyv_btree::base::check::{CheckBytes, Portable, Window, check_place};
@@ -13,7 +14,9 @@ use rkyv_btree::base::fault::{EntryFault, Fault, ResolveFault};
 use rkyv_btree::base::place::{Place, Writer};
 use rkyv_btree::base::refusal::Refusal;
 use rkyv_btree::native::ToNative;
+use rkyv_btree::query::CompareWith;
 use rkyv_btree::view::View;
+use std::cmp::Ordering;
 
 /// A version. 0.0.0 is none: it refuses to be archived.
 #[derive(Clone, Copy, Debug, PartialEq, Eq, PartialOrd, Ord, Hash)]
@@ -110,6 +113,8 @@ impl Archive for Version {
     ghost lawful = { version_laws };
 
     ghost archived = { version_archived };
+
+    ghost causes = { version_causes };
 }
 
 impl<W: Writer, A: Drop> Serialize<W, A> for Version {
@@ -137,4 +142,23 @@ impl ToNative for ArchivedVersion {
     }
 
     ghost reads = { as_itself version_kind };
+}
+
+// A version is looked up by another one, as `ToNative` has it, and by its three numbers.
+impl CompareWith<(u8, u8, u8)> for ArchivedVersion {
+    ghost compared_at = { λ numbers b at.
+        version_kind.order (version_by numbers) (version_kind.read b at) };
+
+    /// How the version of three numbers compares to the one that the view reads.
+    fn compare_with(numbers: &(u8, u8, u8), view: &View<'_, ArchivedVersion>) -> Ordering {
+        let (major, minor, patch) = *numbers;
+        let version = Version {
+            major,
+            minor,
+            patch,
+        };
+        version.cmp(&view.to_native())
+    }
+
+    ghost compares = { order_compares version_kind version_total version_by };
 }

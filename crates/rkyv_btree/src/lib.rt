@@ -24,6 +24,11 @@ pub mod iter {
     pub use rkyv_btree_view::iter::Iter;
 }
 
+/// What is known of look-ups.
+pub mod lookup {
+    pub use rkyv_btree_view::lookup::increasing_keys_are_found;
+}
+
 /// Archived maps, read in place.
 pub mod map {
     pub use rkyv_btree_view::map::{access, access_valid};
@@ -33,6 +38,12 @@ pub mod map {
 /// Archived types whose values are native ones.
 pub mod native {
     pub use rkyv_btree_view::native::ToNative;
+}
+
+/// Native values with which archived keys are compared.
+pub mod query {
+    pub use rkyv_btree_view::query::CompareWith;
+    pub use rkyv_btree_walk::search::Compared;
 }
 
 /// Values in a buffer.

@@ -5,28 +5,25 @@ use Rattle.std.proofs.lemmas.List.{length-append, length-map, length-replicate, 
 use Rattle.rkyv_btree_writer.specs.Archiving.{Archival, IsArchived, Matches}
 use Rattle.rkyv_btree_portable.specs.Bytes.{Holds}
 use Rattle.rkyv_btree_writer.specs.Padding.{padding}
-use Rattle.rkyv_btree_base.specs.Image.{leaf_image, inner_image, root_bytes, root_reaches}
-use Rattle.rkyv_btree_portable.specs.InPlace.{OwnBytes}
+use Rattle.rkyv_btree_base.specs.Image.{root_bytes, root_reaches}
 use Rattle.rkyv_btree_portable.specs.Kind.{Kind, IsLawful}
-use Rattle.rkyv_btree_format.specs.Layout.{NodeLayout, layout_of, are_fitting, leaf_size, inner_size}
+use Rattle.rkyv_btree_format.specs.Layout.{NodeLayout, layout_of, are_fitting}
 use Rattle.rkyv_btree_shape.specs.Plan.{plan, planned_alone}
 use Rattle.rkyv_btree_portable.specs.Rounding.{round_up}
 use Rattle.rkyv_btree_base.specs.Begun.{TreeBegun, RowBegun, ChildBegun, between}
 use Rattle.rkyv_btree_base.specs.Serialising.{meaning_of, BeginClaimed, Built, Spelled, Miscounted, BuildFault, RootFault}
 use Rattle.rkyv_btree_format.specs.Spells.{Spells}
-use Rattle.rkyv_btree_shape.specs.Tree.{Tree, leaf, inner, Row, last, step, Child, absent, child, row_entries, list}
+use Rattle.rkyv_btree_shape.specs.Tree.{Tree, leaf, inner, Row, last, step, Child, absent, child, list}
 use Rattle.rkyv_btree_writer.specs.Writing.{Writing, position, Write, Wrote, Refused, last_end}
-use Rattle.rkyv_btree_base.specs.Entries.{AreUnserialised, as_fault, now_of}
-use Rattle.rkyv_btree_base.specs.Written.{NodeStopped, in_entries, in_padding, past_end, in_own_bytes, in_node, TreeStopped, RowStopped, ChildStopped, ChildWritten}
+use Rattle.rkyv_btree_base.specs.Entries.{now_of}
+use Rattle.rkyv_btree_base.specs.Written.{ChildStopped, ChildWritten}
 use Rattle.rkyv_btree_format.proofs.Sizes.{room_of}
-use Rattle.rkyv_btree_writer.specs.declared.fault.IteratorLengthMismatch.{IteratorLengthMismatch}
 use Rattle.rkyv_btree_writer.specs.declared.fault.Fault.{Fault}
 use Rattle.rkyv_btree_writer.specs.declared.fault.Fault.TheVariants.{Length, LengthOverflow, PositionOverflow, OffsetOverflow, Writer, Memory, Entry}
-use Rattle.rkyv_btree_writer.specs.declared.fault.ResolveFault.{ResolveFault}
-use Rattle.rkyv_btree_writer.specs.declared.fault.ResolveFault.TheVariants as resolving
 use Rattle.rkyv_btree_base.proofs.EntriesWritten.{meant, since}
 use Rattle.rkyv_btree_shape.proofs.Mapped.{map_tree, plan_mapped, list_mapped, height_mapped}
 use Rattle.rkyv_btree_shape.proofs.Smallest.{plan_is_left_complete, left_complete_is_smallest}
+use Rattle.rkyv_btree_base.proofs.Untold.{uncounted}
 use Rattle.rkyv_btree_base.proofs.TreesWritten.{tree_grown, tree_spelled}
 use Rattle.rkyv_btree_writer.proofs.WriteRuns.{stopped-behind, stopped-one}
 
@@ -41,40 +38,6 @@ Drains-behind steps s (x ∷ xs) t ys y d =
 pub drained : {S A : Type 0} (steps : S → Option A → S → Type 0) (s : S) (xs : List A) (t : S) (ys : List A) (n : ℕ) → Yields steps s xs t → Drains steps t ys → n ≡ length ys → n ≡ 0 → Drains steps s xs
 drained steps s xs t ys n y d is none =
     subst (Drains steps s) (ap (λ zs. xs ++ zs) (nil_from_length ys (sym is ∙ none)) ∙ append-nil xs) (Drains-behind steps s xs t ys y d)
-
--- a tree isn't stopped by a wrong count
-module _ (X : Type 0) {M N R S : Type 0} (s : NodeLayout) (KA : Archival M R) (VA : Archival N S) (m : IteratorLengthMismatch) where
-  uncounted_entries : (from : Writing) (xs : List (M × N)) (t : Writing) → AreUnserialised KA VA {E = X} from xs (Length m) t → ⊥
-  uncounted_entries from [] t h = h
-  uncounted_entries from (x ∷ xs) t (inl h) = h
-  uncounted_entries from (x ∷ xs) t (inr (inl h)) = h.3
-  uncounted_entries from (x ∷ xs) t (inr (inr h)) = uncounted_entries h.3 xs t h.6
-
-  uncounted_cause : (cause : ResolveFault) (fault : Fault X) → fault ≡ Length m → fault ≡ as_fault cause → ⊥
-  uncounted_cause resolving.LengthOverflow fault e h = absurd (cc (sym e ∙ h))
-  uncounted_cause resolving.OffsetOverflow fault e h = absurd (cc (sym e ∙ h))
-
-  uncounted_node : (image : ℕ → List OwnBytes → List Write) (size : ℕ) (from : Writing) (xs : List (M × N)) (t : Writing) → NodeStopped s KA VA {E = X} image size from xs (Length m) t → ⊥
-  uncounted_node image size from xs t (in_entries h) = uncounted_entries from xs t h
-  uncounted_node image size from xs t (in_padding keys values mid h stopped) = stopped.refused
-  uncounted_node image size from xs t (past_end keys values h e past) = absurd (cc e)
-  uncounted_node image size from xs t (in_own_bytes keys values h cause e u) = uncounted_cause cause (Length m) refl e
-  uncounted_node image size from xs t (in_node root owns mid h stopped) = stopped.refused
-
-  mutual
-    uncounted_tree : (from : Writing) (tree : Tree (M × N)) (t : Writing) → TreeStopped s KA VA {E = X} from tree (Length m) t → ⊥
-    uncounted_tree from (leaf xs) t h = uncounted_node (leaf_image s) (leaf_size s) from xs t h
-    uncounted_tree from (inner row) t (inl h) = uncounted_row from row t h
-    uncounted_tree from (inner row) t (inr h) = uncounted_node (λ (at : ℕ) (owns : List OwnBytes). inner_image s at owns h.0) (inner_size s) h.1 (row_entries row) t h.3
-
-    uncounted_row : (from : Writing) (row : Row (M × N)) (t : Writing) → RowStopped s KA VA {E = X} from row (Length m) t → ⊥
-    uncounted_row from (last c) t h = uncounted_child from c t h
-    uncounted_row from (step c x row) t (inl h) = uncounted_child from c t h
-    uncounted_row from (step c x row) t (inr h) = uncounted_row h.1 row t h.3
-
-    uncounted_child : (from : Writing) (c : Child (M × N)) (t : Writing) → ChildStopped s KA VA {E = X} from c (Length m) t → ⊥
-    uncounted_child from absent t h = h
-    uncounted_child from (child tree) t h = uncounted_tree from tree t h
 
 -- as many items as claimed are a list of as many entries
 all_claimed : {M N : Type 0} (items : List (Bor M × Bor N)) (claim : ℕ) → length items ≡ claim → BeginClaimed items claim (map now_of items)
@@ -149,7 +112,7 @@ module _ {M N R S P : Type 0} (K V : Kind) (E : ℕ) (KA : Archival M R) (VA : A
   -- which faults stop the building, and how
   pub refused_of : {X : Type 0} (iter : P) (claim : ℕ) (s : Writing) (fault : Fault X) (t : Writing) (items : List (Bor M × Bor N)) (rest : P) →
       Yields steps iter items rest → length items ≡ claim → ChildStopped (layout_of K V E) KA VA s (planned_alone E (map now_of items)) fault t → BuildFault K V E KA VA steps iter claim s fault t
-  refused_of {X} iter claim s (Length m) t items rest y n h = absurd (uncounted_child X (layout_of K V E) KA VA m s (planned_alone E (map now_of items)) t h)
+  refused_of {X} iter claim s (Length m) t items rest y n h = absurd (uncounted X (layout_of K V E) KA VA s (planned_alone E (map now_of items)) t m h)
   refused_of {X} iter claim s LengthOverflow t items rest y n h = inr (record { items = items; rest = rest; taken = y; entries = map now_of items; claimed = all_claimed items claim n; stopped = each_stops {X = X} claim s LengthOverflow t items n h })
   refused_of {X} iter claim s PositionOverflow t items rest y n h = record { items = items; rest = rest; taken = y; entries = map now_of items; claimed = all_claimed items claim n; stopped = each_stops {X = X} claim s PositionOverflow t items n h }
   refused_of {X} iter claim s OffsetOverflow t items rest y n h = record { items = items; rest = rest; taken = y; entries = map now_of items; claimed = all_claimed items claim n; stopped = each_stops {X = X} claim s OffsetOverflow t items n h }

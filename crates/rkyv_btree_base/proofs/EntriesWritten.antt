@@ -107,7 +107,7 @@ value_spelled : {X R : Type 0} (T : Archival X R) (K : Kind) (match : Matches T.
     IsSerialised T s x r t → T.Resolves x r at own → HeldSince b s t → Holds b at own → length b ≤ 4294967295 → lo ≤ position s → position t ≤ hi → hi ≤ at → at + K.size ≤ length b → IsAligned K.align at → (left : ℕ) × K.Means b lo hi at left (match.to (T.meaning x)) × (left ≤ position t) × (lo ≤ left)
 value_spelled T K match law k b lo hi s t x r at own h resolves held there short low high before inside aligned =
     let end = grown-position s t (grown-wrote s t h.writes h.wrote) in
-    let meant = (law x (position s) at h.writes r own h.allowed resolves).1 b short (subst (λ (n : ℕ). IsAligned n at) (sym match.align) aligned) (omega (arith, end)) (omega (arith, match.size)) (held-wrote b s t h.writes h.wrote held) there in
+    let meant = (law x (position s) at h.writes r own h.is_in h.allowed resolves).1 b short (subst (λ (n : ℕ). IsAligned n at) (sym match.align) aligned) (omega (arith, end)) (omega (arith, match.size)) (held-wrote b s t h.writes h.wrote held) there in
     let here = match.means b (position s) (position s + length (appended h.writes)) at meant.0 (T.meaning x) meant.1 in
     let lies = k.lies b (position s) (position s + length (appended h.writes)) at meant.0 (match.to (T.meaning x)) here in
     let wide = k.widens b (position s) (position s + length (appended h.writes)) at meant.0 lo hi (match.to (T.meaning x)) low (omega (arith, end)) before here in
@@ -123,8 +123,8 @@ module _ {M N R S : Type 0} (K V : Kind) (E : ℕ) (k : IsLawful K) (v : IsLawfu
   sizes from p q [] owns to h = (ap length h.1, ap (λ z. length (keys_of z)) h.1 ∙ omega arith, ap (λ z. length (values_of z)) h.1 ∙ omega arith)
   sizes from p q (x ∷ xs) owns to h =
       let more = sizes h.3 (p + KA.kind.size) (q + VA.kind.size) xs h.1 to h.10 in
-      let one = (ka x.0 (position from) p h.6.writes h.4 h.0.0 h.6.allowed h.7).0 in
-      let two = (va x.1 (position h.2) q h.8.writes h.5 h.0.1 h.8.allowed h.9).0 in (
+      let one = (ka x.0 (position from) p h.6.writes h.4 h.0.0 h.6.is_in h.6.allowed h.7).0 in
+      let two = (va x.1 (position h.2) q h.8.writes h.5 h.0.1 h.8.is_in h.8.allowed h.9).0 in (
         ap length h.11 ∙ omega (arith, more.0),
         ap (λ z. length (keys_of z)) h.11 ∙ omega (arith, length-append h.0.0 (keys_of h.1), one, key.size, more.1),
         ap (λ z. length (values_of z)) h.11 ∙ omega (arith, length-append h.0.1 (values_of h.1), two, value.size, more.2),
@@ -153,8 +153,8 @@ module _ {M N R S : Type 0} (K V : Kind) (E : ℕ) (k : IsLawful K) (v : IsLawfu
       let value_room : (i + 1) * V.size ≤ E * V.size = room.value_at (i + 1) (omega arith) in
       let hk : Holds b ak (h.0.0 ++ keys_of h.1) = subst (λ (z : List OwnBytes). Holds b ak (keys_of z)) h.11 ks in
       let hv : Holds b av (h.0.1 ++ values_of h.1) = subst (λ (z : List OwnBytes). Holds b av (values_of z)) h.11 vs in
-      let one = (ka x.0 (position from) ak h.6.writes h.4 h.0.0 h.6.allowed h.7).0 in
-      let two = (va x.1 (position mid) av h.8.writes h.5 h.0.1 h.8.allowed h.9).0 in
+      let one = (ka x.0 (position from) ak h.6.writes h.4 h.0.0 h.6.is_in h.6.allowed h.7).0 in
+      let two = (va x.1 (position mid) av h.8.writes h.5 h.0.1 h.8.is_in h.8.allowed h.9).0 in
       let key_here = value_spelled KA K key ka k b lo p from mid x.0 h.4 ak h.0.0 h.6 h.7 a.0 (Holds-front b ak h.0.0 (keys_of h.1) hk) short low (omega (arith, p2, p3, high)) (omega (arith, ek)) (omega (arith, ek)) (subst (IsAligned K.align) (sym ek) (key_aligned K V E k v p i aligned)) in
       let value_here = value_spelled VA V value va v b key_here.0 p mid next x.1 h.5 av h.0.1 h.8 h.9 c.0 (Holds-front b av h.0.1 (values_of h.1) hv) short (omega (arith, key_here.2)) (omega (arith, p3, high)) (omega (arith, ev)) (omega (arith, ev)) (subst (IsAligned V.align) (sym ev) (value_aligned K V E k v p i aligned)) in
       let rest = entries_spelled b value_here.0 p (i + 1) (ak + KA.kind.size) (av + VA.kind.size) next xs h.1 to h.10 (omega (arith, ek, key.size)) (omega (arith, ev, value.size)) c.1 short (omega (arith, value_here.2)) high aligned (omega arith) inside

@@ -34,11 +34,11 @@ stopped-none s writes fault t none h = absurd (omega (arith, ap length (sym none
 
 module _ {X : Type 0} (kind : Kind) (meaning : X → kind.Value) (IsIn : X → Type 0) (own : X → List ℕ) where
   one_still : (s : Writing) (x : X) (r : Unit {0}) (t : Writing) → IsSerialised (plain_archival kind meaning IsIn own) s x r t → Wrote s [] t
-  one_still s x r t h = subst (λ (ws : List Write). Wrote s ws t) h.allowed.1 h.wrote
+  one_still s x r t h = subst (λ (ws : List Write). Wrote s ws t) h.allowed h.wrote
 
   never : {F : Type 0} (x : X) (s : Writing) (fault : Fault F) (t : Writing) → IsUnserialised (plain_archival kind meaning IsIn own) x s fault t → ⊥
   never x s (Length m) t h = h
-  never x s LengthOverflow t h = h.0
+  never x s LengthOverflow t h = h.0 tt 0
   never {F} x s PositionOverflow t h = stopped-none {X = F} s h.0 PositionOverflow t h.1 h.2
   never {F} x s OffsetOverflow t h = stopped-none {X = F} s h.0 OffsetOverflow t h.1 h.2
   never x s (Writer error) t h = stopped-none s h.0 (Writer error) t h.1 h.2

@@ -5,43 +5,40 @@ use Rattle.rkyv_btree_portable.specs.InPlace.{OwnBytes}
 use Rattle.rkyv_btree_format.specs.Layout.{NodeLayout, leaf_size, inner_size}
 use Rattle.rkyv_btree_shape.specs.Tree.{Tree, leaf, inner, Row, last, step, Child, absent, child, row_entries}
 use Rattle.rkyv_btree_writer.specs.Archiving.{Archival, BeginsWith, IsUnserialised}
-use Rattle.rkyv_btree_writer.specs.Writing.{Writing, Write, Appended, Wrote, Refused, Stopped, appended, position}
+use Rattle.rkyv_btree_writer.specs.Writing.{Writing, Write, Wrote, Refused, Stopped, appended, position}
 use Rattle.rkyv_btree_writer.specs.declared.fault.Fault.{Fault}
 use Rattle.rkyv_btree_writer.specs.declared.fault.Fault.TheVariants.{Length, LengthOverflow, PositionOverflow, OffsetOverflow, Writer, Memory, Entry}
 use Rattle.rkyv_btree_base.specs.Entries.{AreSerialised, AreUnserialised}
 use Rattle.rkyv_btree_base.specs.Image.{leaf_image, inner_image}
+use Rattle.rkyv_btree_base.specs.Kept.{OnlyAppended}
 use Rattle.rkyv_btree_base.specs.Written.{NodeWritten, NodeStopped, in_entries, in_padding, past_end, in_own_bytes, in_node, TreeWritten, RowWritten, ChildWritten, TreeStopped, RowStopped, ChildStopped}
 
 same_begins : (s t : Writing) → t ≡ s → BeginsWith t s
 same_begins s t e = subst (λ (u : Writing). BeginsWith u s) (sym e) (refl, ([], sym (append-nil s.contents)))
 
-then_begins : (s m t : Writing) → BeginsWith m s → BeginsWith t m → BeginsWith t s
+pub then_begins : (s m t : Writing) → BeginsWith m s → BeginsWith t m → BeginsWith t s
 then_begins s m t g h = (h.0 ∙ g.0, (g.1.0 ++ h.1.0, h.1.1 ∙ (ap (λ z. z ++ h.1.0) g.1.1 ∙ append_assoc s.contents g.1.0 h.1.0)))
 
-wrote_begins : (s : Writing) (writes : List Write) (t : Writing) → Wrote s writes t → BeginsWith t s
+pub wrote_begins : (s : Writing) (writes : List Write) (t : Writing) → Wrote s writes t → BeginsWith t s
 wrote_begins s writes t w = (w.done.base, (appended writes, w.done.contents))
 
--- bytes were appended, and no write failed
-abbrev pub Went : Writing → Writing → Type 0
-Went s t = (bytes : List ℕ) × Appended s bytes t
+went_nowhere : (s t : Writing) → t ≡ s → OnlyAppended s t
+went_nowhere s t e = subst (λ (u : Writing). OnlyAppended s u) (sym e) ([], record { base = refl; contents = sym (append-nil s.contents); failures = refl })
 
-went_nowhere : (s t : Writing) → t ≡ s → Went s t
-went_nowhere s t e = subst (λ (u : Writing). Went s u) (sym e) ([], record { base = refl; contents = sym (append-nil s.contents); failures = refl })
-
-went_on : (s m t : Writing) → Went s m → Went m t → Went s t
+went_on : (s m t : Writing) → OnlyAppended s m → OnlyAppended m t → OnlyAppended s t
 went_on s m t g h = (
   g.0 ++ h.0,
   record { base = h.1.base ∙ g.1.base; contents = h.1.contents ∙ (ap (λ z. z ++ h.0) g.1.contents ∙ append_assoc s.contents g.0 h.0); failures = h.1.failures ∙ g.1.failures },
 )
 
-wrote_went : (s : Writing) (writes : List Write) (t : Writing) → Wrote s writes t → Went s t
+wrote_went : (s : Writing) (writes : List Write) (t : Writing) → Wrote s writes t → OnlyAppended s t
 wrote_went s writes t w = (appended writes, w.done)
 
-went_begins : (s t : Writing) → Went s t → BeginsWith t s
+went_begins : (s t : Writing) → OnlyAppended s t → BeginsWith t s
 went_begins s t h = (h.1.base, (h.0, h.1.contents))
 
 module _ {E : Type 0} where
-  refused_begins : (fault : Fault E) (s : Writing) (next : Write) (t : Writing) → Refused fault s next t → BeginsWith t s
+  pub refused_begins : (fault : Fault E) (s : Writing) (next : Write) (t : Writing) → Refused fault s next t → BeginsWith t s
   refused_begins PositionOverflow s next t h = same_begins s t h.0
   refused_begins OffsetOverflow s next t h = same_begins s t h.0
   refused_begins (Writer error) s next t h = (h.base, (h.front, h.contents))
@@ -63,23 +60,23 @@ module _ {E : Type 0} where
   unserialised_begins T x s (Entry fault) t h = h.1
 
 module _ {M N R S : Type 0} (n : NodeLayout) (K : Archival M R) (V : Archival N S) where
-  entries_went : (s : Writing) (xs : List (M × N)) (keys : List R) (values : List S) (t : Writing) → AreSerialised K V s xs keys values t → Went s t
+  entries_went : (s : Writing) (xs : List (M × N)) (keys : List R) (values : List S) (t : Writing) → AreSerialised K V s xs keys values t → OnlyAppended s t
   entries_went s [] keys values t h = went_nowhere s t h.0
   entries_went s (x ∷ xs) keys values t h = went_on s h.4 t (wrote_went s h.6.writes h.4 h.6.wrote) (went_on h.4 h.5 t (wrote_went h.4 h.7.writes h.5 h.7.wrote) (entries_went h.5 xs h.2 h.3 t h.8))
 
-  node_went : (image : ℕ → List OwnBytes → List Write) (size : ℕ) (s : Writing) (xs : List (M × N)) (root : ℕ) (t : Writing) → NodeWritten n K V image size s xs root t → Went s t
+  node_went : (image : ℕ → List OwnBytes → List Write) (size : ℕ) (s : Writing) (xs : List (M × N)) (root : ℕ) (t : Writing) → NodeWritten n K V image size s xs root t → OnlyAppended s t
   node_went image size s xs root t h = went_on s h.mid t (entries_went s xs h.entries.keys h.entries.values h.mid h.entries.serialised) (wrote_went h.mid (image (position h.mid) h.owns) t h.wrote)
 
   mutual
-    tree_went : (s : Writing) (tree : Tree (M × N)) (root : ℕ) (t : Writing) → TreeWritten n K V s tree root t → Went s t
+    tree_went : (s : Writing) (tree : Tree (M × N)) (root : ℕ) (t : Writing) → TreeWritten n K V s tree root t → OnlyAppended s t
     tree_went s (leaf xs) root t h = node_went (leaf_image n) (leaf_size n) s xs root t h
     tree_went s (inner row) root t h = went_on s h.1 t (row_went s row h.0 h.1 h.2) (node_went (λ (at : ℕ) (owns : List OwnBytes). inner_image n at owns h.0) (inner_size n) h.1 (row_entries row) root t h.3)
 
-    row_went : (s : Writing) (row : Row (M × N)) (roots : List (Option ℕ)) (t : Writing) → RowWritten n K V s row roots t → Went s t
+    row_went : (s : Writing) (row : Row (M × N)) (roots : List (Option ℕ)) (t : Writing) → RowWritten n K V s row roots t → OnlyAppended s t
     row_went s (last c) roots t h = child_went s c h.0 t h.1
     row_went s (step c x row) roots t h = went_on s h.2 t (child_went s c h.0 h.2 h.3) (row_went h.2 row h.1 t h.4)
 
-    pub child_went : (s : Writing) (c : Child (M × N)) (root : Option ℕ) (t : Writing) → ChildWritten n K V s c root t → Went s t
+    pub child_went : (s : Writing) (c : Child (M × N)) (root : Option ℕ) (t : Writing) → ChildWritten n K V s c root t → OnlyAppended s t
     child_went s absent root t h = went_nowhere s t h.1
     child_went s (child tree) root t h = tree_went s tree h.0 t h.1
 

@@ -6,17 +6,19 @@ use Rattle.rkyv_btree_writer.specs.Archiving.{Archival, IsUnresolved, IsUnserial
 use Rattle.rkyv_btree_base.specs.Image.{pointers_reach}
 use Rattle.rkyv_btree_portable.specs.InPlace.{OwnBytes}
 use Rattle.rkyv_btree_format.specs.Layout.{NodeLayout, key_at, value_at, len_at}
-use Rattle.rkyv_btree_writer.specs.Writing.{Writing, position, Write, Wrote}
+use Rattle.rkyv_btree_writer.specs.Writing.{Writing, position, Write, Wrote, EndInReach}
 use Rattle.rkyv_btree_writer.specs.declared.fault.Fault.{Fault}
 use Rattle.rkyv_btree_writer.specs.declared.fault.Fault.TheVariants.{LengthOverflow, OffsetOverflow}
 use Rattle.rkyv_btree_writer.specs.declared.fault.ResolveFault.{ResolveFault}
 use Rattle.rkyv_btree_writer.specs.declared.fault.ResolveFault.TheVariants as resolving
 
--- a value's writes were made
+-- a value's writes were made in reach
 pub record IsSerialised {X R : Type 0} (T : Archival X R) (from : Writing) (x : X) (r : R) (to : Writing) : Type 0 where
   pub writes : List Write
   pub allowed : T.Writes x (position from) writes r
   pub wrote : Wrote from writes to
+  pub is_in : T.IsIn x
+  pub end : EndInReach writes to
 
 -- the own bytes of values that stand one behind another from a position on
 abbrev pub AreResolved : {X R : Type 0} → Archival X R → ℕ → List X → List R → List (List ℕ) → Type 0

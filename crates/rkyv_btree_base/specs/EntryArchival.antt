@@ -33,11 +33,11 @@ module _ {M N R S : Type 0} (K : Archival M R) (V : Archival N S) where
   entry_archival = record {
     kind = entry_kind K.kind V.kind;
     meaning = λ x. (K.meaning x.key.now, V.meaning x.value.now);
+    IsIn = λ x. K.IsIn x.key.now × V.IsIn x.value.now;
     Writes = EntryWrites;
     Begins = EntryBegins;
     Resolves = EntryResolves;
-    IsTooLong = λ x. K.IsTooLong x.key.now ⊎ V.IsTooLong x.value.now;
-    IsTooFar = λ x r at. K.IsTooFar x.key.now r.key at ⊎ ((own : List ℕ) × K.Resolves x.key.now r.key at own × V.IsTooFar x.value.now r.value (at + value_offset K.kind V.kind));
+    fields = λ x r at. K.fields x.key.now r.key at ++ V.fields x.value.now r.value (at + value_offset K.kind V.kind);
     Grows = λ x. K.Grows x.key.now ⊎ V.Grows x.value.now;
     Refuses = λ x from fault. K.Refuses x.key.now from fault ⊎ ((first : List Write) × (r : R) × K.Writes x.key.now from first r × V.Refuses x.value.now (from + length (appended first)) fault);
   }

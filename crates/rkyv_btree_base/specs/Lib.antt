@@ -30,7 +30,9 @@ pub use Rattle.rkyv_btree_writer.specs.Writing
 pub use Rattle.rkyv_btree_writer.specs.FaultText
 pub use Rattle.rkyv_btree_writer.specs.Pointers
 pub use Rattle.rkyv_btree_writer.specs.Padding
+pub use Rattle.rkyv_btree_writer.specs.Fields
 pub use Rattle.rkyv_btree_writer.specs.Archiving
+pub use Rattle.rkyv_btree_writer.specs.Causes
 pub use Rattle.rkyv_btree_writer.specs.TextArchival
 pub use Rattle.rkyv_btree_writer.specs.declared.fault.Fault
 pub use Rattle.rkyv_btree_writer.specs.declared.fault.ResolveFault
@@ -40,6 +42,7 @@ pub mod Entries
 pub mod Written
 pub mod Begun
 pub mod Miscounts
+pub mod Kept
 pub mod Serialising
 pub mod Archives
 pub mod Determined

@@ -8,3 +8,4 @@ pub use Rattle.rkyv_btree_portable.specs.laws.Views
 pub use Rattle.rkyv_btree_portable.specs.laws.EntryLaws
 pub use Rattle.rkyv_btree_portable.specs.laws.TextLaws
 pub mod EntryArchived
+pub mod EntryCauses

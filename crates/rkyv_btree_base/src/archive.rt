@@ -1,11 +1,13 @@
 //! Values that can be archived.
-ghost use Rattle.std.specs.Prelude.{◌≡◌, ◌+◌, ◌≤◌, length, IsTrue, OnOk, IfOk, IfErr};
+ghost use Rattle.std.specs.Prelude.{◌≡◌, ◌+◌, ◌≤◌, length, IsTrue, OnOk, OnErr, IfOk, IfErr};
 ghost use Rattle.rkyv_btree_base.specs.Determined.{IsDetermined};
+ghost use Rattle.rkyv_btree_base.specs.Kept.{OnlyAppended};
 ghost use Rattle.rkyv_btree_portable.specs.Kind.{IsLawful};
 ghost use Rattle.rkyv_btree_portable.specs.Plain.{plain_kind};
 ghost use Rattle.rkyv_btree_portable.specs.Scalars.{u8_kind, u16_kind, u32_kind, u64_kind, i8_kind, i16_kind, i32_kind, i64_kind, bool_kind, unit_kind, char_kind, non_zero_kind};
-ghost use Rattle.rkyv_btree_writer.proofs.Archiving.{native_archived};
-ghost use Rattle.rkyv_btree_writer.specs.Archiving.{Archival, Matches, IsArchived, IsUnresolved, IsUnserialised, Serialises, itself, native_archival};
+ghost use Rattle.rkyv_btree_writer.proofs.Archiving.{native_archived, native_causes};
+ghost use Rattle.rkyv_btree_writer.specs.Causes.{HasCauses};
+ghost use Rattle.rkyv_btree_writer.specs.Archiving.{Archival, BeginsWith, Matches, IsArchived, IsUnresolved, IsUnserialised, Serialises, itself, native_archival};
 
 use rkyv_btree_portable::check::{InPlace, Portable};
 use rkyv_btree_portable::numbers::{ArchivedU16, ArchivedU32, ArchivedU64};
@@ -46,6 +48,9 @@ pub trait Archive {
     ghost lawful: { IsLawful archival.kind };
 
     ghost archived: { IsArchived archival };
+
+    // A type can't make up why a value isn't serialised or resolved.
+    ghost causes: { HasCauses archival };
 }
 
 /// A value that a writer takes, with what its own bytes lead to.
@@ -56,7 +61,10 @@ pub trait Serialize<W: Writer, A>: Archive {
             (Serialises Self.archival self.now (W.state writer.old) (W.state writer.new)) }
         ensures err { IfErr result (λ fault.
             IsUnserialised Self.archival self.now (W.state writer.old) fault
-            (W.state writer.new)) };
+            (W.state writer.new)) }
+        // On success no write failed, and whatever refuses, what the writer held stays in front.
+        ensures went { OnOk result (OnlyAppended (W.state writer.old) (W.state writer.new)) }
+        ensures kept { OnErr result (BeginsWith (W.state writer.new) (W.state writer.old)) };
 }
 
 /// Resolves into the bytes at a position.
@@ -121,6 +129,8 @@ impl<T: Native> Archive for T {
     ghost lawful = { T.Plain.faithful.lawful };
 
     ghost archived = { native_archived T.Plain.form T.Plain.faithful };
+
+    ghost causes = { native_causes T.Plain.form };
 }
 
 impl<W: Writer, A: Drop, T: Native> Serialize<W, A> for T {
@@ -130,7 +140,7 @@ impl<W: Writer, A: Drop, T: Native> Serialize<W, A> for T {
     }
 }
 
-/// What archiving a native value writes follows from the value.
+/// What a native value means determines how it is archived.
 pub fn natives_are_determined<T: Native>()
     ensures { IsDetermined (native_archival T.Plain.form) }
 {}

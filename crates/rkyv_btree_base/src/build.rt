@@ -1,5 +1,5 @@
 //! Building archived maps.
-ghost use Rattle.std.specs.Prelude.{◌≡◌, ℕ, List, ◌+◌, ◌*◌, ◌<◌, ◌≤◌, ◌↔◌, [], length, true, false, vec_capacity, IsOk, OnOk, OnErr, IfOk, IfErr, IsErrOf, IsTrue};
+ghost use Rattle.std.specs.Prelude.{◌≡◌, ℕ, ◌+◌, ◌*◌, ◌<◌, ◌≤◌, ◌↔◌, [], length, true, false, vec_capacity, alloc_error, IsOk, OnOk, OnErr, IfOk, IfErr, IsErrOf, IsTrue};
 ghost use Rattle.std.specs.Iterator.{Yields, Drains, IsFinite, UpTo, size};
 ghost use Rattle.rkyv_btree_writer.specs.Archiving.{BeginsWith};
 ghost use Rattle.rkyv_btree_base.specs.Archives.{SerialisedIsAccepted, EmptyIsAccepted};
@@ -9,9 +9,10 @@ ghost use Rattle.rkyv_btree_format.specs.Layout.{layout_of, are_fitting};
 ghost use Rattle.rkyv_btree_shape.specs.Logarithm.{ilog};
 ghost use Rattle.rkyv_btree_portable.specs.Rounding.{round_up};
 ghost use Rattle.rkyv_btree_base.specs.mirror.Scratch.{IsFree, IsReserved};
+ghost use Rattle.rkyv_btree_base.specs.Kept.{NeverGrows, OnlyAppended};
 ghost use Rattle.rkyv_btree_base.specs.Miscounts.{IsMiscount};
 ghost use Rattle.rkyv_btree_base.specs.Serialising.{Serialised, BuildFault, BuildsTree, FailsToBuild, RootFault};
-ghost use Rattle.rkyv_btree_writer.specs.Writing.{position, Appended, Wrote, last_end};
+ghost use Rattle.rkyv_btree_writer.specs.Writing.{position, Wrote, last_end};
 
 use crate::archive::{Archive, Serialize};
 use crate::map::ArchivedBTreeMap;
@@ -145,8 +146,9 @@ where
     ensures err { IfErr result (λ fault.
         BuildFault K.kind V.kind E KU.archival VU.archival I.next_gives iter len
         (W.state writer.old) fault (W.state writer.new)) }
-    ensures went { OnOk result ((bytes : List ℕ)
-        × Appended (W.state writer.old) bytes (W.state writer.new)) }
+    ensures went { OnOk result (OnlyAppended (W.state writer.old) (W.state writer.new)) }
+    ensures memory { NeverGrows KU.archival → NeverGrows VU.archival →
+        IsErrOf result (Fault.Memory alloc_error) → W.state writer.new ≡ W.state writer.old }
     ensures kept { OnErr result (BeginsWith (W.state writer.new) (W.state writer.old)) }
     ensures end { OnOk result (position (W.state writer.new) ≤ last_end) }
 {
@@ -217,10 +219,12 @@ impl<K: Portable, V: Portable, const E: usize> ArchivedBTreeMap<K, V, E> {
             W.state writer.old writer.new) }
         ensures end { OnOk result (0 < len → position (W.state writer.new) ≤ last_end) }
         // On success no write failed, and nothing but bytes behind the old ones has changed.
-        ensures went { OnOk result ((bytes : List ℕ)
-            × Appended (W.state writer.old) bytes (W.state writer.new)) }
+        ensures went { OnOk result (OnlyAppended (W.state writer.old) (W.state writer.new)) }
         // Whatever refuses, what the writer held stays in front.
         ensures kept { OnErr result (BeginsWith (W.state writer.new) (W.state writer.old)) }
+        // Where no entry asks for memory, a refused growth leaves the writer as it was.
+        ensures memory { NeverGrows KU.archival → NeverGrows VU.archival →
+            IsErrOf result (Fault.Memory alloc_error) → W.state writer.new ≡ W.state writer.old }
         // A claim past 32 bits is refused as that, whatever else there is, and nothing is written.
         ensures past { last_end < len → IsErrOf result Fault.LengthOverflow }
         ensures past_kept { last_end < len → W.state writer.new ≡ W.state writer.old }
@@ -299,6 +303,8 @@ impl<K, V, const E: usize> ArchivedBTreeMap<K, V, E> {
             (root_image (position (W.state writer.old)) resolver len) (W.state writer.new)) }
         ensures last { OnOk result (position (W.state writer.new) ≤ last_end) }
         ensures len { OnOk result (len ≤ last_end) }
+        ensures went { OnOk result (OnlyAppended (W.state writer.old) (W.state writer.new)) }
+        ensures kept { OnErr result (BeginsWith (W.state writer.new) (W.state writer.old)) }
         ensures err { IfErr result (λ fault.
             RootFault resolver len (W.state writer.old) fault (W.state writer.new)) }
     {
@@ -326,8 +332,8 @@ pub fn archives_are_accepted<K: Portable, V: Portable, const E: usize>()
     ensures none { EmptyIsAccepted K.kind V.kind E }
 {}
 
-/// Where what archiving keys and values writes follows from them and from positions, two builds of one list from one
-/// position append the same bytes, whatever the writers, and have one root.
+/// Where what keys and values mean determines, with positions, how they are archived, two builds from one position of
+/// lists that mean the same append the same bytes, whatever the writers, and have one root.
 pub fn trees_are_determined<KU: Archive, VU: Archive, const E: usize>()
     ensures { TreesAreDetermined KU.Archived.kind VU.Archived.kind E KU.archival VU.archival }
 {}

@@ -8,7 +8,7 @@ ghost use Rattle.rkyv_btree_portable.specs.Refusing.{RefusesWhole};
 ghost use Rattle.rkyv_btree_portable.specs.Text.{IsTextRange, text_kind};
 ghost use Rattle.rkyv_btree_writer.specs.TextArchival.{FitsText, text_own, text_archival};
 ghost use Rattle.rkyv_btree_portable.specs.laws.Refusing.{whole_refusals};
-ghost use Rattle.rkyv_btree_writer.proofs.TextArchived.{text_archived};
+ghost use Rattle.rkyv_btree_writer.proofs.TextArchived.{text_archived, text_causes};
 ghost use Rattle.rkyv_btree_portable.specs.laws.TextLaws.{text_laws};
 
 use crate::archive::{Archive, Serialize};
@@ -61,6 +61,8 @@ impl Archive for String {
     ghost lawful = { text_laws };
 
     ghost archived = { text_archived string_bytes };
+
+    ghost causes = { text_causes string_bytes };
 }
 
 impl<W: Writer, A: Drop> Serialize<W, A> for String {
@@ -80,7 +82,7 @@ impl<W: Writer, A: Drop> Serialize<W, A> for String {
     }
 }
 
-/// What archiving a text writes follows from the text, its position and the place.
+/// A text's bytes, its position and the place determine how it is archived, whichever `String` holds it.
 pub fn texts_are_determined()
     ensures { IsDetermined (text_archival (string_bytes {Z = Global})) }
 {}

@@ -6,6 +6,7 @@ ghost use Rattle.rkyv_btree_base.specs.EntryArchival.{EntryResolves, entry_archi
 ghost use Rattle.rkyv_btree_portable.specs.Entry.{value_offset, entry_size, entry_kind, RefusesEntry};
 ghost use Rattle.rkyv_btree_portable.specs.laws.EntryLaws.{entry_laws};
 ghost use Rattle.rkyv_btree_base.specs.laws.EntryArchived.{same_entry, entry_archived};
+ghost use Rattle.rkyv_btree_base.specs.laws.EntryCauses.{entry_causes};
 
 use crate::archive::{Archive, Serialize, resolve_into};
 use rkyv_btree_portable::check::Portable;
@@ -76,6 +77,8 @@ impl<'r, KU: Archive, VU: Archive> Archive for EntryAdapter<'r, KU, VU> {
     ghost lawful = { entry_laws KU.archival.kind VU.archival.kind KU.lawful VU.lawful };
 
     ghost archived = { entry_archived KU.archival VU.archival KU.lawful VU.lawful KU.archived VU.archived };
+
+    ghost causes = { entry_causes KU.archival VU.archival KU.causes VU.causes KU.lawful VU.lawful KU.archived VU.archived };
 }
 
 impl<'r, W: Writer, A: Copy, KU: Serialize<W, A>, VU: Serialize<W, A>> Serialize<W, A>
@@ -92,7 +95,7 @@ impl<'r, W: Writer, A: Copy, KU: Serialize<W, A>, VU: Serialize<W, A>> Serialize
     }
 }
 
-/// Where what archiving a key and a value writes follows from each and from positions, so does what both write.
+/// Where what a key means, and what a value means, determine how each is archived, so do both for the pair.
 pub fn entries_are_determined<KU: Archive, VU: Archive>()
     ensures { IsDetermined KU.archival → IsDetermined VU.archival →
         IsDetermined (entry_archival KU.archival VU.archival) }

@@ -22,11 +22,13 @@ pub record NativeForm (X : Type 0) : Type 1 where
   pub IsIn : X → Type 0
   pub meaning : X → plain.Value
 
--- what such a form owes: the archived type is lawful, all own bytes mean something, and those of a value mean it
+-- what such a form owes: the archived type is lawful, all own bytes mean something, those of a value mean it, and what it
+-- means determines them
 pub record IsFaithful {X : Type 0} (form : NativeForm X) : Type 0 where
   pub lawful : IsLawful (plain_kind form.plain)
   pub is_own : (x : X) → IsOwn (plain_kind form.plain) (form.own x)
   pub told : (x : X) → form.IsIn x → value_of (plain_kind form.plain) (form.own x) ≡ form.meaning x
+  pub one_own : (x y : X) → form.meaning x ≡ form.meaning y → form.own x ≡ form.own y
 
 -- the own bytes of an entry's key and value
 abbrev pub OwnBytes : Type 0

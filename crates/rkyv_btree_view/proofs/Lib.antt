@@ -1,2 +1,3 @@
 -- The lemmas of views.
 pub mod Drained
+pub mod Lookups

@@ -2,7 +2,9 @@
 pub mod Deserializing
 pub mod Items
 pub mod Iter
+pub mod Lookup
 pub mod Map
 pub mod Native
+pub mod Query
 pub mod View
 pub mod laws

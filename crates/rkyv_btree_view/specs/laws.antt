@@ -1,2 +1,4 @@
 -- What comparisons of views cite of the definitions.
 pub mod Comparing
+pub mod Cuts
+pub mod Increasing

@@ -1,7 +1,8 @@
 //! Native values from views.
-ghost use Rattle.std.specs.Prelude.{◌≡◌, ℕ, List, Some, Result, Ok, IsOk, IfOk, IfErr, string_bytes};
+ghost use Rattle.std.specs.Prelude.{◌≡◌, ℕ, List, Some, true, Result, Ok, IsOk, IfOk, IfErr, string_bytes};
 ghost use Rattle.std.specs.Int.NonZero.{non_zero_u32_get};
-ghost use Rattle.std.proofs.Common.{ap, ◌∙◌, sym};
+ghost use Rattle.std.proofs.Common.{ap, ◌∙◌, sym, rules};
+ghost use Rattle.std.proofs.lemmas.Grind.{common_steps};
 ghost use Rattle.rkyv_btree_base.specs.Scalars.{non_zero_kind};
 ghost use Rattle.rkyv_btree_base.specs.Text.{text_kind};
 ghost use Rattle.rkyv_btree_base.specs.EntryFault.{EntryFault};
@@ -41,7 +42,7 @@ impl fmt::Display for DeserializeFault {
 impl Error for DeserializeFault {}
 
 /// An archived type of whose values native ones of type `T` are made.
-pub trait Deserialize<T>: Portable {
+pub trait Deserialize<T: PartialEq>: Portable {
     /// The type of what contracts tell of a native value: of a text its bytes, of a number the number.
     ghost Told: { Type 0 };
 
@@ -58,6 +59,9 @@ pub trait Deserialize<T>: Portable {
 
     ghost by_meaning: { (b c : List ℕ) (p q : ℕ) → Self.kind.read b p ≡ Self.kind.read c q
         → native b p ≡ native c q };
+
+    // Values of which the same is told are equal, so nothing that `==` sees is left untold.
+    ghost told_whole: { (x y : T) → told x ≡ told y → T.eq x y ≡ true };
 }
 
 impl<T: ToNative> Deserialize<T::Native> for T {
@@ -76,6 +80,9 @@ impl<T: ToNative> Deserialize<T::Native> for T {
 
     ghost by_meaning = { λ b c p q same. ap Ok
         (T.reads.reads b p ∙ ap T.reads.native same ∙ sym (T.reads.reads c q)) };
+
+    ghost told_whole = { λ x y same.
+        ap (T.Native.eq x) (sym same) ∙ T.Native.Eq.laws.refl x };
 }
 
 impl Deserialize<NonZeroU32> for ArchivedNonZeroU32 {
@@ -98,6 +105,8 @@ impl Deserialize<NonZeroU32> for ArchivedNonZeroU32 {
     }
 
     ghost by_meaning = { λ b c p q same. ap Ok same };
+
+    ghost told_whole = { λ x y same. Prim.search (rules, common_steps) };
 }
 
 impl Deserialize<String> for ArchivedText {
@@ -118,5 +127,7 @@ impl Deserialize<String> for ArchivedText {
         }
     }
 
-    ghost by_meaning = { λ b c p q same. ap Ok same };
+    ghost by_meaning = { λ b c p q same. Prim.search rules };
+
+    ghost told_whole = { λ x y same. Prim.search (rules, common_steps) };
 }

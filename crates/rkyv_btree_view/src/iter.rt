@@ -20,7 +20,7 @@ use std::marker::PhantomData;
 
 /// The views of entry `index` of the node at `node`.
 #[inline(always)]
-fn entry<'a, K: Portable, V: Portable, M: ArchivedMap<Key = K, Mapped = V>>(
+pub(crate) fn entry<'a, K: Portable, V: Portable, M: ArchivedMap<Key = K, Mapped = V>>(
     buf: &'a [u8],
     node: u32,
     index: u32,

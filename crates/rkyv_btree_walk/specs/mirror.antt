@@ -1,3 +1,4 @@
 -- Functions and facts that mirror the code of a walk.
 pub mod Node
 pub mod Path
+pub mod Search

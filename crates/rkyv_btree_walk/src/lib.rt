@@ -4,5 +4,6 @@
 pub mod map;
 pub mod node;
 pub mod path;
+pub mod search;
 pub mod shows;
 pub mod visit;

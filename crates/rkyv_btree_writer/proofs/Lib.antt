@@ -3,3 +3,4 @@ pub mod HeldNumbers
 pub mod Holding
 pub mod Archiving
 pub mod TextArchived
+pub mod FieldRuns

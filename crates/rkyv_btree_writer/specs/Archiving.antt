@@ -6,12 +6,12 @@ use Rattle.rkyv_btree_portable.specs.InPlace.{NativeForm}
 use Rattle.rkyv_btree_portable.specs.Kind.{Kind}
 use Rattle.rkyv_btree_portable.specs.Plain.{plain_kind}
 use Rattle.rkyv_btree_portable.specs.Standing.{IsAligned}
-use Rattle.rkyv_btree_writer.specs.Writing.{Writing, position, Write, appended, Stopped, Wrote}
+use Rattle.rkyv_btree_writer.specs.Fields.{Field, FirstUnfit, HasLongField}
+use Rattle.rkyv_btree_writer.specs.Writing.{Writing, position, Write, appended, Stopped, Wrote, EndInReach}
 use Rattle.rkyv_btree_writer.specs.declared.fault.EntryFault.{EntryFault}
 use Rattle.rkyv_btree_writer.specs.declared.fault.Fault.{Fault}
 use Rattle.rkyv_btree_writer.specs.declared.fault.Fault.TheVariants.{Length, LengthOverflow, PositionOverflow, OffsetOverflow, Writer, Memory, Entry}
 use Rattle.rkyv_btree_writer.specs.declared.fault.ResolveFault.{ResolveFault}
-use Rattle.rkyv_btree_writer.specs.declared.fault.ResolveFault.TheVariants as resolving
 
 -- the second kind's bytes mean what the first's do, and lie alike
 pub record Matches (kind other : Kind) : Type 0 where
@@ -29,38 +29,41 @@ pub record Archival (X R : Type 0) : Type 1 where
   -- what the archived bytes are, and what those of a value mean
   pub kind : Kind
   pub meaning : X → kind.Value
-  -- the writes that serialising makes from a position on, with what it tells; and what they may be, or a beginning of them
+  -- what is known of a value that was serialised
+  pub IsIn : X → Type 0
+  -- the writes that serialising makes from a position on where none is refused, with what it tells; and beginnings of them
   pub Writes : X → ℕ → List Write → R → Type 0
   pub Begins : X → ℕ → List Write → Type 0
-  -- the own bytes that resolving writes at a position
+  -- the own bytes that resolving writes at a position; and what they tell of what lies elsewhere, in resolving's order
   pub Resolves : X → R → ℕ → List ℕ → Type 0
-  -- a length of the value is past 32 bits; a pointer in its own bytes at a position doesn't reach; memory is asked for
-  pub IsTooLong : X → Type 0
-  pub IsTooFar : X → R → ℕ → Type 0
+  pub fields : X → R → ℕ → List Field
+  -- memory is asked for; the value refuses itself from a position on
   pub Grows : X → Type 0
-  -- the value refuses itself from a position on
   pub Refuses : X → ℕ → EntryFault → Type 0
 
 -- a value that was serialised from a position on, and resolved at an aligned place behind that, means itself in the
 -- window of what was written, in every buffer that holds these bytes
 abbrev pub IsArchived : {X R : Type 0} → Archival X R → Type 0
 IsArchived {X} {R} T =
-    (x : X) (from at : ℕ) (writes : List Write) (r : R) (own : List ℕ) → T.Writes x from writes r → T.Resolves x r at own → (length own ≡ T.kind.size)
+    (x : X) (from at : ℕ) (writes : List Write) (r : R) (own : List ℕ) → T.IsIn x → T.Writes x from writes r → T.Resolves x r at own → (length own ≡ T.kind.size)
     × ((b : List ℕ) → length b ≤ 4294967295 → IsAligned T.kind.align at → from + length (appended writes) ≤ at → at + T.kind.size ≤ length b → Holds b from (appended writes) → Holds b at own →
     (left : ℕ) × T.kind.Means b from (from + length (appended writes)) at left (T.meaning x))
 
+-- whatever serialising would tell, and wherever it would be resolved, a length in the own bytes is past 32 bits
+abbrev pub IsTooLong : {X R : Type 0} → Archival X R → X → Type 0
+IsTooLong {X} {R} T x = (r : R) (at : ℕ) → HasLongField (T.fields x r at)
+
 -- why a value's own bytes aren't written at a position
 abbrev pub IsUnresolved : {X R : Type 0} → Archival X R → X → R → ℕ → ResolveFault → Type 0
-IsUnresolved T x r at resolving.LengthOverflow = T.IsTooLong x
-IsUnresolved T x r at resolving.OffsetOverflow = T.IsTooFar x r at
+IsUnresolved T x r at fault = FirstUnfit (T.fields x r at) fault
 
 -- t has the same first position as s, and its contents begin with those of s
 abbrev pub BeginsWith : Writing → Writing → Type 0
 BeginsWith t s = (t.base ≡ s.base) × ((more : List ℕ) × (t.contents ≡ s.contents ++ more))
 
--- the writes of a value were made, and serialising told this
+-- the writes of a value were made in reach, and serialising told this
 abbrev pub Serialises : {X R : Type 0} → Archival X R → X → Writing → Writing → R → Type 0
-Serialises T x s t r = (writes : List Write) × T.Writes x (position s) writes r × Wrote s writes t
+Serialises T x s t r = (writes : List Write) × T.Writes x (position s) writes r × Wrote s writes t × T.IsIn x × EndInReach writes t
 
 -- some of the writes of a value were made, and the next was refused
 abbrev pub StopsIn : {X R E : Type 0} → Archival X R → X → Writing → Fault E → Writing → Type 0
@@ -69,7 +72,7 @@ StopsIn T x s fault t = (writes : List Write) × T.Begins x (position s) writes 
 -- why a value isn't serialised, and the state that is left
 abbrev pub IsUnserialised : {X R E : Type 0} → Archival X R → X → Writing → Fault E → Writing → Type 0
 IsUnserialised T x s (Length mismatch) t = ⊥
-IsUnserialised T x s LengthOverflow t = T.IsTooLong x × BeginsWith t s
+IsUnserialised T x s LengthOverflow t = IsTooLong T x × BeginsWith t s
 IsUnserialised {X} {R} {E} T x s PositionOverflow t = StopsIn {E = E} T x s PositionOverflow t
 IsUnserialised {X} {R} {E} T x s OffsetOverflow t = StopsIn {E = E} T x s OffsetOverflow t
 IsUnserialised T x s (Writer error) t = StopsIn T x s (Writer error) t
@@ -81,11 +84,11 @@ abbrev pub own_archival : {X : Type 0} (kind : Kind) → (X → kind.Value) → 
 own_archival kind meaning IsIn own Refuses = record {
   kind = kind;
   meaning = meaning;
-  Writes = λ x from writes r. IsIn x × (writes ≡ []);
+  IsIn = IsIn;
+  Writes = λ x from writes r. writes ≡ [];
   Begins = λ x from writes. writes ≡ [];
   Resolves = λ x r at bytes. bytes ≡ own x;
-  IsTooLong = λ x. ⊥;
-  IsTooFar = λ x r at. ⊥;
+  fields = λ x r at. [];
   Grows = λ x. ⊥;
   Refuses = Refuses;
 }

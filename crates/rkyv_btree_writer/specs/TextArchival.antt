@@ -2,17 +2,14 @@
 use Rattle.std.specs.Prelude.{◌≡◌, ℕ, ◌+◌, ◌≤◌, ◌<◌, true, List, [], ◌∷◌, ◌++◌, length, IsUtf8}
 use Rattle.std.specs.Int.{w32, to_le_bytes}
 use Rattle.rkyv_btree_writer.specs.Archiving.{Archival}
+use Rattle.rkyv_btree_writer.specs.Fields.{a_length, a_pointer}
 use Rattle.rkyv_btree_writer.specs.Pointers.{FitsOffset, pointer}
 use Rattle.rkyv_btree_portable.specs.Text.{text_kind}
 use Rattle.rkyv_btree_writer.specs.Writing.{Write, last_end}
 
--- the write of a text's bytes, which the empty text doesn't make
-abbrev pub text_write : List ℕ → Write
-text_write text = record { bytes = text; reaches = true }
-
+-- the one write of a text's bytes
 abbrev pub text_writes : List ℕ → List Write
-text_writes [] = []
-text_writes (b ∷ text) = text_write (b ∷ text) ∷ []
+text_writes text = record { bytes = text; reaches = true } ∷ []
 
 -- the own bytes, at a position, of a text that starts at a position and has so many bytes
 abbrev pub text_own : ℕ → ℕ → ℕ → List ℕ
@@ -28,11 +25,11 @@ abbrev pub text_archival : {X : Type 0} → (X → List ℕ) → Archival X ℕ
 text_archival text = record {
   kind = text_kind;
   meaning = text;
-  Writes = λ x from writes start. IsUtf8 (text x) × (start ≡ from) × (from + length (text x) ≤ last_end) × (writes ≡ text_writes (text x));
-  Begins = λ x from writes. (writes ≡ text_write (text x) ∷ []) × (text x ≡ [] → last_end < from);
+  IsIn = λ x. IsUtf8 (text x);
+  Writes = λ x from writes start. (start ≡ from) × (writes ≡ text_writes (text x));
+  Begins = λ x from writes. (writes ≡ text_writes (text x)) × (text x ≡ [] → last_end < from);
   Resolves = λ x start at own. FitsText at start (length (text x)) × (own ≡ text_own at start (length (text x)));
-  IsTooLong = λ x. 4294967295 < length (text x);
-  IsTooFar = λ x start at. FitsOffset at start → ⊥;
+  fields = λ x start at. a_length (at + 4) (length (text x)) ∷ a_pointer at start ∷ [];
   Grows = λ x. ⊥;
   Refuses = λ x from fault. ⊥;
 }

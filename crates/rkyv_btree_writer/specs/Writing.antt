@@ -1,5 +1,5 @@
 -- Writers, and what writes leave.
-use Rattle.std.specs.Prelude.{◌≡◌, ℕ, ◌+◌, ◌%◌, ◌^◌, ◌<◌, Bool, true, false, List, [], ◌∷◌, ◌++◌, length}
+use Rattle.std.specs.Prelude.{◌≡◌, ℕ, ◌+◌, ◌%◌, ◌^◌, ◌<◌, ◌≤◌, ◌⊎◌, Bool, true, false, List, [], ◌∷◌, ◌++◌, length}
 use Rattle.rkyv_btree_writer.specs.declared.fault.Fault.{Fault}
 use Rattle.rkyv_btree_writer.specs.declared.fault.Fault.TheVariants.{Length, LengthOverflow, PositionOverflow, OffsetOverflow, Writer, Memory, Entry}
 
@@ -36,6 +36,10 @@ last_end = 4294967295
 pub record Write : Type 0 where
   pub bytes : List ℕ
   pub reaches : Bool
+
+-- writes that led to a state end at the last position at most, if there are any
+abbrev pub EndInReach : List Write → Writing → Type 0
+EndInReach writes t = (writes ≡ []) ⊎ (position t ≤ last_end)
 
 -- what writes append
 abbrev pub appended : List Write → List ℕ

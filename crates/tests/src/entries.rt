@@ -1,4 +1,5 @@
 //! Entries as values.
+ghost use Rattle.std.specs.Prelude.{◌+◌, ◌*◌, ◌%◌, ◌^◌, fold};
 
 use rkyv_btree_base::archive::{Archive, Serialize};
 use rkyv_btree_base::check::{CheckBytes, Portable, Window};
@@ -9,6 +10,7 @@ use rkyv_btree_base::place::{Place, VecWriter};
 use rkyv_btree_base::refusal::Refusal;
 use rkyv_btree_base::text::ArchivedText;
 use rkyv_btree_base::util::{Entry, EntryAdapter, EntryResolver, value_offset};
+use std::hash::{Hash, Hasher};
 use std::marker::PhantomData;
 use std::test::Fail;
 
@@ -88,6 +90,51 @@ fn entries_compare_key_first(rt: HostRuntime) {
     assert!(rt; entry(1, 1) == entry(1, 1));
     assert!(rt; entry(1, 1) != entry(2, 1));
     assert!(rt; entry(1, 1) != entry(1, 2));
+}
+
+/// Takes down what it is fed: behind what it holds the bytes of each write, and then 255. It keeps the last eight bytes.
+#[derive(Drop)]
+struct Recorder(u64);
+
+impl Hasher for Recorder {
+    ghost write = { λ s bytes. record {
+      0 = (fold (λ taken byte. (taken * 256 % 2 ^ 64 + byte) % 2 ^ 64) s.0 bytes * 256 % 2 ^ 64
+          + 255) % 2 ^ 64;
+    } };
+
+    ghost finish = { λ s. s.0 };
+
+    fn finish(&self) -> u64 {
+        self.0
+    }
+
+    fn write(&mut self, bytes: &[u8]) {
+        for byte in bytes {
+            self.0 = self.0.wrapping_mul(256).wrapping_add(u64::from(*byte));
+        }
+        self.0 = self.0.wrapping_mul(256).wrapping_add(255);
+    }
+}
+
+#[test]
+fn an_entry_feeds_a_hasher_its_key_and_then_its_value(rt: HostRuntime) {
+    let mut taken = Recorder(0);
+    let entry = Entry {
+        key: 7u8,
+        value: 513u16,
+    };
+    entry.hash(&mut taken);
+    assert_eq!(rt; taken.finish(), 0x07_FF_01_02_FF);
+    let mut taken = Recorder(0);
+    let nested = Entry {
+        key: Entry {
+            key: 1u16,
+            value: 2u8,
+        },
+        value: 3u8,
+    };
+    nested.hash(&mut taken);
+    assert_eq!(rt; taken.finish(), 0x01_00_FF_02_FF_03_FF);
 }
 
 #[test]

@@ -11,14 +11,14 @@ use std::alloc::{AllocError, Global};
 use std::test::Fail;
 
 // The entry from 7 to 70 in an inner node with room for one, over an empty leaf and no child behind.
-const OVER_EMPTY: [u8; 44] = [
+pub(crate) const OVER_EMPTY: [u8; 44] = [
     0, 0, 0, 0, 0, 0, 0, 0, 0, 0, 0, 0, 0, 0, 0, 0, // empty leaf
     1, 0, 0, 0, 7, 0, 0, 0, 70, 0, 0, 0, 228, 255, 255, 255, 1, 0, 0, 0, // inner node
     236, 255, 255, 255, 1, 0, 0, 0, // map
 ];
 
 // That entry in an inner node without children.
-const CHILDLESS: [u8; 28] = [
+pub(crate) const CHILDLESS: [u8; 28] = [
     1, 0, 0, 0, 7, 0, 0, 0, 70, 0, 0, 0, 1, 0, 0, 0, 1, 0, 0, 0, // inner node
     236, 255, 255, 255, 1, 0, 0, 0, // map
 ];
@@ -55,7 +55,7 @@ fn shared_leaves_and_cycles_are_refused(rt: HostRuntime) {
 
 /// Inner nodes of one entry, each the only child of the next one, from 1 to 10 at the lowest on, under a map that says
 /// this length.
-fn chain(alloc: Global, nodes: u32, len: u32) -> Result<Vec<u8>, AllocError>
+pub(crate) fn chain(alloc: Global, nodes: u32, len: u32) -> Result<Vec<u8>, AllocError>
     requires { nodes ≤ 100 }
 {
     let mut bytes = Vec::new(alloc);
@@ -88,7 +88,7 @@ fn chains_have_at_most_32_levels(rt: HostRuntime) -> Result<(), Fail> {
 }
 
 // The entry from 1 to 10 in a leaf before the entries from 2 to 20 up to 6 to 60 of an inner node.
-const SIX: [u8; 124] = [
+pub(crate) const SIX: [u8; 124] = [
     0, 0, 0, 0, 1, 0, 0, 0, 0, 0, 0, 0, 0, 0, 0, 0, 0, 0, 0, 0, 0, 0, 0, 0, // kind and keys of the leaf
     10, 0, 0, 0, 0, 0, 0, 0, 0, 0, 0, 0, 0, 0, 0, 0, 0, 0, 0, 0, // values
     1, 0, 0, 0, // length

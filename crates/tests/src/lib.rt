@@ -6,9 +6,23 @@ mod damage;
 #[cfg(test)]
 mod entries;
 #[cfg(test)]
+mod equal;
+#[cfg(test)]
 mod faults;
 #[cfg(test)]
+mod first;
+#[cfg(test)]
 mod foreign;
+#[cfg(test)]
+mod lookups;
+#[cfg(test)]
+mod lookups_counted;
+#[cfg(test)]
+mod lookups_foreign;
+#[cfg(test)]
+mod lookups_learnt;
+#[cfg(test)]
+mod lookups_types;
 #[cfg(test)]
 mod natives;
 #[cfg(test)]

@@ -14,7 +14,7 @@ use std::process::Abort;
 use std::test::Fail;
 
 /// The native value that is made of what stands at a position.
-fn made<T: CheckBytes + Deserialize<N>, N>(
+fn made<T: CheckBytes + Deserialize<N>, N: PartialEq>(
     rt: &impl Abort,
     alloc: Global,
     buf: &[u8],

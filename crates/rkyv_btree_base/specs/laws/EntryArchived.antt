@@ -47,12 +47,12 @@ module _ (K V A B : Kind) (k : Matches K A) (v : Matches V B) where
 
 module _ {M N R S : Type 0} (K : Archival M R) (V : Archival N S) (k : IsLawful K.kind) (v : IsLawful V.kind) (is_key : IsArchived K) (is_value : IsArchived V) where
   pub entry_archived : IsArchived (entry_archival K V)
-  entry_archived x from at writes r own w o =
+  entry_archived x from at writes r own is_in w o =
       let offset = value_offset K.kind V.kind in
       let mid = from + length (appended w.first) in
       let end = from + length (appended writes) in
-      let key = is_key x.key.now from at w.first r.key o.own_key w.key o.key in
-      let value = is_value x.value.now mid (at + offset) w.second r.value o.own_value w.value o.value in
+      let key = is_key x.key.now from at w.first r.key o.own_key is_in.0 w.key o.key in
+      let value = is_value x.value.now mid (at + offset) w.second r.value o.own_value is_in.1 w.value o.value in
       let front : length o.own_key ≤ offset = omega (arith, key.0, key_inside K.kind V.kind k v) in
       let back : offset + length o.own_value ≤ entry_size K.kind V.kind = omega (arith, value.0, value_inside K.kind V.kind k v) in (
         ap length o.parts ∙ tail_length o.own_key o.own_value offset (entry_size K.kind V.kind) front back,

@@ -6,6 +6,7 @@ use Rattle.rkyv_btree_format.specs.Layout.{layout_of}
 use Rattle.rkyv_btree_base.specs.Serialising.{meaning_of, Built}
 use Rattle.rkyv_btree_base.specs.Entries.{now_of}
 use Rattle.rkyv_btree_shape.specs.Plan.{planned_alone}
+use Rattle.rkyv_btree_base.proofs.Untold.{unasked}
 use Rattle.rkyv_btree_base.proofs.Kept.{stops_begin, child_begins, child_went}
 use Rattle.rkyv_btree_base.proofs.Building.{short_of, drained, miscounted_of, refused_of, meaning_is, spelled_of}
 use Rattle.rkyv_btree_base.proofs.build.build_some.Goals as goal
@@ -79,3 +80,8 @@ returns-then-more-ne0-clause-kept g c =
 pub returns-clause-went : goal.returns-clause-went
 returns-clause-went g c =
     child_went (layout_of g.K.Portable.kind g.V.Portable.kind g.row.E) g.KU.Archive.archival g.VU.Archive.archival (g.W.Writer.state c.args.writer.now) (planned_alone g.row.E (map now_of c.deref.result.now)) c.in_ok-root.root (g.W.Writer.state c.write_child.new.writer) c.in_ok-root.ensures.ok
+
+pub returns-in_err-root-clause-memory : goal.returns-in_err-root-clause-memory
+returns-in_err-root-clause-memory g c =
+    let p = err_from_is_err_and c.from_residual.result c.from_residual.ensures.1 in
+    λ keys values memory. unasked g.row.W-Error.Denot (layout_of g.K.Portable.kind g.V.Portable.kind g.row.E) g.KU.Archive.archival g.VU.Archive.archival (g.W.Writer.state c.args.writer.now) (planned_alone g.row.E (map now_of c.deref.result.now)) (g.W.Writer.state c.write_child.new.writer) c.in_err-root.field-0.0 (cc (p.1, p.2, memory)) keys values c.in_err-root.ensures.err

@@ -1,7 +1,10 @@
-use Rattle.std.proofs.Common.{◌≡◌, ◌∙◌, length, sym, arith}
+use Rattle.std.proofs.Common.{◌≡◌, ◌+◌, ◌∙◌, ◌++◌, length, sym, subst, arith}
 use Rattle.std.proofs.lemmas.List.{length-take}
-use Rattle.std.proofs.lemmas.Result.{on_ok_weaker}
+use Rattle.std.proofs.lemmas.Result.{on_ok_weaker, IfErr-weaker, err_from_is_err_and}
+use Rattle.rkyv_btree_writer.specs.Fields.{FirstUnfit}
+use Rattle.rkyv_btree_writer.proofs.FieldRuns.{unfit_front, unfit_behind}
 use Rattle.rkyv_btree_base.specs.laws.EntryArchived.{same_offset, same_size}
+use Rattle.rkyv_btree_portable.specs.Entry.{value_offset}
 use Rattle.rkyv_btree_portable.specs.laws.EntryLaws.{key_inside}
 use Rattle.rkyv_btree_base.proofs.Both.{both_resolved}
 use Rattle.rkyv_btree_base.proofs.util.EntryAdapterArchive.resolve.Goals as goal
@@ -46,3 +49,24 @@ returns-clause-ok g c =
     on_ok_weaker c.resolve_into-2.result (λ done.
     both_resolved g.KU.Archive.archival g.VU.Archive.archival c.args.self.now c.args.resolver c.args.out.pos c.resolve_into.new.bytes c.resolve_into-2.new.bytes c.fill.new.self c.split_at_mut-front.result.0.now c.split_at_mut-front.result.1.now c.size.result c.size-2.result c.value_offset-offset.result size
     offset_is size_is key_len value_len (omega (arith, room, c.size.ensures, place.value)) (omega (arith, c.size-2.ensures, place.inside, c.requires.size)) clear cut.front cut.back c.in_ok-resolve_into.ensures.ok done) c.resolve_into-2.ensures.ok
+
+pub returns-in_err-resolve_into-clause-err : goal.returns-in_err-resolve_into-clause-err
+returns-in_err-resolve_into-clause-err g c =
+    let k = g.KU.Archive.archival in
+    let v = g.VU.Archive.archival in
+    let x = c.args.self.now in
+    let r = c.args.resolver in
+    let at = c.args.out.pos in
+    let p = err_from_is_err_and c.from_residual.result c.from_residual.ensures.1 in
+    rw (p.1, p.2) (unfit_front (k.fields x.key.now r.key at) (v.fields x.value.now r.value (at + value_offset k.kind v.kind)) c.in_err-resolve_into.field-0.0 c.in_err-resolve_into.ensures.err)
+
+pub returns-clause-err : goal.returns-clause-err
+returns-clause-err g c =
+    let k = g.KU.Archive.archival in
+    let v = g.VU.Archive.archival in
+    let x = c.args.self.now in
+    let r = c.args.resolver in
+    let at = c.args.out.pos in
+    let place = c.value_offset-offset.ensures.value ∙ sym (same_offset k.kind v.kind g.KU.Archived.Portable.kind g.VU.Archived.Portable.kind g.met.KU.Archive.same_kind g.met.VU.Archive.same_kind) in
+    let key_fits = (g.met.KU.Archive.causes.fits x.key.now r.key at).0 (c.resolve_into.new.bytes, c.in_ok-resolve_into.ensures.ok) in
+    IfErr-weaker c.resolve_into-2.result (FirstUnfit (v.fields x.value.now r.value (at + c.value_offset-offset.result))) (FirstUnfit (k.fields x.key.now r.key at ++ v.fields x.value.now r.value (at + value_offset k.kind v.kind))) (λ fault h. unfit_behind (k.fields x.key.now r.key at) (v.fields x.value.now r.value (at + value_offset k.kind v.kind)) fault key_fits (subst (λ n. FirstUnfit (v.fields x.value.now r.value (at + n)) fault) place h)) c.resolve_into-2.ensures.err

@@ -17,4 +17,4 @@ pub returns-clause-ok : goal.returns-clause-ok
 returns-clause-ok g c =
     let key = c.in_ok-key.ensures.ok in
     let value = c.in_ok-value.ensures.ok in
-    both_serialised g.row.W-Error.Denot g.KU.Archive.archival g.VU.Archive.archival c.args.self.now (g.W.Writer.state c.args.writer.now) key.0 (g.W.Writer.state c.serialize.new.writer) c.in_ok-key.key key.1 key.2 value.0 (g.W.Writer.state c.serialize-2.new.writer) c.in_ok-value.value value.1 value.2
+    both_serialised g.row.W-Error.Denot g.KU.Archive.archival g.VU.Archive.archival c.args.self.now (g.W.Writer.state c.args.writer.now) key.0 (g.W.Writer.state c.serialize.new.writer) c.in_ok-key.key key.1 key.2 value.0 (g.W.Writer.state c.serialize-2.new.writer) c.in_ok-value.value value.1 value.2 key.3 value.3 key.4 value.4

@@ -1,0 +1,111 @@
+//! Times maps of `u32` to `u32`: a million look-ups of keys that are there, in random order, beside std's `BTreeMap` and a
+//! binary search in a sorted `Vec`.
+
+use crate::report::Report;
+use anyhow::ensure;
+use rkyv_btree::map::access;
+use rkyv_btree::view::View;
+use rkyv_btree_base::layout;
+use rkyv_btree_base::map::ArchivedBTreeMap;
+use rkyv_btree_base::numbers::ArchivedU32;
+use rkyv_btree_base::place::VecWriter;
+use std::alloc::{AllocError, Global};
+use std::collections::BTreeMap;
+
+type Map = ArchivedBTreeMap<ArchivedU32, ArchivedU32, 5>;
+
+/// How many look-ups are timed together.
+const LOOKUPS: u32 = 1000000;
+
+/// Key and value of entry `index`.
+fn entry(index: u32) -> (u32, u32) {
+    (
+        index.wrapping_mul(4).wrapping_add(1),
+        index.wrapping_mul(10),
+    )
+}
+
+/// So many entries, in the order of their keys.
+fn entries(alloc: Global, count: u32) -> Result<Vec<(u32, u32)>, AllocError> {
+    let mut entries = Vec::with_capacity(alloc, count as usize)?;
+    for index in 0..count {
+        entries.push(entry(index))?;
+    }
+    Ok(entries)
+}
+
+/// Keys of such entries in random order, one a look-up.
+fn queries(alloc: Global, count: u32) -> Result<Vec<u32>, AllocError> {
+    let mut keys = Vec::with_capacity(alloc, LOOKUPS as usize)?;
+    let mut state = 88172645463325252u64;
+    for _ in 0..LOOKUPS {
+        state ^= state.wrapping_shl(13);
+        state ^= state.wrapping_shr(7);
+        state ^= state.wrapping_shl(17);
+        let index = state % u64::from(count.max(1));
+        keys.push(entry(index as u32).0)?;
+    }
+    Ok(keys)
+}
+
+/// The sum of the values found in the archived map.
+#[inline(never)]
+fn get_archived(map: View<Map>, keys: &[u32]) -> u64 {
+    let mut sum = 0u64;
+    for key in keys {
+        if let Some(value) = map.get_by(*key) {
+            sum = sum.wrapping_add(u64::from(value.to_native()));
+        }
+    }
+    sum
+}
+
+/// The sum of the values found in std's map.
+#[inline(never)]
+fn get_std(map: &BTreeMap<u32, u32>, keys: &[u32]) -> u64 {
+    let mut sum = 0u64;
+    for key in keys {
+        if let Some(value) = map.get(key) {
+            sum = sum.wrapping_add(u64::from(*value));
+        }
+    }
+    sum
+}
+
+/// The sum of the values found by halves in sorted entries.
+#[inline(never)]
+fn get_sorted(entries: &[(u32, u32)], keys: &[u32]) -> u64 {
+    let mut sum = 0u64;
+    for key in keys {
+        if let Ok(index) = entries.binary_search_by(|entry: &(u32, u32)| entry.0.cmp(key)) {
+            if let Some(entry) = entries.get(index) {
+                sum = sum.wrapping_add(u64::from(entry.1));
+            }
+        }
+    }
+    sum
+}
+
+/// Times look-ups in maps of so many entries.
+pub fn measure(rt: &HostRuntime, count: u32) -> anyhow::Result<()> {
+    ensure!(layout::fits::<ArchivedU32, ArchivedU32, 5>(), "too large");
+    let entries = entries(rt.alloc(), count)?;
+    let keys = queries(rt.alloc(), count)?;
+    let mut writer = VecWriter::new(rt.alloc());
+    let items = entries
+        .iter()
+        .map(|entry: &(u32, u32)| (&entry.0, &entry.1));
+    let tree = Map::serialize_from_ordered_iter(rt.alloc(), entries.len(), items, &mut writer)?;
+    let root = Map::write_root(entries.len(), tree, &mut writer)?;
+    let map = access::<ArchivedU32, ArchivedU32, 5>(writer.bytes(), root)?;
+    let mut std_map = BTreeMap::new(rt.alloc());
+    for (key, value) in &entries {
+        std_map.insert(*key, *value)?;
+    }
+    let report = Report { rt, count };
+    let port = report.time("port get", LOOKUPS, || get_archived(map, &keys))?;
+    let std = report.time("std get", LOOKUPS, || get_std(&std_map, &keys))?;
+    let sorted = report.time("sorted get", LOOKUPS, || get_sorted(&entries, &keys))?;
+    ensure!(port == std && std == sorted, "sums differ");
+    Ok(())
+}

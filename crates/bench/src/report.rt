@@ -1,0 +1,33 @@
+//! Times of what is measured, one a line.
+
+use std::io;
+use std::time::Instant;
+
+/// Where times are told, and of how many entries.
+#[derive(Drop)]
+pub struct Report<'a> {
+    pub rt: &'a HostRuntime,
+    pub count: u32,
+}
+
+impl Report<'_> {
+    /// Runs a measure of so many operations some times, tells the least time of one operation, and gives what the last run
+    /// answered.
+    pub fn time<T: Drop, F: Fn() -> T>(&self, what: &str, operations: u32, run: F) -> io::Result<T>
+        requires { F.IsAlwaysCallable run }
+    {
+        let mut best = u128::MAX;
+        let start = Instant::now(self.rt)?;
+        let mut answer = run();
+        best = best.min(start.elapsed(self.rt)?.as_nanos());
+        for _ in 0..4 {
+            let start = Instant::now(self.rt)?;
+            answer = run();
+            best = best.min(start.elapsed(self.rt)?.as_nanos());
+        }
+        let tenths = best.saturating_mul(10) / u128::from(operations.max(1));
+        let (whole, tenth) = (tenths / 10, tenths % 10);
+        println!(self.rt; "{what} n={} {whole}.{tenth} ns", self.count)?;
+        Ok(answer)
+    }
+}

@@ -1,0 +1,28 @@
+-- The entry that is found stands in the map, and the search asks no more than the tree has room for.
+use Rattle.std.proofs.Common.{◌∙◌, ◌+◌, ap, arith, rules}
+use Rattle.rkyv_btree_base.specs.Map.{map_kind}
+use Rattle.rkyv_btree_base.specs.laws.Views.{fitting_of}
+use Rattle.rkyv_btree_walk.specs.mirror.Search.{answers_at}
+use Rattle.rkyv_btree_walk.proofs.Roots.{map_asked_bound}
+use Rattle.rkyv_btree_view.proofs.Lookups.{place_finds, count_room}
+use Rattle.rkyv_btree_view.proofs.view.View.get_key_value_counted.Goals as goal
+
+pub add-requires : goal.add-requires
+add-requires g c =
+    let K = g.K.Portable.kind in let V = g.V.Portable.kind in let E = g.M.ArchivedMap.E in
+    count_room K V E g.met.K.Portable.laws g.met.V.Portable.laws (fitting_of (map_kind K V E) _ _ c.opened.ensures) _ _ c.requires.room c.search-found.ensures.few
+
+pub returns-clause-finds : goal.returns-clause-finds
+returns-clause-finds g c f p =
+    place_finds g.K.Portable.kind g.V.Portable.kind g.M.ArchivedMap.E c.args.self.buf.now c.args.self.pos (f c.args.key.now) c.search-found.result.0 _ c.entry_found.ensures (ap (λ r. r.0) (c.search-found.ensures.found f (λ q w r e. let by = p q w in search rules)))
+
+pub returns-clause-counts : goal.returns-clause-counts
+returns-clause-counts g c f p = c.add.ensures ∙ ap (λ r. c.args.steps.now + r.1) (c.search-found.ensures.found f (λ q w r e. let by = p q w in search rules))
+
+pub returns-clause-few : goal.returns-clause-few
+returns-clause-few g c f p =
+    let K = g.K.Portable.kind in let V = g.V.Portable.kind in let E = g.M.ArchivedMap.E in
+    let b = c.args.self.buf.now in
+    let bound = map_asked_bound K V E g.met.K.Portable.laws g.met.V.Portable.laws b c.args.self.pos c.opened.ensures (answers_at K V E b (f c.args.key.now)) in
+    let asked = ap (λ r. r.1) (c.search-found.ensures.found f (λ q w r e. let by = p q w in search rules)) in
+    omega (arith, bound, asked, c.add.ensures)

@@ -1,0 +1,56 @@
+-- What look-ups in a view of a map answer. `answer` is what comparing the query with a key gives, at each value of a key.
+use Rattle.std.specs.Prelude.{◌≡◌, ℕ, List, map, Option, Some, IfSome, ◌↔◌}
+use Rattle.std.specs.Borrow.{Bor}
+use Rattle.std.specs.List.Sorted.{IsStrictlySortedBy}
+use Rattle.std.specs.Option.{option_map}
+use Rattle.std.specs.declared.cmp.Ordering.{Ordering}
+use Rattle.rkyv_btree_base.specs.Kind.{Kind}
+use Rattle.rkyv_btree_base.specs.Layout.{layout_of}
+use Rattle.rkyv_btree_base.specs.Read.{entry_at, map_tree, read_map}
+use Rattle.rkyv_btree_base.specs.Tree.{height}
+use Rattle.rkyv_btree_portable.specs.declared.check.Portable
+use Rattle.rkyv_btree_walk.specs.Search.{IsHit, ComparesBy, Answers, comparisons, OrderedBy, AnyHit, probe}
+use Rattle.rkyv_btree_view.specs.Query.{IsCut}
+use Rattle.rkyv_btree_view.specs.View.{entries_of}
+use Rattle.rkyv_btree_view.specs.declared.view.View.{View}
+
+module _ (K V : Kind) (E : ℕ) {M : Type 0} {m : Portable.Ghosts M} (view : View M m) (answer : K.Value → Ordering) where
+  -- the entry that a search for the query asks and finds equal
+  abbrev pub found_in : Option (K.Value × V.Value)
+  found_in = option_map (entry_at K V E view.buf.now) (probe (λ e. answer (entry_at K V E view.buf.now e).0) (map_tree (layout_of K V E) view.buf.now view.pos))
+
+  -- how many keys it compares the query with
+  abbrev pub comparisons_in : ℕ
+  comparisons_in = comparisons (λ e. answer e.0) (entry_at K V E view.buf.now) (map_tree (layout_of K V E) view.buf.now view.pos)
+
+  -- a look-up finds that entry: an entry that is equal, and under an ordered comparison one if there is one
+  abbrev pub Finds : Option (K.Value × V.Value) → Type 0
+  Finds = Answers (λ e. answer e.0) (entry_at K V E view.buf.now) (map_tree (layout_of K V E) view.buf.now view.pos)
+
+  -- under an ordered comparison it says that there is an entry exactly where some key is equal
+  abbrev pub IsComplete : Type 0 → Type 0
+  IsComplete Found = OrderedBy (λ e. answer e.0) (entries_of K V E view) → (Found ↔ AnyHit (λ e. answer e.0) (entries_of K V E view))
+
+-- what holds of the answers to a query, by a comparison that is some function of the query and of what it is compared with
+abbrev pub ByComparison : {Q W A : Type 0} → (Bor Q → W → Ordering → Type 0) → (W → A) → Q → ((A → Ordering) → Type 0) → Type 0
+ByComparison {Q} {A} post shows query Holds = (compared : Q → A → Ordering) → ComparesBy post shows compared → Holds (compared query)
+
+-- the same where what a native value is compared with stands at a position of a buffer
+abbrev pub ByNative : {N : Type 0} (K : Kind) → (N → List ℕ → ℕ → Ordering) → N → ((K.Value → Ordering) → Type 0) → Type 0
+ByNative {N} K compared_at native Holds =
+    (compared : N → K.Value → Ordering) → ((n : N) (b : List ℕ) (at : ℕ) → compared_at n b at ≡ compared n (K.read b at)) → Holds (compared native)
+
+-- the height of a map's tree, of these keys, these values and E
+abbrev pub height_of : (K V : Kind) → ℕ → {M : Type 0} {m : Portable.Ghosts M} → View M m → ℕ
+height_of K V E view = height (map_tree (layout_of K V E) view.buf.now view.pos)
+
+-- what is found is the only entry that gives Equal, and where nothing is found none does
+pub record Only {Y : Type 0} (answer : Y → Ordering) (m : List Y) (found : Option Y) : Type 0 where
+  pub hit : IfSome found (IsHit answer m)
+  pub alone : (e : Y) → IsHit answer m e → found ≡ Some e
+
+-- in a map whose keys strictly increase a look-up finds that entry, by each comparison that goes with the order of keys
+abbrev pub IncreasingIsFound : Kind → Kind → ℕ → Type 0
+IncreasingIsFound K V E =
+    (b : List ℕ) (at : ℕ) (answer : K.Value → Ordering) (found : Option (K.Value × V.Value)) → IsCut K.order answer → IsStrictlySortedBy K.order (map (λ e. e.0) (read_map K V E b at))
+    → Answers (λ e. answer e.0) (entry_at K V E b) (map_tree (layout_of K V E) b at) found → Only (λ e. answer e.0) (read_map K V E b at) found

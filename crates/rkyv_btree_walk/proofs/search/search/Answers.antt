@@ -1,0 +1,32 @@
+-- A map that stands has a root where it has entries.
+use Rattle.std.proofs.Common.{◌≡◌, ◌≤◌, length, ◌∙◌, arith, rules}
+use Rattle.rkyv_btree_base.proofs.MapLaws.{map_room, map_short}
+use Rattle.rkyv_btree_walk.specs.mirror.Node.{TreeStands}
+use Rattle.rkyv_btree_walk.proofs.Roots.{root_leads, root_stands, root_searched, none_searched}
+use Rattle.rkyv_btree_walk.proofs.search.search.Goals as goal
+
+pub root-requires-clause-inside : goal.root-requires-clause-inside
+root-requires-clause-inside g c =
+    let room = map_room _ _ _ g.met.K.Portable.laws g.met.V.Portable.laws _ _ c.opened.ensures in
+    omega arith
+
+pub root-requires-clause-leads : goal.root-requires-clause-leads
+root-requires-clause-leads g c =
+    root_leads _ _ _ g.met.K.Portable.laws g.met.V.Portable.laws _ _ c.opened.ensures (rw c.map_len.ensures at c.if-map_len-gt0.true)
+
+pub search_tree-requires : goal.search_tree-requires
+search_tree-requires g c =
+    let short : length c.args.buf.now ≤ 4294967295 = map_short _ _ _ g.met.K.Portable.laws g.met.V.Portable.laws _ _ c.opened.ensures in
+    let tree : TreeStands g.K.Portable.kind g.V.Portable.kind g.M.ArchivedMap.E c.args.buf.now 32 c.root.result =
+    root_stands _ _ _ g.met.K.Portable.laws g.met.V.Portable.laws _ _ c.opened.ensures (rw c.map_len.ensures at c.if-map_len-gt0.true) c.root.result c.root.ensures in
+    search rules
+
+pub returns-then-map_len-gt0-clause-found : goal.returns-then-map_len-gt0-clause-found
+returns-then-map_len-gt0-clause-found g c f p =
+    c.search_tree.ensures.found f p
+    ∙ root_searched _ _ _ g.met.K.Portable.laws g.met.V.Portable.laws _ _ c.opened.ensures (rw c.map_len.ensures at c.if-map_len-gt0.true) c.root.result c.root.ensures _
+
+pub returns-clause-found : goal.returns-clause-found
+returns-clause-found g c f p =
+    let empty : length _ ≡ 0 = omega (arith, c.map_len.ensures, c.if-map_len-gt0.false) in
+    none_searched _ _ _ g.met.K.Portable.laws g.met.V.Portable.laws _ _ c.opened.ensures empty _

@@ -1,0 +1,201 @@
+//! Searches of a map for an entry, by a comparison with its key.
+ghost use Rattle.std.specs.Prelude.{◌≡◌, ℕ, ◌+◌, ◌*◌, ◌≤◌, length, IfSome, IsTrue};
+ghost use Rattle.std.specs.declared.cmp.Ordering.{Ordering as Answer};
+ghost use Rattle.rkyv_btree_base.specs.Layout.{layout_of, are_fitting};
+ghost use Rattle.rkyv_btree_base.specs.Read.{read_map};
+ghost use Rattle.rkyv_btree_base.specs.Views.{stands};
+ghost use Rattle.rkyv_btree_walk.specs.Search.{compared_of, shown};
+ghost use Rattle.rkyv_btree_walk.specs.mirror.Node.{NodeStands, TreeStands, RunStands, is_leaf as is_leaf_at, entry_count as entries_in};
+ghost use Rattle.rkyv_btree_walk.specs.mirror.Search.{StopsAt, StopsWithin, asked_by, answers_at, searched, searched_map, TellsBy};
+
+use crate::map::{ArchivedMap, map_len};
+use crate::node::{child, is_leaf, key_pos, leaf_count, root};
+use crate::shows::Shows;
+use rkyv_btree_base::check::Portable;
+use std::cmp::Ordering;
+
+/// What a search asks of a comparison. Two answers, so that it compiles to a test of each.
+#[derive(Clone, Copy, Drop)]
+pub struct Compared {
+    /// Whether the query is past the key.
+    pub past: bool,
+    /// Whether it is equal to the key.
+    pub equal: bool,
+}
+
+impl Compared {
+    /// The answers of a comparison of the query with the key.
+    #[inline(always)]
+    pub fn of(order: Ordering) -> Compared
+        ensures { result ≡ compared_of order }
+    {
+        Compared {
+            past: order == Ordering::Greater,
+            equal: order == Ordering::Equal,
+        }
+    }
+}
+
+/// Where the search of a node stops: at an entry that gives Equal, or before the first that gives Less, or behind all.
+#[derive(Clone, Copy)]
+pub(crate) enum Stop {
+    At(u32),
+    Before(u32),
+}
+
+impl Stop {
+    /// How many entries were asked, of `count`.
+    #[inline(always)]
+    fn asked(self, count: u32) -> u32
+        requires { StopsWithin count self }
+        ensures value { result ≡ asked_by count self }
+        ensures within { result ≤ count }
+    {
+        match self {
+            Stop::At(i) => i + 1,
+            Stop::Before(i) => { if i < count { i + 1 } else { count } }
+        }
+    }
+}
+
+/// Compares the query with the key at `pos`.
+#[inline(always)]
+fn compare_at<'a, Q, K: Portable, W: Shows<'a, K>, C: Fn(&Q, W) -> Compared>(
+    buf: &'a [u8],
+    pos: u32,
+    key: &Q,
+    cmp: &C,
+) -> Compared
+    requires callable { C.IsAlwaysCallable cmp.now }
+    requires stands { IsTrue (stands K.kind buf.now pos) }
+    ensures { (c : Q → K.kind.Value → Answer) → TellsBy (C.post cmp.now) (shown K.kind W.Shows) c
+        → result ≡ compared_of (c key.now (K.kind.read buf.now pos)) }
+{
+    cmp(key, W::at(buf, pos))
+}
+
+/// Compares the query with the keys of a node, from the left.
+#[inline(always)]
+fn search_node<
+    'a,
+    Q,
+    K: Portable,
+    V: Portable,
+    M: ArchivedMap<Key = K, Mapped = V>,
+    W: Shows<'a, K>,
+    C: Fn(&Q, W) -> Compared,
+>(buf: &'a [u8], node: u32, count: u32, key: &Q, cmp: &C) -> Stop
+    requires callable { C.IsAlwaysCallable cmp.now }
+    requires fitting { IsTrue (are_fitting K.kind V.kind M.E) }
+    requires short { length buf.now ≤ 4294967295 }
+    requires stands { RunStands K.kind V.kind M.E buf.now node 0 count }
+    ensures within { StopsWithin count result }
+    ensures stops { (c : Q → K.kind.Value → Answer)
+        → TellsBy (C.post cmp.now) (shown K.kind W.Shows) c
+        → StopsAt (λ i. answers_at K.kind V.kind M.E buf.now (c key.now) (node, i)) count result }
+{
+    for i in 0..count {
+        let pos = key_pos::<K, V, M>(node, i as usize);
+        let compared = compare_at::<Q, K, W, C>(buf, pos, key, cmp);
+        if compared.past {
+            continue;
+        }
+        if compared.equal {
+            return Stop::At(i);
+        }
+        return Stop::Before(i);
+    }
+    Stop::Before(count)
+}
+
+/// How many entries the node at `node` has.
+#[inline(always)]
+fn entry_count<K: Portable, V: Portable, M: ArchivedMap<Key = K, Mapped = V>>(
+    buf: &[u8],
+    node: u32,
+    leaf: bool,
+) -> u32
+    requires fitting { IsTrue (are_fitting K.kind V.kind M.E) }
+    requires short { length buf.now ≤ 4294967295 }
+    requires node { NodeStands K.kind V.kind M.E buf.now node }
+    requires leaf { leaf ≡ is_leaf_at (layout_of K.kind V.kind M.E) buf.now node }
+    ensures { result ≡ entries_in (layout_of K.kind V.kind M.E) buf.now node }
+{
+    if leaf {
+        return leaf_count::<K, V, M>(buf, node);
+    }
+    M::entries_per_node() as u32
+}
+
+/// The entry of the tree at `from` at which a search ends with Equal, by its node and number, and how many entries it
+/// asks.
+#[inline(always)]
+fn search_tree<
+    'a,
+    Q,
+    K: Portable,
+    V: Portable,
+    M: ArchivedMap<Key = K, Mapped = V>,
+    W: Shows<'a, K>,
+    C: Fn(&Q, W) -> Compared,
+>(buf: &'a [u8], from: u32, key: &Q, cmp: &C) -> (Option<(u32, u32)>, u64)
+    requires callable { C.IsAlwaysCallable cmp.now }
+    requires fitting { IsTrue (are_fitting K.kind V.kind M.E) }
+    requires short { length buf.now ≤ 4294967295 }
+    requires tree { TreeStands K.kind V.kind M.E buf.now 32 from }
+    ensures stands { IfSome result.0 (λ e. RunStands K.kind V.kind M.E buf.now e.0 e.1 (e.1 + 1)) }
+    ensures found { (c : Q → K.kind.Value → Answer)
+        → TellsBy (C.post cmp.now) (shown K.kind W.Shows) c
+        → result ≡ searched (layout_of K.kind V.kind M.E) buf.now
+        (answers_at K.kind V.kind M.E buf.now (c key.now)) 32 from }
+    ensures few { result.1 ≤ M.E * 32 }
+{
+    let mut node = from;
+    let mut asked = 0u64;
+    'down: loop {
+        let leaf = is_leaf::<K, V, M>(buf, node);
+        let count = entry_count::<K, V, M>(buf, node, leaf);
+        let stop = search_node::<Q, K, V, M, W, C>(buf, node, count, key, cmp);
+        asked += u64::from(stop.asked(count));
+        match stop {
+            Stop::At(i) => return (Some((node, i)), asked),
+            Stop::Before(i) => {
+                if leaf {
+                    return (None, asked);
+                }
+                match child::<K, V, M>(buf, node, i as usize) {
+                    None => return (None, asked),
+                    Some(below) => node = below,
+                }
+            }
+        }
+    }
+}
+
+/// The entry of the map at `pos` at which a search ends with Equal, by its node and number, and how many entries it asks.
+#[inline(always)]
+pub fn search<
+    'a,
+    Q,
+    K: Portable,
+    V: Portable,
+    M: ArchivedMap<Key = K, Mapped = V>,
+    W: Shows<'a, K>,
+    C: Fn(&Q, W) -> Compared,
+>(buf: &'a [u8], pos: u32, key: &Q, cmp: &C) -> (Option<(u32, u32)>, u64)
+    requires callable { C.IsAlwaysCallable cmp.now }
+    requires stands { IsTrue (stands M.kind buf.now pos) }
+    ensures stands { IfSome result.0 (λ e. RunStands K.kind V.kind M.E buf.now e.0 e.1 (e.1 + 1)) }
+    ensures found { (c : Q → K.kind.Value → Answer)
+        → TellsBy (C.post cmp.now) (shown K.kind W.Shows) c
+        → result ≡ searched_map (layout_of K.kind V.kind M.E) buf.now
+        (answers_at K.kind V.kind M.E buf.now (c key.now)) pos }
+    ensures none { length (read_map K.kind V.kind M.E buf.now pos) ≡ 0 → result.1 ≡ 0 }
+    ensures few { result.1 ≤ M.E * 32 }
+{
+    M::opened(buf, pos);
+    if map_len::<K, V, M>(buf, pos) > 0 {
+        return search_tree::<Q, K, V, M, W, C>(buf, root(buf, pos), key, cmp);
+    }
+    (None, 0)
+}

@@ -1,0 +1,2 @@
+-- What contracts of tests name.
+pub mod Lookups
