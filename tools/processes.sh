@@ -36,18 +36,23 @@ ends() {
 
 usage='usage: btreearc build | list | get KEY | range LOW HIGH | check | set KEY VALUE'
 empty='\x01\x00\x00\x00\x00\x00\x00\x00'
+three=$(printf '1 10\n2 20\n9 90\n' | "$program" build | od -An -v -t x1 | tr -d '\n' | sed 's/ /\\x/g')
 
 #    status  line on standard error                           input     output            words
 ends 0       ''                                               ''        "$empty"          build
 ends 0       ''                                               "$empty"  ''                list
 ends 0       ''                                               "$empty"  'ok 0 entries\n'  check
 ends 1       ''                                               "$empty"  ''                get 1
+ends 0       ''                                               "$three"  '2 20\n9 90\n'    range 2 9
+ends 0       ''                                               "$three"  ''                range 9 2
 ends 2       'btreearc: line 2: not KEY VALUE'                '1 2\n3'  ''                build
 ends 2       'btreearc: refused: position 0 is out of range'  ''        ''                list
 ends 2       'btreearc: refused: position 0 is out of range'  ''        ''                check
 ends 2       "$usage"                                         ''        ''
 ends 2       "$usage"                                         "$empty"  ''                lists
 ends 2       "$usage"                                         "$empty"  ''                list list
+ends 2       "$usage"                                         "$three"  ''                range 2
+ends 2       "$usage"                                         "$three"  ''                range -1 2
 ends 2       "$usage"                                         "$empty"  ''                $'\xff'
 
 awk 'BEGIN { for (i = 0; i < 100000; i++) printf "%d %d\n", 4 * i + 1, 10 * i }' > "$work/lines"

@@ -1,5 +1,5 @@
-//! Times maps of `u32` to `u32`: a million look-ups of keys that are there, in random order, beside std's `BTreeMap` and a
-//! binary search in a sorted `Vec`.
+//! Times maps of `u32` to `u32`, beside std's `BTreeMap` and a binary search in a sorted `Vec`: a million look-ups of keys
+//! that are there, in random order; walks; and ranges from such keys on, of a million entries in all.
 
 use crate::report::Report;
 use anyhow::ensure;
@@ -11,6 +11,7 @@ use rkyv_btree_base::numbers::ArchivedU32;
 use rkyv_btree_base::place::VecWriter;
 use std::alloc::{AllocError, Global};
 use std::collections::BTreeMap;
+use std::ops::{Bound, ControlFlow};
 
 type Map = ArchivedBTreeMap<ArchivedU32, ArchivedU32, 5>;
 
@@ -86,7 +87,92 @@ fn get_sorted(entries: &[(u32, u32)], keys: &[u32]) -> u64 {
     sum
 }
 
-/// Times look-ups in maps of so many entries.
+/// The sum of the values that a visit of the archived map is called with.
+#[inline(never)]
+fn visit_archived(map: View<Map>) -> u64 {
+    let mut sum = 0u64;
+    map.visit(|_key: View<ArchivedU32>, value: View<ArchivedU32>| {
+        sum = sum.wrapping_add(u64::from(value.to_native()));
+        ControlFlow::<(), ()>::Continue(())
+    });
+    sum
+}
+
+/// The sum of the values that the archived map's iterator gives.
+#[inline(never)]
+fn iter_archived(map: View<Map>) -> u64 {
+    let mut sum = 0u64;
+    for (_key, value) in map.iter() {
+        sum = sum.wrapping_add(u64::from(value.to_native()));
+    }
+    sum
+}
+
+/// The sum of the values that std's iterator gives.
+#[inline(never)]
+fn iter_std(map: &BTreeMap<u32, u32>) -> u64 {
+    let mut sum = 0u64;
+    for (_key, value) in map.iter() {
+        sum = sum.wrapping_add(u64::from(*value));
+    }
+    sum
+}
+
+/// The sum of the values of so many entries from each key on.
+#[inline(never)]
+fn range_archived(map: View<Map>, keys: &[u32], entries: u32) -> u64 {
+    let mut sum = 0u64;
+    for key in keys {
+        let end = key.saturating_add(entries.saturating_mul(4));
+        for (_key, value) in map.range_by(Bound::Included(*key), Bound::Excluded(end)) {
+            sum = sum.wrapping_add(u64::from(value.to_native()));
+        }
+    }
+    sum
+}
+
+/// The same of std's map.
+#[inline(never)]
+fn range_std(map: &BTreeMap<u32, u32>, keys: &[u32], entries: u32) -> u64 {
+    let mut sum = 0u64;
+    for key in keys {
+        let end = key.saturating_add(entries.saturating_mul(4));
+        for (_key, value) in map.range(*key..end) {
+            sum = sum.wrapping_add(u64::from(*value));
+        }
+    }
+    sum
+}
+
+/// Times walks and ranges of both maps.
+fn measure_walks(
+    report: &Report,
+    map: View<Map>,
+    std_map: &BTreeMap<u32, u32>,
+    keys: &[u32],
+) -> anyhow::Result<()> {
+    let visited = report.time("port", "visit", report.count, || visit_archived(map))?;
+    let port = report.time("port", "iter", report.count, || iter_archived(map))?;
+    let std = report.time("std", "iter", report.count, || iter_std(std_map))?;
+    ensure!(visited == port && port == std, "sums differ");
+    let (hundreds, _) = keys.split_at(keys.len() / 100);
+    let (tens, _) = keys.split_at(keys.len() / 10);
+    let runs = [("range of 100", hundreds, 100), ("range of 10", tens, 10)];
+    for (what, starts, entries) in runs {
+        let ranges = LOOKUPS / entries;
+        let port = report.time(
+            "port",
+            what,
+            ranges,
+            || range_archived(map, starts, entries),
+        )?;
+        let std = report.time("std", what, ranges, || range_std(std_map, starts, entries))?;
+        ensure!(port == std, "sums differ");
+    }
+    Ok(())
+}
+
+/// Times look-ups, walks and ranges of maps of so many entries.
 pub fn measure(rt: &HostRuntime, count: u32) -> anyhow::Result<()> {
     ensure!(layout::fits::<ArchivedU32, ArchivedU32, 5>(), "too large");
     let entries = entries(rt.alloc(), count)?;
@@ -103,9 +189,9 @@ pub fn measure(rt: &HostRuntime, count: u32) -> anyhow::Result<()> {
         std_map.insert(*key, *value)?;
     }
     let report = Report { rt, count };
-    let port = report.time("port get", LOOKUPS, || get_archived(map, &keys))?;
-    let std = report.time("std get", LOOKUPS, || get_std(&std_map, &keys))?;
-    let sorted = report.time("sorted get", LOOKUPS, || get_sorted(&entries, &keys))?;
+    let port = report.time("port", "get", LOOKUPS, || get_archived(map, &keys))?;
+    let std = report.time("std", "get", LOOKUPS, || get_std(&std_map, &keys))?;
+    let sorted = report.time("sorted", "get", LOOKUPS, || get_sorted(&entries, &keys))?;
     ensure!(port == std && std == sorted, "sums differ");
-    Ok(())
+    measure_walks(&report, map, &std_map, &keys)
 }

@@ -13,7 +13,13 @@ pub struct Report<'a> {
 impl Report<'_> {
     /// Runs a measure of so many operations some times, tells the least time of one operation, and gives what the last run
     /// answered.
-    pub fn time<T: Drop, F: Fn() -> T>(&self, what: &str, operations: u32, run: F) -> io::Result<T>
+    pub fn time<T: Drop, F: Fn() -> T>(
+        &self,
+        who: &str,
+        what: &str,
+        operations: u32,
+        run: F,
+    ) -> io::Result<T>
         requires { F.IsAlwaysCallable run }
     {
         let mut best = u128::MAX;
@@ -27,7 +33,7 @@ impl Report<'_> {
         }
         let tenths = best.saturating_mul(10) / u128::from(operations.max(1));
         let (whole, tenth) = (tenths / 10, tenths % 10);
-        println!(self.rt; "{what} n={} {whole}.{tenth} ns", self.count)?;
+        println!(self.rt; "{who} {what} n={} {whole}.{tenth} ns", self.count)?;
         Ok(answer)
     }
 }

@@ -1,3 +1,4 @@
+pub mod Between
 pub mod Built
 pub mod Digits
 pub mod Found

@@ -1,31 +1,14 @@
 -- What each command does with known input, and when it fails.
-use Rattle.std.specs.Prelude.{◌≡◌, ℕ, List, [], ◌∷◌, ◌++◌, length, Option, Some, None, IfSome, Result, Ok, Err, String, string_bytes, codes, decimal}
-use Rattle.std.specs.Global.{Global}
+use Rattle.std.specs.Prelude.{◌≡◌, ℕ, List, [], ◌∷◌, ◌++◌, ◌&&◌, nat_le, length, filter, Option, Some, None, IfSome, Result, Ok, Err, codes, decimal}
 use Rattle.std.specs.Io.KnownBytes.{Appends}
+use Rattle.std.specs.Ordering.{nat_cmp}
+use Rattle.rkyv_btree.specs.Bounds.{IsRun}
+use Rattle.rkyv_btree.specs.Search.{OrderedBy}
 use Rattle.btreearc.specs.Archive.{archive_of, IsUnbuilt}
-use Rattle.btreearc.specs.Grammar.{IsLines, IsNumber, BadLine, text_of}
+use Rattle.btreearc.specs.Grammar.{IsLines, BadLine, text_of}
 use Rattle.btreearc.specs.Opening.{IsArchive, RefusesArchive, found_in_archive}
 use Rattle.btreearc.specs.declared.fault.ProgramFault.{ProgramFault}
 use Rattle.btreearc.specs.declared.fault.ProgramFault.TheVariants.{Line, Refused, NotBuilt, InputFailed, OutputFailed, Memory}
-
--- one word, and this
-abbrev pub IsWord : List ℕ → List (String Global) → Type 0
-IsWord text [] = ⊥
-IsWord text (word ∷ []) = string_bytes word ≡ text
-IsWord text (word ∷ other ∷ others) = ⊥
-
--- two words, this and a number
-abbrev pub IsWordAndNumber : List ℕ → ℕ → List (String Global) → Type 0
-IsWordAndNumber text n [] = ⊥
-IsWordAndNumber text n (word ∷ []) = ⊥
-IsWordAndNumber text n (word ∷ number ∷ []) = (string_bytes word ≡ text) × IsNumber (string_bytes number) n
-IsWordAndNumber text n (word ∷ number ∷ other ∷ others) = ⊥
-
--- the words are none of the commands
-abbrev pub IsNoCommand : List (String Global) → Type 0
-IsNoCommand args =
-    (IsWord (codes "build") args → ⊥) × (IsWord (codes "list") args → ⊥) × (IsWord (codes "check") args → ⊥)
-    × ((key : ℕ) → IsWordAndNumber (codes "get") key args → ⊥)
 
 -- `build` has written the archive of the input's lines, which is accepted and means them, or it names the fault and has written nothing, except where a
 -- write failed
@@ -80,3 +63,23 @@ Gets key input old new (Err InputFailed) = new ≡ old
 Gets key input old new (Err Memory) = new ≡ old
 Gets key input old new (Err OutputFailed) = IfSome input (λ bytes. (entries : List (ℕ × ℕ)) × IsArchive bytes entries)
 Gets key input old new (Err _) = ⊥
+
+-- the found entries stand in the list one behind the other; and where along the list come keys before a bound, then keys
+-- equal to it, then keys past it, for both bounds, they are all entries whose keys are from `low` to `high`
+pub record IsBetween (low high : ℕ) (entries found : List (ℕ × ℕ)) : Type 0 where
+  pub run : IsRun found entries
+  pub all : OrderedBy (λ e. nat_cmp low e.0) entries → OrderedBy (λ e. nat_cmp high e.0) entries
+      → found ≡ filter (λ e. nat_le low e.0 && nat_le e.0 high) entries
+
+-- `range` has written the lines of the entries of the input's archive from the key `low` to the key `high`, or it names
+-- the fault and has written nothing, except where a write failed
+abbrev pub Ranges : ℕ → ℕ → Option (List ℕ) → Option (List ℕ) → Option (List ℕ) → Result ℕ ProgramFault → Type 0
+Ranges low high input old new (Ok status) =
+    (status ≡ 0)
+    × IfSome input (λ bytes.
+    (entries found : List (ℕ × ℕ)) × IsArchive bytes entries × IsBetween low high entries found × Appends old new (text_of found))
+Ranges low high input old new (Err (Refused refusal)) = IfSome input (λ bytes. RefusesArchive bytes refusal) × (new ≡ old)
+Ranges low high input old new (Err InputFailed) = new ≡ old
+Ranges low high input old new (Err Memory) = new ≡ old
+Ranges low high input old new (Err OutputFailed) = IfSome input (λ bytes. (entries : List (ℕ × ℕ)) × IsArchive bytes entries)
+Ranges low high input old new (Err _) = ⊥

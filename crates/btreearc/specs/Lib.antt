@@ -4,3 +4,4 @@ pub mod Faults
 pub mod Grammar
 pub mod Opening
 pub mod Reading
+pub mod Words

@@ -28,7 +28,9 @@ entries_read b at = read_map u32_kind u32_kind 5 b at
 
 -- the entry of the map at a position that a search for a key asks and finds equal
 abbrev pub found_at : List ℕ → ℕ → ℕ → Option (ℕ × ℕ)
-found_at b at key = option_map (entry_at u32_kind u32_kind 5 b) (probe (λ e. nat_cmp key (entry_at u32_kind u32_kind 5 b e).0) (map_tree (layout_of u32_kind u32_kind 5) b at))
+found_at b at key =
+    let entry = entry_at u32_kind u32_kind 5 b in
+    option_map entry (probe (λ e. nat_cmp key (entry e).0) (map_tree (layout_of u32_kind u32_kind 5) b at))
 
 -- that of an archive
 abbrev pub found_in_archive : List ℕ → ℕ → Option (ℕ × ℕ)

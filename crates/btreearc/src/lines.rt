@@ -29,12 +29,12 @@ fn first_number(bytes: &[u8]) -> Option<(u32, &[u8])>
     Some((value as u32, &bytes[len..]))
 }
 
-/// The number that the bytes are.
-pub fn whole_number(bytes: &[u8]) -> Option<u32>
-    ensures found { IfSome result (IsNumber bytes.now) }
-    ensures none { IfNone result ((n : ℕ) → IsNumber bytes.now n → ⊥) }
+/// The number that a word is.
+pub fn whole_number(word: &str) -> Option<u32>
+    ensures found { IfSome result (IsNumber word.now) }
+    ensures none { IfNone result ((n : ℕ) → IsNumber word.now n → ⊥) }
 {
-    let (number, rest) = first_number(bytes)?;
+    let (number, rest) = first_number(word.as_bytes())?;
     if rest.is_empty() { Some(number) } else { None }
 }
 

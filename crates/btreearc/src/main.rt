@@ -1,7 +1,8 @@
-//! Archived maps of `u32` to `u32`, built from lines, checked and listed again.
+//! Archived maps of `u32` to `u32`, built from lines, checked, listed again and looked up in.
 #![tactic(auto)]
 
 mod build;
+mod command;
 mod fault;
 mod lines;
 mod listing;

@@ -1,16 +1,19 @@
 //! The commands over a reader and a writer.
 ghost use Rattle.std.specs.Prelude.{◌≡◌, ℕ, codes, Err, OnOk};
 ghost use Rattle.std.specs.Io.KnownBytes.{IsAtEnd};
-ghost use Rattle.btreearc.specs.Commands.{IsWord, IsWordAndNumber, IsNoCommand, Builds, Lists, Checks, Gets};
+ghost use Rattle.btreearc.specs.Commands.{Builds, Lists, Checks, Gets, Ranges};
+ghost use Rattle.btreearc.specs.Words.{IsWord, IsWordAndNumber, IsWordAndNumbers, IsNoCommand};
 
 use crate::build;
+use crate::command::Command;
 use crate::fault::ProgramFault;
-use crate::lines::{parse_lines, whole_number};
+use crate::lines::parse_lines;
 use crate::listing::write_entries;
 use crate::opening::open;
 use crate::streams::{read_all, write_all};
 use std::alloc::Global;
 use std::io::{Read, Write};
+use std::ops::Bound;
 
 /// Runs the command that the words name, and gives the exit status.
 ///
@@ -33,29 +36,21 @@ pub fn run<R: Read, W: Write>(
         Checks (R.remaining input.old) (W.contents output.old) (W.contents output.new) result }
     ensures get { (key : ℕ) → IsWordAndNumber (codes "get") key args.now →
         Gets key (R.remaining input.old) (W.contents output.old) (W.contents output.new) result }
+    ensures range { (low high : ℕ) → IsWordAndNumbers (codes "range") low high args.now →
+        Ranges low high (R.remaining input.old) (W.contents output.old) (W.contents output.new)
+        result }
     ensures usage { IsNoCommand args.now → result ≡ Err ProgramFault.Usage }
     ensures unread { IsNoCommand args.now → R.remaining input.new ≡ R.remaining input.old }
     ensures unwritten { IsNoCommand args.now → W.contents output.new ≡ W.contents output.old }
     ensures end { OnOk result (IsAtEnd (R.remaining input.new)) }
 {
-    if let [word, key] = args {
-        return match whole_number(key.as_str().as_bytes()) {
-            Some(key) if word.as_str() == "get" => get(alloc, key, input, output),
-            _ => Err(ProgramFault::Usage),
-        };
-    }
-    let [word] = args else {
-        return Err(ProgramFault::Usage);
-    };
-    let word = word.as_str();
-    if word == "build" {
-        build(alloc, input, output)
-    } else if word == "list" {
-        list(alloc, input, output)
-    } else if word == "check" {
-        check(alloc, input, output)
-    } else {
-        Err(ProgramFault::Usage)
+    match Command::from_words(args) {
+        Some(Command::Build) => build(alloc, input, output),
+        Some(Command::List) => list(alloc, input, output),
+        Some(Command::Check) => check(alloc, input, output),
+        Some(Command::Get(key)) => get(alloc, key, input, output),
+        Some(Command::Range(low, high)) => range(alloc, low, high, input, output),
+        None => Err(ProgramFault::Usage),
     }
 }
 
@@ -147,6 +142,35 @@ fn get<R: Read, W: Write>(
     let mut text = String::new(alloc);
     if writeln!(text, "{}", value.to_native()).is_err() {
         return Err(ProgramFault::Memory);
+    }
+    write_all(output, text.as_str().as_bytes())?;
+    Ok(0)
+}
+
+/// Writes a line for each entry of the input's archive whose key is from `low` to `high`. Where the keys are out of
+/// order, these are some entries that stand one behind the other.
+///
+/// # Errors
+///
+/// `Refused` for the first fact for which the input is no archive, and `InputFailed`, `OutputFailed` or `Memory`.
+fn range<R: Read, W: Write>(
+    alloc: Global,
+    low: u32,
+    high: u32,
+    input: &mut R,
+    output: &mut W,
+) -> Result<u8, ProgramFault>
+    ensures done { Ranges low high (R.remaining input.old) (W.contents output.old)
+        (W.contents output.new) result }
+    ensures end { OnOk result (IsAtEnd (R.remaining input.new)) }
+{
+    let archive = read_all(alloc, input)?;
+    let map = open(&archive)?;
+    let entries = map.range_by(Bound::Included(low), Bound::Included(high));
+    let mut text = String::new(alloc);
+    match write_entries(&mut text, entries) {
+        Ok(()) => {}
+        Err(_) => return Err(ProgramFault::Memory),
     }
     write_all(output, text.as_str().as_bytes())?;
     Ok(0)

@@ -60,6 +60,17 @@ fn fails(
     says(rt, alloc, result, line)
 }
 
+/// The words name no command: the usage is told, and nothing is read or written.
+fn reads_nothing(rt: &impl Abort, alloc: Global, words: &[&str]) -> Result<(), Fail> {
+    let args = words_of(alloc, words)?;
+    let mut input = SEVEN.as_slice();
+    let mut output = Vec::new(alloc);
+    let result = run(alloc, &args, &mut input, &mut output);
+    assert_eq!(rt; input.len(), 56);
+    assert!(rt; output.is_empty());
+    says(rt, alloc, result, USAGE)
+}
+
 /// The answer is a fault of this line.
 fn says(
     rt: &impl Abort,
@@ -157,6 +168,60 @@ fn a_key_is_a_number(rt: HostRuntime) -> Result<(), Fail> {
     fails(&rt, alloc, &["get", "7", "7"], &SEVEN, USAGE)?;
     let refused = "btreearc: refused: position 0 is out of range";
     fails(&rt, alloc, &["get", "7"], b"", refused)
+}
+
+#[test]
+fn the_lines_from_a_key_to_another_are_written(rt: HostRuntime) -> Result<(), Fail> {
+    let alloc = rt.alloc();
+    let three = built(&rt, alloc, "1 10\n2 20\n9 90\n")?;
+    writes(&rt, alloc, &["range", "2", "9"], &three, b"2 20\n9 90\n")?;
+    let ranges: [(&str, &str, &[u8]); 8] = [
+        ("1", "1", b"1 10\n"),
+        ("0", "2", b"1 10\n2 20\n"),
+        ("0000000002", "8", b"2 20\n"),
+        ("3", "8", b""),
+        ("10", "4294967295", b""),
+        ("0", "4294967295", b"1 10\n2 20\n9 90\n"),
+        ("9", "2", b""),
+        ("4294967295", "0", b""),
+    ];
+    for (low, high, lines) in ranges {
+        writes(&rt, alloc, &["range", low, high], &three, lines)?;
+    }
+    let empty = built(&rt, alloc, "")?;
+    writes(&rt, alloc, &["range", "0", "4294967295"], &empty, b"")
+}
+
+// Seven entries don't stand in one node, which has five at most.
+#[test]
+fn a_range_goes_over_nodes(rt: HostRuntime) -> Result<(), Fail> {
+    let alloc = rt.alloc();
+    let text = lines(alloc, 215)?;
+    let many = built(&rt, alloc, text.as_str())?;
+    let seven = b"99 990\n100 1000\n101 1010\n102 1020\n103 1030\n104 1040\n105 1050\n";
+    writes(&rt, alloc, &["range", "99", "105"], &many, seven)?;
+    writes(
+        &rt,
+        alloc,
+        &["range", "1", "215"],
+        &many,
+        text.as_str().as_bytes(),
+    )
+}
+
+#[test]
+fn the_ends_of_a_range_are_two_numbers(rt: HostRuntime) -> Result<(), Fail> {
+    let alloc = rt.alloc();
+    reads_nothing(&rt, alloc, &["range"])?;
+    reads_nothing(&rt, alloc, &["range", "1"])?;
+    reads_nothing(&rt, alloc, &["range", "1", "2", "3"])?;
+    reads_nothing(&rt, alloc, &["ranges", "1", "2"])?;
+    for wrong in ["", "x", "-1", "+1", "2 ", "4294967296", "00000000001"] {
+        reads_nothing(&rt, alloc, &["range", wrong, "2"])?;
+        reads_nothing(&rt, alloc, &["range", "1", wrong])?;
+    }
+    let refused = "btreearc: refused: position 0 is out of range";
+    fails(&rt, alloc, &["range", "1", "2"], b"", refused)
 }
 
 #[test]
@@ -281,12 +346,7 @@ fn a_wrong_use_reads_nothing(rt: HostRuntime) -> Result<(), Fail> {
     fails(&rt, alloc, &["build", "1"], b"1 2\n", USAGE)?;
     fails(&rt, alloc, &["list", "list"], &SEVEN, USAGE)?;
     fails(&rt, alloc, &["check", ""], &SEVEN, USAGE)?;
-    let args = words_of(alloc, &["lists"])?;
-    let mut input = SEVEN.as_slice();
-    let mut output = Vec::new(alloc);
-    let result = run(alloc, &args, &mut input, &mut output);
-    assert_eq!(rt; input.len(), 56);
-    says(&rt, alloc, result, USAGE)
+    reads_nothing(&rt, alloc, &["lists"])
 }
 
 #[test]
@@ -427,8 +487,9 @@ impl Write for FailingWriter {
 #[test]
 fn a_failed_read_is_told(rt: HostRuntime) -> Result<(), Fail> {
     let alloc = rt.alloc();
-    for word in ["build", "list", "check"] {
-        let args = words_of(alloc, &[word])?;
+    let uses: [&[&str]; 4] = [&["build"], &["list"], &["check"], &["range", "1", "2"]];
+    for words in uses {
+        let args = words_of(alloc, words)?;
         let mut input = FailingReader { bytes: b"1 x\n" };
         let mut output = Vec::new(alloc);
         let result = run(alloc, &args, &mut input, &mut output);
@@ -441,9 +502,14 @@ fn a_failed_read_is_told(rt: HostRuntime) -> Result<(), Fail> {
 #[test]
 fn a_failed_write_is_told(rt: HostRuntime) -> Result<(), Fail> {
     let alloc = rt.alloc();
-    let inputs: [(&str, &[u8]); 3] = [("build", b"7 11"), ("list", &SEVEN), ("check", &SEVEN)];
-    for (word, input) in inputs {
-        let args = words_of(alloc, &[word])?;
+    let uses: [(&[&str], &[u8]); 4] = [
+        (&["build"], b"7 11"),
+        (&["list"], &SEVEN),
+        (&["check"], &SEVEN),
+        (&["range", "7", "7"], &SEVEN),
+    ];
+    for (words, input) in uses {
+        let args = words_of(alloc, words)?;
         let mut input = input;
         let mut output = FailingWriter { is_full: false };
         let result = run(alloc, &args, &mut input, &mut output);

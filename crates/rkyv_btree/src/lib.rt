@@ -24,9 +24,14 @@ pub mod iter {
     pub use rkyv_btree_view::iter::Iter;
 }
 
+/// Iterators over the keys and over the values of a map.
+pub mod keys {
+    pub use rkyv_btree_view::keys::{Keys, Values};
+}
+
 /// What is known of look-ups.
 pub mod lookup {
-    pub use rkyv_btree_view::lookup::increasing_keys_are_found;
+    pub use rkyv_btree_view::lookup::{increasing_keys_are_found, what_is_found_is_equal};
 }
 
 /// Archived maps, read in place.
@@ -44,6 +49,11 @@ pub mod native {
 pub mod query {
     pub use rkyv_btree_view::query::CompareWith;
     pub use rkyv_btree_walk::search::Compared;
+}
+
+/// Ranges of the entries of a map.
+pub mod range {
+    pub use rkyv_btree_view::range::Range;
 }
 
 /// Values in a buffer.

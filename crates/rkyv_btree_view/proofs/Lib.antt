@@ -1,3 +1,4 @@
 -- The lemmas of views.
+pub mod Bounds
 pub mod Drained
 pub mod Lookups

@@ -14,10 +14,16 @@ use Rattle.rkyv_btree_view.specs.Query.{IsCut}
 use Rattle.rkyv_btree_view.specs.View.{entries_of}
 use Rattle.rkyv_btree_view.specs.declared.view.View.{View}
 
+-- the entry that a search of the map at a position asks and finds equal
+abbrev pub found_at : (K V : Kind) → ℕ → List ℕ → ℕ → (K.Value → Ordering) → Option (K.Value × V.Value)
+found_at K V E b at answer =
+    let means = entry_at K V E b in
+    option_map means (probe (λ e. answer (means e).0) (map_tree (layout_of K V E) b at))
+
 module _ (K V : Kind) (E : ℕ) {M : Type 0} {m : Portable.Ghosts M} (view : View M m) (answer : K.Value → Ordering) where
-  -- the entry that a search for the query asks and finds equal
+  -- the entry that a search of a view's map asks and finds equal
   abbrev pub found_in : Option (K.Value × V.Value)
-  found_in = option_map (entry_at K V E view.buf.now) (probe (λ e. answer (entry_at K V E view.buf.now e).0) (map_tree (layout_of K V E) view.buf.now view.pos))
+  found_in = found_at K V E view.buf.now view.pos answer
 
   -- how many keys it compares the query with
   abbrev pub comparisons_in : ℕ
@@ -43,6 +49,12 @@ ByNative {N} K compared_at native Holds =
 -- the height of a map's tree, of these keys, these values and E
 abbrev pub height_of : (K V : Kind) → ℕ → {M : Type 0} {m : Portable.Ghosts M} → View M m → ℕ
 height_of K V E view = height (map_tree (layout_of K V E) view.buf.now view.pos)
+
+-- what a search of a map asks and finds equal is what a look-up finds, by each comparison
+abbrev pub FoundIsEqual : Kind → Kind → ℕ → Type 0
+FoundIsEqual K V E =
+    (b : List ℕ) (at : ℕ) (answer : K.Value → Ordering)
+    → Answers (λ e. answer e.0) (entry_at K V E b) (map_tree (layout_of K V E) b at) (found_at K V E b at answer)
 
 -- what is found is the only entry that gives Equal, and where nothing is found none does
 pub record Only {Y : Type 0} (answer : Y → Ordering) (m : List Y) (found : Option Y) : Type 0 where

@@ -3,6 +3,7 @@
 use crate::native::ToNative;
 use crate::view::View;
 use rkyv_btree_base::check::Portable;
+use rkyv_btree_base::map::ArchivedBTreeMap;
 use rkyv_btree_base::scalars::ArchivedNonZeroU32;
 use rkyv_btree_base::text::ArchivedText;
 use rkyv_btree_base::util::Entry;
@@ -45,6 +46,15 @@ impl<K: ViewDebug, V: ViewDebug> ViewDebug for Entry<K, V> {
             value: view.value(),
         };
         fmt::Debug::fmt(&entry, f)
+    }
+}
+
+impl<K: ViewDebug, V: ViewDebug, const E: usize> ViewDebug for ArchivedBTreeMap<K, V, E> {
+    fn show<W: fmt::Write>(
+        view: &View<'_, ArchivedBTreeMap<K, V, E>>,
+        f: &mut fmt::Formatter<W>,
+    ) -> fmt::Result {
+        f.debug_map().entries(view.iter()).finish()
     }
 }
 

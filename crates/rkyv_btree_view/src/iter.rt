@@ -120,7 +120,7 @@ impl<'a, K: Portable, V: Portable, M: ArchivedMap<Key = K, Mapped = V>> View<'a,
     }
 
     /// The iterator at the first entry: all entries of the map are left of its walk.
-    fn walk(self) -> Iter<'a, M>
+    pub(crate) fn walk(self) -> Iter<'a, M>
         ensures { entries_left result ≡ entries_of K.kind V.kind M.E self.entry }
     {
         M::opened(self.buf, self.pos);

@@ -3,7 +3,7 @@
 ghost use Rattle.std.specs.Prelude.{◌≡◌, ◌+◌, ◌*◌, ◌≤◌, [], IsTrue, IsSome, IfSome, Some, is_some};
 ghost use Rattle.rkyv_btree_base.specs.Read.{entry_at};
 ghost use Rattle.std.specs.Option.{option_map};
-ghost use Rattle.rkyv_btree_view.specs.Lookup.{found_in, comparisons_in, height_of, Finds, IsComplete, ByComparison, ByNative, IncreasingIsFound};
+ghost use Rattle.rkyv_btree_view.specs.Lookup.{found_in, comparisons_in, height_of, Finds, IsComplete, ByComparison, ByNative, FoundIsEqual, IncreasingIsFound};
 ghost use Rattle.rkyv_btree_view.specs.Query.{IsCut};
 ghost use Rattle.rkyv_btree_view.specs.View.{reads, reads_both, entries_of};
 ghost use Rattle.rkyv_btree_walk.specs.mirror.Node.{RunStands};
@@ -168,6 +168,12 @@ impl<'a, K: Portable, V: Portable, M: ArchivedMap<Key = K, Mapped = V>> View<'a,
         self.get_key_value_by(key).is_some()
     }
 }
+
+/// What a search asks and finds equal, as `found` of the look-ups names it, is an entry of the list that is equal; and
+/// under an ordered comparison there is one exactly if some key is equal.
+pub fn what_is_found_is_equal<K: Portable, V: Portable, const E: usize>()
+    ensures { FoundIsEqual K.kind V.kind E }
+{}
 
 /// In a map whose keys strictly increase, what a look-up finds is the only entry whose key is equal to the query, and
 /// where it finds nothing there is none: so by keys, and by native values.

@@ -3,6 +3,8 @@ pub mod Hits
 pub mod Nodes
 pub mod Paths
 pub mod Props
+pub mod Ranges
 pub mod Roots
 pub mod Searches
+pub mod Seeks
 pub mod Visits

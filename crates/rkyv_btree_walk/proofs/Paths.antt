@@ -24,7 +24,7 @@ module _ (s : NodeLayout) (b : List ℕ) (m : ℕ) where
 
   module _ (p : ℕ) where
     -- nothing is left past the last entry
-    rest_end : (i : ℕ) → entry_count s b p ≤ i → node_rest s b m p i ≡ []
+    pub rest_end : (i : ℕ) → entry_count s b p ≤ i → node_rest s b m p i ≡ []
     unfolding node_rest
     rest_end i h =
         elim (cases_Bool (is_leaf s b p)) [
@@ -33,7 +33,7 @@ module _ (s : NodeLayout) (b : List ℕ) (m : ℕ) where
         ]
 
     -- from an entry on, that entry is left, and the tree from the child behind it on
-    rest_more : (i : ℕ) → i < entry_count s b p → node_rest s b m p i ≡ (p, i) ∷ tree_rest s b (suc m) p (i + 1)
+    pub rest_more : (i : ℕ) → i < entry_count s b p → node_rest s b m p i ≡ (p, i) ∷ tree_rest s b (suc m) p (i + 1)
     unfolding node_rest tree_rest
     rest_more i h =
         elim (cases_Bool (is_leaf s b p)) [
@@ -61,7 +61,7 @@ module _ (s : NodeLayout) (b : List ℕ) (m : ℕ) where
     unfolding node_rest tree_rest
     leaf_list e = rw e refl
 
-    tree_absent : (i : ℕ) → child_place s b p i ≡ None → tree_rest s b (suc m) p i ≡ node_rest s b m p i
+    pub tree_absent : (i : ℕ) → child_place s b p i ≡ None → tree_rest s b (suc m) p i ≡ node_rest s b m p i
     unfolding tree_rest
     tree_absent i none = rw none refl
 
@@ -69,7 +69,7 @@ module _ (s : NodeLayout) (b : List ℕ) (m : ℕ) where
     unfolding tree_rest
     tree_child i q some = rw some refl
 
-  rest_snoc : (n : ℕ) (fs : List (ℕ × ℕ)) (f : ℕ × ℕ) → n ≡ length fs + suc m → path_rest s b n (fs ++ f ∷ []) ≡ node_rest s b m f.0 f.1 ++ path_rest s b n fs
+  pub rest_snoc : (n : ℕ) (fs : List (ℕ × ℕ)) (f : ℕ × ℕ) → n ≡ length fs + suc m → path_rest s b n (fs ++ f ∷ []) ≡ node_rest s b m f.0 f.1 ++ path_rest s b n fs
   rest_snoc zero fs f is = absurd (omega arith)
   rest_snoc (suc n) [] f is = let e : n ≡ m = omega arith in rw e (sym (append-nil _))
   rest_snoc (suc n) (g ∷ fs) f is =
@@ -182,6 +182,13 @@ module _ (K V : Kind) (E : ℕ) (b : List ℕ) (n p i : ℕ) (fs all : List (ℕ
 
   pub pop_inner : is_leaf (layout_of K V E) b p ≡ false
   pop_inner = parts.4
+
+  pub pop_run : i < E → RunStands K V E b p i (i + 1)
+  pop_run less = inner_run K V E b p pop_node pop_inner i less
+
+  -- there is room to put it back
+  pub pop_short : length fs < n
+  pop_short = put_short K V E b n p i fs pop_path pop_tree
 
   -- with no entry left of it, all the others are left
   pub pop_end : E ≤ i → path_rest (layout_of K V E) b n all ≡ path_rest (layout_of K V E) b n fs

@@ -200,6 +200,13 @@ search_then asked more k is here same = rw (is, here, same) refl
 pub search_on : {A : Type 0} {whole here : A × ℕ} (below : A × ℕ) (asked more k : ℕ) → whole ≡ (here.0, asked + here.1) → here ≡ (below.0, k + below.1) → more ≡ k → whole ≡ (below.0, asked + more + below.1)
 search_on below asked more k is goes same = let e : asked + (k + below.1) ≡ asked + k + below.1 = omega arith in rw (is, goes, same, e) refl
 
+-- how many entries a leaf has, and an inner node
+pub leaf_counted : {n : ℕ} (s : NodeLayout) (b : List ℕ) (p : ℕ) → is_leaf s b p ≡ true → n ≡ number_at b (p + len_at s) 4 → n ≡ entry_count s b p
+leaf_counted s b p e counted = rw e counted
+
+pub inner_counted : {n : ℕ} (s : NodeLayout) (b : List ℕ) (p : ℕ) → is_leaf s b p ≡ false → n ≡ s.E → n ≡ entry_count s b p
+inner_counted s b p e counted = rw e counted
+
 -- a leaf has no child
 pub leaf_alone : (s : NodeLayout) (b : List ℕ) (p i : ℕ) → is_leaf s b p ≡ true → child_place s b p i ≡ None
 leaf_alone s b p i e = rw e refl

@@ -4,6 +4,8 @@
 pub mod map;
 pub mod node;
 pub mod path;
+pub mod range;
 pub mod search;
+pub mod seek;
 pub mod shows;
 pub mod visit;

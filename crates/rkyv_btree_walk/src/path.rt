@@ -37,7 +37,7 @@ pub struct Step {
 
 /// Goes down from the node at `node` to the leaf below its first child and the first children of these, and puts the
 /// inner nodes met on the path.
-fn descend<K: Portable, V: Portable, M: ArchivedMap<Key = K, Mapped = V>>(
+pub(crate) fn descend<K: Portable, V: Portable, M: ArchivedMap<Key = K, Mapped = V>>(
     buf: &[u8],
     node: u32,
     path: &mut Path,

@@ -1,11 +1,11 @@
 //! Searches of a map for an entry, by a comparison with its key.
-ghost use Rattle.std.specs.Prelude.{◌≡◌, ℕ, ◌+◌, ◌*◌, ◌≤◌, length, IfSome, IsTrue};
+ghost use Rattle.std.specs.Prelude.{◌≡◌, ◌+◌, ◌*◌, ◌≤◌, length, IfSome, IsTrue};
 ghost use Rattle.std.specs.declared.cmp.Ordering.{Ordering as Answer};
 ghost use Rattle.rkyv_btree_base.specs.Layout.{layout_of, are_fitting};
 ghost use Rattle.rkyv_btree_base.specs.Read.{read_map};
 ghost use Rattle.rkyv_btree_base.specs.Views.{stands};
 ghost use Rattle.rkyv_btree_walk.specs.Search.{compared_of, shown};
-ghost use Rattle.rkyv_btree_walk.specs.mirror.Node.{NodeStands, TreeStands, RunStands, is_leaf as is_leaf_at, entry_count as entries_in};
+ghost use Rattle.rkyv_btree_walk.specs.mirror.Node.{TreeStands, RunStands};
 ghost use Rattle.rkyv_btree_walk.specs.mirror.Search.{StopsAt, StopsWithin, asked_by, answers_at, searched, searched_map, TellsBy};
 
 use crate::map::{ArchivedMap, map_len};
@@ -108,25 +108,6 @@ fn search_node<
     Stop::Before(count)
 }
 
-/// How many entries the node at `node` has.
-#[inline(always)]
-fn entry_count<K: Portable, V: Portable, M: ArchivedMap<Key = K, Mapped = V>>(
-    buf: &[u8],
-    node: u32,
-    leaf: bool,
-) -> u32
-    requires fitting { IsTrue (are_fitting K.kind V.kind M.E) }
-    requires short { length buf.now ≤ 4294967295 }
-    requires node { NodeStands K.kind V.kind M.E buf.now node }
-    requires leaf { leaf ≡ is_leaf_at (layout_of K.kind V.kind M.E) buf.now node }
-    ensures { result ≡ entries_in (layout_of K.kind V.kind M.E) buf.now node }
-{
-    if leaf {
-        return leaf_count::<K, V, M>(buf, node);
-    }
-    M::entries_per_node() as u32
-}
-
 /// The entry of the tree at `from` at which a search ends with Equal, by its node and number, and how many entries it
 /// asks.
 #[inline(always)]
@@ -153,21 +134,25 @@ fn search_tree<
     let mut node = from;
     let mut asked = 0u64;
     'down: loop {
-        let leaf = is_leaf::<K, V, M>(buf, node);
-        let count = entry_count::<K, V, M>(buf, node, leaf);
+        if is_leaf::<K, V, M>(buf, node) {
+            let count = leaf_count::<K, V, M>(buf, node);
+            let stop = search_node::<Q, K, V, M, W, C>(buf, node, count, key, cmp);
+            asked += u64::from(stop.asked(count));
+            return match stop {
+                Stop::At(i) => (Some((node, i)), asked),
+                Stop::Before(_) => (None, asked),
+            };
+        }
+        // An inner node's number of entries is known when this is compiled, so its search has no loop.
+        let count = M::entries_per_node() as u32;
         let stop = search_node::<Q, K, V, M, W, C>(buf, node, count, key, cmp);
         asked += u64::from(stop.asked(count));
         match stop {
             Stop::At(i) => return (Some((node, i)), asked),
-            Stop::Before(i) => {
-                if leaf {
-                    return (None, asked);
-                }
-                match child::<K, V, M>(buf, node, i as usize) {
-                    None => return (None, asked),
-                    Some(below) => node = below,
-                }
-            }
+            Stop::Before(i) => match child::<K, V, M>(buf, node, i as usize) {
+                None => return (None, asked),
+                Some(below) => node = below,
+            },
         }
     }
 }

@@ -94,7 +94,7 @@ fn entries_compare_key_first(rt: HostRuntime) {
 
 /// Takes down what it is fed: behind what it holds the bytes of each write, and then 255. It keeps the last eight bytes.
 #[derive(Drop)]
-struct Recorder(u64);
+pub(crate) struct Recorder(pub(crate) u64);
 
 impl Hasher for Recorder {
     ghost write = { λ s bytes. record {

@@ -8,6 +8,8 @@ mod entries;
 #[cfg(test)]
 mod equal;
 #[cfg(test)]
+mod equal_maps;
+#[cfg(test)]
 mod faults;
 #[cfg(test)]
 mod first;
@@ -31,6 +33,8 @@ mod numbers;
 mod opening;
 #[cfg(test)]
 mod pairs;
+#[cfg(test)]
+mod ranges;
 #[cfg(test)]
 mod texts;
 #[cfg(test)]

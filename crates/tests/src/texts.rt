@@ -105,7 +105,7 @@ fn texts_lie_in_their_windows(rt: HostRuntime) -> Result<(), Fail> {
 }
 
 /// Each text with its value.
-fn with_texts<V: Copy + Drop>(
+pub(crate) fn with_texts<V: Copy + Drop>(
     alloc: Global,
     entries: &[(&str, V)],
 ) -> Result<Vec<(String, V)>, AllocError> {
@@ -117,7 +117,7 @@ fn with_texts<V: Copy + Drop>(
 }
 
 /// Writes the tree and the root of a map of texts, and answers where the root stands.
-fn archive_texts<VU, V, const E: usize>(
+pub(crate) fn archive_texts<VU, V, const E: usize>(
     rt: &impl Abort,
     alloc: Global,
     entries: &[(String, VU)],

@@ -1,9 +1,13 @@
--- What comparisons of native values give those of the values that are read as them.
-use Rattle.std.specs.Prelude.{◌≡◌, ℕ, Bool, List, IsTrue, Some}
-use Rattle.std.specs.Cmp.{IsEquivalence, IsTotalOrder, IsPartialOrder, on_equiv, on_total, partial_order_from_agreeing_total}
+-- What comparisons of native values give those of the values that are read as them, and what those of keys and values
+-- give maps.
+use Rattle.std.specs.Prelude.{◌≡◌, ℕ, Bool, List, [], ◌∷◌, IsTrue, Some}
+use Rattle.std.specs.Cmp.{IsEquivalence, IsTotalOrder, IsPartialOrder, on_equiv, on_total, partial_order_from_agreeing_total, first_so, second_so}
+use Rattle.std.specs.Cmp.Lexicographic.{pointwise}
+use Rattle.std.specs.List.{flat_map}
 use Rattle.std.specs.Ordering.{is_eq}
 use Rattle.std.specs.declared.cmp.Ordering.{Ordering}
 use Rattle.std.proofs.Common.{refl, sym, ap, subst, ◌∙◌}
+use Rattle.rkyv_btree_base.specs.Entry.{entry_kind}
 use Rattle.rkyv_btree_base.specs.Kind.{Kind}
 use Rattle.rkyv_btree_view.specs.Native.{ReadAs}
 
@@ -23,3 +27,16 @@ module _ {N : Type 0} {kind : Kind} {read_native : List ℕ → ℕ → N} {nati
 -- views of a kind with a total order
 pub views_order : (kind : Kind) → IsTotalOrder kind.order → ((x y : kind.Value) → kind.same x y ≡ is_eq (kind.order x y)) → IsPartialOrder kind.same (λ x y. Some (kind.order x y))
 views_order kind total matches = partial_order_from_agreeing_total kind.order total (λ x y. refl) matches
+
+-- maps whose lists agree entry by entry are hashed alike, where keys and values are
+pub map_respects : (K V : Kind) → ((x y : K.Value) → IsTrue (K.same x y) → K.hash_input x ≡ K.hash_input y) → ((x y : V.Value) → IsTrue (V.same x y) → V.hash_input x ≡ V.hash_input y)
+    → (xs ys : List (K.Value × V.Value)) → IsTrue (pointwise (entry_kind K V).same xs ys) → flat_map (entry_kind K V).hash_input xs ≡ flat_map (entry_kind K V).hash_input ys
+map_respects K V keys values [] [] same = refl
+map_respects K V keys values [] (y ∷ ys) same = absurd (cc same)
+map_respects K V keys values (x ∷ xs) [] same = absurd (cc same)
+map_respects K V keys values (x ∷ xs) (y ∷ ys) same =
+    let first = first_so _ (pointwise (entry_kind K V).same xs ys) same in
+    let key = keys x.0 y.0 (first_so _ (V.same x.1 y.1) first) in
+    let value = values x.1 y.1 (second_so (K.same x.0 y.0) _ first) in
+    let rest = map_respects K V keys values xs ys (second_so ((entry_kind K V).same x y) _ same) in
+    cc (key, value, rest)

@@ -1,14 +1,18 @@
--- Where a key is given, the words are a command.
-use Rattle.std.proofs.Common.{rules}
-use Rattle.std.specs.Prelude.{codes}
-use Rattle.btreearc.specs.Commands.{IsWordAndNumber}
+-- Words that name no command name none of these.
+use Rattle.btreearc.specs.declared.command.Command.TheVariants.{Build, List, Check, Get, Range}
 use Rattle.btreearc.proofs.program.run.Goals as goal
 
-pub returns-in-Some-clause-usage : goal.returns-in-Some-clause-usage
-returns-in-Some-clause-usage g c none = let is : IsWordAndNumber (codes "get") c.in-Some.key c.args.args.now = search rules in absurd (none.3 c.in-Some.key is)
+pub returns-in-None-clause-build : goal.returns-in-None-clause-build
+returns-in-None-clause-build g c is = absurd (c.in-None.ensures.unnamed Build is)
 
-pub returns-in-Some-clause-unread : goal.returns-in-Some-clause-unread
-returns-in-Some-clause-unread g c none = let is : IsWordAndNumber (codes "get") c.in-Some.key c.args.args.now = search rules in absurd (none.3 c.in-Some.key is)
+pub returns-in-None-clause-list : goal.returns-in-None-clause-list
+returns-in-None-clause-list g c is = absurd (c.in-None.ensures.unnamed List is)
 
-pub returns-in-Some-clause-unwritten : goal.returns-in-Some-clause-unwritten
-returns-in-Some-clause-unwritten g c none = let is : IsWordAndNumber (codes "get") c.in-Some.key c.args.args.now = search rules in absurd (none.3 c.in-Some.key is)
+pub returns-in-None-clause-check : goal.returns-in-None-clause-check
+returns-in-None-clause-check g c is = absurd (c.in-None.ensures.unnamed Check is)
+
+pub returns-in-None-clause-get : goal.returns-in-None-clause-get
+returns-in-None-clause-get g c key is = absurd (c.in-None.ensures.unnamed (Get key) is)
+
+pub returns-in-None-clause-range : goal.returns-in-None-clause-range
+returns-in-None-clause-range g c low high is = absurd (c.in-None.ensures.unnamed (Range low high) is)

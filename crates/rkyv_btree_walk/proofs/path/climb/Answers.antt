@@ -3,7 +3,7 @@ use Rattle.std.proofs.Common.{◌-◌, ◌∷◌, ◌++◌, ◌∙◌, length, a
 use Rattle.rkyv_btree_base.specs.Layout.{layout_of}
 use Rattle.rkyv_btree_base.proofs.Sizes.{room_of}
 use Rattle.rkyv_btree_walk.specs.mirror.Path.{tree_rest, path_rest}
-use Rattle.rkyv_btree_walk.proofs.Paths.{pop_path, pop_tree, pop_node, pop_inner, pop_end, pop_more, put_short, put_path, put_absent, put_child, inner_run}
+use Rattle.rkyv_btree_walk.proofs.Paths.{pop_path, pop_tree, pop_node, pop_inner, pop_run, pop_short, pop_end, pop_more, put_path, put_absent, put_child}
 use Rattle.rkyv_btree_walk.proofs.path.climb.Goals as goal
 
 pub overflow_add-next : goal.overflow_add-next
@@ -13,9 +13,7 @@ overflow_add-next g c =
 
 pub push-requires : goal.push-requires
 push-requires g c =
-    let path = pop_path _ _ _ _ 32 _ _ c.pop.new.self.items _ c.in-Some.ensures.items c.up.invariant.path in
-    let tree = pop_tree _ _ _ _ 32 _ _ c.pop.new.self.items _ c.in-Some.ensures.items c.up.invariant.path in
-    let short = put_short _ _ _ _ 32 _ 0 c.pop.new.self.items path tree in
+    let short = pop_short _ _ _ _ 32 _ _ c.pop.new.self.items _ c.in-Some.ensures.items c.up.invariant.path in
     (omega arith, omega (arith, short))
 
 pub child-requires-clause-node : goal.child-requires-clause-node
@@ -52,10 +50,8 @@ returns-in-None-clause-path g c =
 
 pub returns-in-None-clause-entry : goal.returns-in-None-clause-entry
 returns-in-None-clause-entry g c =
-    let more = rw c.entries_per_node.ensures at c.if-index-entries_per_node.true in
-    let node = pop_node _ _ _ _ 32 _ c.in-Some.index c.pop.new.self.items _ c.in-Some.ensures.items c.up.invariant.path in
-    let inner = pop_inner _ _ _ _ 32 _ c.in-Some.index c.pop.new.self.items _ c.in-Some.ensures.items c.up.invariant.path in
-    inner_run _ _ _ _ _ node inner c.in-Some.index (omega arith)
+    let less = rw c.entries_per_node.ensures at c.if-index-entries_per_node.true in
+    pop_run _ _ _ _ 32 _ c.in-Some.index c.pop.new.self.items _ c.in-Some.ensures.items c.up.invariant.path (omega arith)
 
 pub returns-in-None-clause-rest : goal.returns-in-None-clause-rest
 returns-in-None-clause-rest g c =
@@ -69,10 +65,8 @@ returns-in-None-clause-rest g c =
 
 pub returns-in-Some-child-clause-entry : goal.returns-in-Some-child-clause-entry
 returns-in-Some-child-clause-entry g c =
-    let more = rw c.entries_per_node.ensures at c.if-index-entries_per_node.true in
-    let node = pop_node _ _ _ _ 32 _ c.in-Some.index c.pop.new.self.items _ c.in-Some.ensures.items c.up.invariant.path in
-    let inner = pop_inner _ _ _ _ 32 _ c.in-Some.index c.pop.new.self.items _ c.in-Some.ensures.items c.up.invariant.path in
-    inner_run _ _ _ _ _ node inner c.in-Some.index (omega arith)
+    let less = rw c.entries_per_node.ensures at c.if-index-entries_per_node.true in
+    pop_run _ _ _ _ 32 _ c.in-Some.index c.pop.new.self.items _ c.in-Some.ensures.items c.up.invariant.path (omega arith)
 
 pub returns-in-Some-child-clause-rest : goal.returns-in-Some-child-clause-rest
 returns-in-Some-child-clause-rest g c =

@@ -1,0 +1,16 @@
+-- All items of the iterator are all that is left of its walk; and keys compare as what their views read.
+use Rattle.std.proofs.Common.{◌∙◌, rules}
+use Rattle.rkyv_btree_view.specs.Range.{range_left}
+use Rattle.rkyv_btree_view.specs.View.{reads, reads_both}
+use Rattle.rkyv_btree_view.proofs.Bounds.{within_referred}
+use Rattle.rkyv_btree_view.proofs.Drained.{drained}
+use Rattle.rkyv_btree_view.proofs.view.View.range.Goals as goal
+
+pub returns-clause-all : goal.returns-clause-all
+returns-clause-all g c = λ items all. drained reads_both range_left _ items all
+
+pub returns-clause-within : goal.returns-clause-within
+returns-clause-within g c low high =
+    let K = g.K.Portable.kind in
+    let within = c.between-stop.ensures.within (λ q x. K.order (reads q) x) (λ q w r e. search rules) in
+    c.range_at.ensures ∙ within_referred (λ q. K.order (reads q)) c.as_ref.result c.as_ref-2.result c.args.low c.args.high _ _ c.as_ref.ensures c.as_ref-2.ensures within low high

@@ -1,0 +1,15 @@
+-- All items of the iterator are all that is left of its walk; and a native value compares as at the positions of keys.
+use Rattle.std.proofs.Common.{◌∙◌, rules}
+use Rattle.rkyv_btree_view.specs.Range.{range_left}
+use Rattle.rkyv_btree_view.specs.View.{reads_both}
+use Rattle.rkyv_btree_view.proofs.Bounds.{within_referred}
+use Rattle.rkyv_btree_view.proofs.Drained.{drained}
+use Rattle.rkyv_btree_view.proofs.view.View.range_by.Goals as goal
+
+pub returns-clause-all : goal.returns-clause-all
+returns-clause-all g c = λ items all. drained reads_both range_left _ items all
+
+pub returns-clause-within : goal.returns-clause-within
+returns-clause-within g c f p low high =
+    let within = c.between-stop.ensures.within f (λ q w r e. let same = p q.now w.buf.now w.pos in search rules) in
+    c.range_at.ensures ∙ within_referred f c.as_ref.result c.as_ref-2.result c.args.low c.args.high _ _ c.as_ref.ensures c.as_ref-2.ensures within low high

@@ -1,0 +1,12 @@
+-- All items of the iterator are all that is left of its walk.
+use Rattle.std.proofs.Common.{◌∙◌}
+use Rattle.rkyv_btree_view.specs.Range.{range_left}
+use Rattle.rkyv_btree_view.specs.View.{reads_both}
+use Rattle.rkyv_btree_view.proofs.Drained.{drained}
+use Rattle.rkyv_btree_view.proofs.view.View.range_with.Goals as goal
+
+pub returns-clause-all : goal.returns-clause-all
+returns-clause-all g c = λ items all. drained reads_both range_left _ items all
+
+pub returns-clause-within : goal.returns-clause-within
+returns-clause-within g c f p low high = c.range_at.ensures ∙ c.between-stop.ensures.within f p low high

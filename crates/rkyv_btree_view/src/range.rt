@@ -1,0 +1,185 @@
+//! Ranges of the entries of a map, between two bounds of their keys.
+ghost use Rattle.std.specs.Prelude.{◌≡◌, ◌≤◌, length, IsTrue};
+ghost use Rattle.std.specs.Iterator.{IsFinite};
+ghost use Rattle.std.specs.Range.Bound.{bound_map};
+ghost use Rattle.std.specs.declared.ops.Bound.TheVariants.{Unbounded};
+ghost use Rattle.rkyv_btree_base.specs.Layout.{are_fitting};
+ghost use Rattle.rkyv_btree_view.specs.Items.{ShowsAll};
+ghost use Rattle.rkyv_btree_view.specs.View.{reads, reads_both, entries_of};
+ghost use Rattle.rkyv_btree_walk.specs.Bounds.{IsRun, IsWithin, ByBounds};
+ghost use Rattle.rkyv_btree_walk.specs.mirror.Path.{IsPath};
+ghost use Rattle.rkyv_btree_walk.specs.mirror.Range.{read_range, PartStands};
+ghost use Rattle.rkyv_btree_walk.specs.Search.{shown};
+
+use crate::compare::ViewOrd;
+use crate::iter::entry;
+use crate::query::CompareWith;
+use crate::view::View;
+use arrayvec::ArrayVec;
+use rkyv_btree_base::check::Portable;
+use rkyv_btree_walk::map::ArchivedMap;
+use rkyv_btree_walk::path::Path;
+use rkyv_btree_walk::range::{advance_before, between};
+use rkyv_btree_walk::seek::Part;
+use rkyv_btree_walk::shows::Shows;
+use std::cmp::Ordering;
+use std::iter::FusedIterator;
+use std::marker::PhantomData;
+use std::ops::Bound;
+
+/// The entries of a map between two bounds, in order.
+#[derive(Drop)]
+pub struct Range<'a, M: ArchivedMap> {
+    buf: &'a [u8],
+    path: Path,
+    part: Part,
+    stop: Option<(u32, u32)>,
+    of: PhantomData<M>,
+    ghost fitting: { IsTrue (are_fitting M.Key.kind M.Mapped.kind M.E) },
+    ghost short: { length buf.now ≤ 4294967295 },
+    ghost on_path: { ∥ IsPath M.Key.kind M.Mapped.kind M.E buf.now 32 path.items ∥₁ },
+    ghost in_leaf: { ∥ PartStands M.Key.kind M.Mapped.kind M.E buf.now part ∥₁ },
+}
+
+impl<'a, K: Portable, V: Portable, M: ArchivedMap<Key = K, Mapped = V>> Iterator for Range<'a, M> {
+    ghost use Rattle.std.specs.Iterator.{YieldsFirstBy, item_count};
+    ghost use Rattle.rkyv_btree_view.specs.Range.{range_left};
+
+    type Item = (View<'a, K>, View<'a, V>);
+
+    ghost next_gives = { YieldsFirstBy reads_both range_left };
+
+    ghost remaining = { item_count range_left };
+
+    #[inline(always)]
+    fn next(&mut self) -> Option<(View<'a, K>, View<'a, V>)> {
+        let buf = self.buf;
+        let next = self.part.next;
+        if next < self.part.end {
+            let item = entry::<K, V, M>(buf, self.part.node, next);
+            self.part.next = next + 1;
+            return Some(item);
+        }
+        match advance_before::<K, V, M>(buf, self.stop, &mut self.path) {
+            None => None,
+            Some(step) => {
+                self.part = Part {
+                    node: step.leaf.node,
+                    next: 0,
+                    end: step.leaf.count,
+                };
+                Some(entry::<K, V, M>(buf, step.node, step.index))
+            }
+        }
+    }
+}
+
+impl<'a, K: Portable, V: Portable, M: ArchivedMap<Key = K, Mapped = V>> FusedIterator
+    for Range<'a, M> {}
+
+impl<'a, K: Portable, V: Portable, M: ArchivedMap<Key = K, Mapped = V>> View<'a, M> {
+    ghost use Rattle.rkyv_btree_view.specs.Range.{range_left};
+
+    /// The range that has a part of a leaf left, and of the path above it what stands before the stop.
+    fn range_at(self, part: Part, stop: Option<(u32, u32)>, path: Path) -> Range<'a, M>
+        requires path { IsPath K.kind V.kind M.E self.buf.now 32 path.items }
+        requires stands { PartStands K.kind V.kind M.E self.buf.now part }
+        ensures { range_left result
+            ≡ read_range K.kind V.kind M.E self.entry.buf.now stop part path.items }
+    {
+        M::opened(self.buf, self.pos);
+        Range {
+            buf: self.buf,
+            path,
+            part,
+            stop,
+            of: PhantomData,
+        }
+    }
+
+    /// The entries between the bounds, in order, by a comparison that is a function of the query, which comes first, and
+    /// the key: `Greater` means that the query is past the key. Where the entries aren't ordered for both queries, these
+    /// are some that stand one behind the other. Neither this call nor the iterator takes memory.
+    pub fn range_with<Q, W: Shows<'a, K>, C: Fn(&Q, W) -> Ordering>(
+        self,
+        low: Bound<&Q>,
+        high: Bound<&Q>,
+        cmp: C,
+    ) -> Range<'a, M>
+        requires { C.IsAlwaysCallable cmp }
+        ensures all { ShowsAll ⟦<Range<'a, M> as Iterator>⟧.next_gives reads_both result
+            (range_left result) }
+        ensures ends { IsFinite (⟦<Range<'a, M> as Iterator>⟧.remaining result) }
+        ensures run { IsRun (range_left result) (entries_of K.kind V.kind M.E self.entry) }
+        ensures whole { low.entry ≡ Unbounded → high.entry ≡ Unbounded
+            → range_left result ≡ entries_of K.kind V.kind M.E self.entry }
+        ensures within { ByBounds (C.post cmp) (shown K.kind W.Shows) low.entry high.entry (λ lo hi.
+            IsWithin lo hi (entries_of K.kind V.kind M.E self.entry) (range_left result)) }
+    {
+        let mut path = ArrayVec::new();
+        let (part, stop) = between::<Q, K, V, M, W, C>(
+            self.buf, self.pos, low, high, &cmp, &mut path,
+        );
+        self.range_at(part, stop, path)
+    }
+}
+
+impl<'a, K: ViewOrd, V: Portable, M: ArchivedMap<Key = K, Mapped = V>> View<'a, M> {
+    ghost use Rattle.rkyv_btree_view.specs.Range.{range_left};
+
+    /// The entries whose keys are between the bounds, in order.
+    pub fn range(self, low: Bound<View<'_, K>>, high: Bound<View<'_, K>>) -> Range<'a, M>
+        ensures all { ShowsAll ⟦<Range<'a, M> as Iterator>⟧.next_gives reads_both result
+            (range_left result) }
+        ensures ends { IsFinite (⟦<Range<'a, M> as Iterator>⟧.remaining result) }
+        ensures run { IsRun (range_left result) (entries_of K.kind V.kind M.E self.entry) }
+        ensures whole { low.entry ≡ Unbounded → high.entry ≡ Unbounded
+            → range_left result ≡ entries_of K.kind V.kind M.E self.entry }
+        ensures within { IsWithin (bound_map (λ q. K.kind.order (reads q)) low.entry)
+            (bound_map (λ q. K.kind.order (reads q)) high.entry)
+            (entries_of K.kind V.kind M.E self.entry) (range_left result) }
+    {
+        let compare = |query: &View<'_, K>, key: View<K>| K::compare(query, &key);
+        let mut path = ArrayVec::new();
+        let (part, stop) = between::<_, K, V, M, _, _>(
+            self.buf,
+            self.pos,
+            low.as_ref(),
+            high.as_ref(),
+            &compare,
+            &mut path,
+        );
+        self.range_at(part, stop, path)
+    }
+}
+
+impl<'a, K: Portable, V: Portable, M: ArchivedMap<Key = K, Mapped = V>> View<'a, M> {
+    ghost use Rattle.rkyv_btree_view.specs.Range.{range_left, ByNativeBounds};
+
+    /// The entries whose keys are between bounds of native values, in order: numbers, `&str`, pairs of such, or what else
+    /// keys compare with.
+    pub fn range_by<T: Drop>(self, low: Bound<T>, high: Bound<T>) -> Range<'a, M>
+    where
+        K: CompareWith<T>,
+        ensures all { ShowsAll ⟦<Range<'a, M> as Iterator>⟧.next_gives reads_both result
+            (range_left result) }
+        ensures ends { IsFinite (⟦<Range<'a, M> as Iterator>⟧.remaining result) }
+        ensures run { IsRun (range_left result) (entries_of K.kind V.kind M.E self.entry) }
+        ensures whole { low ≡ Unbounded → high ≡ Unbounded
+            → range_left result ≡ entries_of K.kind V.kind M.E self.entry }
+        ensures within { ByNativeBounds K.kind K.compared_at low high (λ lo hi.
+            IsWithin lo hi (entries_of K.kind V.kind M.E self.entry) (range_left result)) }
+    {
+        let compare = |query: &T, key: View<K>| K::compare_with(query, &key);
+        let mut path = ArrayVec::new();
+        let (part, stop) = between::<_, K, V, M, _, _>(
+            self.buf,
+            self.pos,
+            low.as_ref(),
+            high.as_ref(),
+            &compare,
+            &mut path,
+        );
+        self.range_at(part, stop, path)
+    }
+}

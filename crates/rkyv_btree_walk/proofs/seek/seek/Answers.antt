@@ -1,0 +1,125 @@
+-- Each node that is met stands, and the way goes on beside its first entry that reaches the query.
+use Rattle.std.proofs.Common.{◌≡◌, ◌+◌, ◌-◌, ◌≤◌, [], ◌∙◌, length, refl, sym, arith, rules}
+use Rattle.std.proofs.lemmas.List.{append-nil}
+use Rattle.rkyv_btree_base.specs.Layout.{layout_of}
+use Rattle.rkyv_btree_base.proofs.Sizes.{room_of}
+use Rattle.rkyv_btree_walk.specs.mirror.Node.{RunStands}
+use Rattle.rkyv_btree_walk.proofs.Nodes.{tree_node, child_before}
+use Rattle.rkyv_btree_walk.proofs.Paths.{put_short, put_path, put_child, leaf_run}
+use Rattle.rkyv_btree_walk.proofs.Searches.{node_run, leaf_counted, inner_counted}
+use Rattle.rkyv_btree_walk.proofs.Seeks.{kept_behind, leaves_leaf, leaves_absent, leaves_child}
+use Rattle.rkyv_btree_walk.proofs.seek.seek.Goals as goal
+
+pub down-init : goal.down-init
+down-init g c = rw c.requires.empty (record { path = tt; tree = c.requires.tree; skipped = []; run = sym (append-nil _); from = λ f p rises. (refl, tt) })
+
+pub is_leaf-requires-clause-node : goal.is_leaf-requires-clause-node
+is_leaf-requires-clause-node g c = tree_node _ _ _ _ _ c.down.node c.down.invariant.tree
+
+pub leaf_count-end-requires-clause-node : goal.leaf_count-end-requires-clause-node
+leaf_count-end-requires-clause-node g c = tree_node _ _ _ _ _ c.down.node c.down.invariant.tree
+
+pub seek_node-next-requires : goal.seek_node-next-requires
+seek_node-next-requires g c κs =
+    let stands : RunStands g.K.Portable.kind g.V.Portable.kind g.M.ArchivedMap.E c.args.buf.now c.down.node 0 c.leaf_count-end.result =
+    rw c.leaf_count-end.ensures (leaf_run _ _ _ _ c.down.node (tree_node _ _ _ _ _ c.down.node c.down.invariant.tree) (sym c.is_leaf.ensures ∙ c.if-is_leaf.true)) in
+    search rules
+
+pub returns-then-is_leaf-clause-path : goal.returns-then-is_leaf-clause-path
+returns-then-is_leaf-clause-path g c = c.down.invariant.path
+
+pub returns-then-is_leaf-clause-stands : goal.returns-then-is_leaf-clause-stands
+returns-then-is_leaf-clause-stands g c =
+    λ j low high. leaf_run _ _ _ _ c.down.node (tree_node _ _ _ _ _ c.down.node c.down.invariant.tree) (sym c.is_leaf.ensures ∙ c.if-is_leaf.true) j (omega arith) (rw (← c.leaf_count-end.ensures) high)
+
+pub returns-then-is_leaf-clause-run : goal.returns-then-is_leaf-clause-run
+returns-then-is_leaf-clause-run g c =
+    let leaf = sym c.is_leaf.ensures ∙ c.if-is_leaf.true in
+    let counted = leaf_counted (layout_of g.K.Portable.kind g.V.Portable.kind g.M.ArchivedMap.E) c.args.buf.now c.down.node leaf c.leaf_count-end.ensures in
+    let inv = c.down.invariant in
+    let leaves = leaves_leaf _ _ _ _ c.down.node _ _ c.down.path.items _ inv.skipped inv.path inv.tree counted c.seek_node-next.ensures.within inv.run leaf _ c.leaf_count-end.ensures in
+    (leaves.0, leaves.1)
+
+pub returns-then-is_leaf-clause-from : goal.returns-then-is_leaf-clause-from
+returns-then-is_leaf-clause-from g c f p rises =
+    let leaf = sym c.is_leaf.ensures ∙ c.if-is_leaf.true in
+    let counted = leaf_counted (layout_of g.K.Portable.kind g.V.Portable.kind g.M.ArchivedMap.E) c.args.buf.now c.down.node leaf c.leaf_count-end.ensures in
+    let inv = c.down.invariant in
+    let leaves = leaves_leaf _ _ _ _ c.down.node _ _ c.down.path.items _ inv.skipped inv.path inv.tree counted c.seek_node-next.ensures.within inv.run leaf _ c.leaf_count-end.ensures in
+    let pass = leaves.2 _ rises (c.seek_node-next.ensures.first f p) (inv.from f p rises) in
+    kept_behind _ _ leaves.0 _ leaves.1 pass.0 pass.1
+
+pub overflow_cast-count : goal.overflow_cast-count
+overflow_cast-count g c =
+    let room = room_of _ _ _ g.met.K.Portable.laws g.met.V.Portable.laws c.requires.fitting in
+    omega (arith, room.entries)
+
+pub seek_node-next-requires-in-down : goal.seek_node-next-requires-in-down
+seek_node-next-requires-in-down g c κs =
+    let inner = sym c.is_leaf.ensures ∙ c.if-is_leaf.false in
+    let counted = inner_counted (layout_of g.K.Portable.kind g.V.Portable.kind g.M.ArchivedMap.E) c.args.buf.now c.down.node inner c.entries_per_node-count.ensures in
+    let stands : RunStands g.K.Portable.kind g.V.Portable.kind g.M.ArchivedMap.E c.args.buf.now c.down.node 0 c.entries_per_node-count.result =
+    rw counted (node_run _ _ _ _ c.down.node (tree_node _ _ _ _ _ c.down.node c.down.invariant.tree)) in
+    search rules
+
+pub push-requires : goal.push-requires
+push-requires g c =
+    let short = put_short _ _ _ _ 32 _ 0 c.down.path.items c.down.invariant.path c.down.invariant.tree in
+    (omega arith, omega (arith, short))
+
+pub child-requires-clause-node : goal.child-requires-clause-node
+child-requires-clause-node g c = tree_node _ _ _ _ _ c.down.node c.down.invariant.tree
+
+pub returns-in-None-clause-path : goal.returns-in-None-clause-path
+returns-in-None-clause-path g c =
+    let inner = sym c.is_leaf.ensures ∙ c.if-is_leaf.false in
+    let low : c.seek_node-next-in-down.result ≤ g.M.ArchivedMap.E = rw c.entries_per_node-count.ensures at c.seek_node-next-in-down.ensures.within in
+    rw c.push.ensures.items (put_path _ _ _ _ 32 _ _ c.down.path.items c.down.invariant.path c.down.invariant.tree inner low)
+
+pub returns-in-None-clause-run : goal.returns-in-None-clause-run
+returns-in-None-clause-run g c =
+    let inner = sym c.is_leaf.ensures ∙ c.if-is_leaf.false in
+    let counted = inner_counted (layout_of g.K.Portable.kind g.V.Portable.kind g.M.ArchivedMap.E) c.args.buf.now c.down.node inner c.entries_per_node-count.ensures in
+    let inv = c.down.invariant in
+    let none = sym c.child.ensures ∙ c.in-None.is in
+    let leaves = leaves_absent _ _ _ _ c.down.node _ _ c.down.path.items _ inv.skipped inv.path inv.tree counted c.seek_node-next-in-down.ensures.within inv.run none _ c.push.ensures.items in
+    (leaves.0, leaves.1)
+
+pub returns-in-None-clause-from : goal.returns-in-None-clause-from
+returns-in-None-clause-from g c f p rises =
+    let inner = sym c.is_leaf.ensures ∙ c.if-is_leaf.false in
+    let counted = inner_counted (layout_of g.K.Portable.kind g.V.Portable.kind g.M.ArchivedMap.E) c.args.buf.now c.down.node inner c.entries_per_node-count.ensures in
+    let inv = c.down.invariant in
+    let none = sym c.child.ensures ∙ c.in-None.is in
+    let leaves = leaves_absent _ _ _ _ c.down.node _ _ c.down.path.items _ inv.skipped inv.path inv.tree counted c.seek_node-next-in-down.ensures.within inv.run none _ c.push.ensures.items in
+    let pass = leaves.2 _ rises (c.seek_node-next-in-down.ensures.first f p) (inv.from f p rises) in
+    kept_behind _ _ leaves.0 _ leaves.1 pass.0 pass.1
+
+pub down-smaller : goal.down-smaller
+down-smaller g c =
+    let node = tree_node _ _ _ _ _ c.down.node c.down.invariant.tree in
+    let low : c.seek_node-next-in-down.result ≤ g.M.ArchivedMap.E = rw c.entries_per_node-count.ensures at c.seek_node-next-in-down.ensures.within in
+    child_before _ _ _ _ c.down.node node _ c.in-Some.below low (sym c.child.ensures ∙ c.in-Some.is)
+
+pub down-preserved : goal.down-preserved
+down-preserved g c =
+    let K = g.K.Portable.kind in let V = g.V.Portable.kind in let E = g.M.ArchivedMap.E in
+    let b = c.args.buf.now in
+    let j = c.seek_node-next-in-down.result in
+    let within = c.seek_node-next-in-down.ensures.within in
+    let inner = sym c.is_leaf.ensures ∙ c.if-is_leaf.false in
+    let counted = inner_counted (layout_of g.K.Portable.kind g.V.Portable.kind g.M.ArchivedMap.E) c.args.buf.now c.down.node inner c.entries_per_node-count.ensures in
+    let inv = c.down.invariant in
+    let low : j ≤ E = rw c.entries_per_node-count.ensures at within in
+    let levels = 32 - length c.push.new.self.items in
+    let less : levels ≡ 32 - (length c.down.path.items + 1) = omega (arith, c.push.ensures.len) in
+    let some = sym c.child.ensures ∙ c.in-Some.is in
+    let below = put_child K V E b 32 c.down.node j c.down.path.items inv.path inv.tree low c.in-Some.below some levels less in
+    let leaves = leaves_child K V E b c.down.node j _ c.down.path.items _ inv.skipped inv.path inv.tree counted within inv.run low c.in-Some.below some levels less _ c.push.ensures.items in
+    record {
+      path = rw c.push.ensures.items (put_path K V E b 32 c.down.node j c.down.path.items inv.path inv.tree inner low);
+      tree = below.0;
+      skipped = leaves.0;
+      run = leaves.1;
+      from = λ f p rises. leaves.2 _ rises (c.seek_node-next-in-down.ensures.first f p) (inv.from f p rises);
+    }

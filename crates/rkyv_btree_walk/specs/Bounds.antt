@@ -1,0 +1,42 @@
+-- Which entries are within two bounds. A bound holds what its query answers at each key: at Greater it is past the key.
+use Rattle.std.specs.Prelude.{◌≡◌, List, ◌++◌, Bool, true, ◌&&◌, filter}
+use Rattle.std.specs.Borrow.{Bor}
+use Rattle.std.specs.Ordering.{is_le, is_lt, is_ge, is_gt}
+use Rattle.std.specs.Range.Bound.{bound_map}
+use Rattle.std.specs.declared.cmp.Ordering.{Ordering}
+use Rattle.std.specs.declared.ops.Bound.{Bound}
+use Rattle.std.specs.declared.ops.Bound.TheVariants.{Included, Excluded, Unbounded}
+use Rattle.rkyv_btree_walk.specs.Search.{OrderedBy, ComparesBy}
+
+-- these entries stand in the list, one behind the other
+abbrev pub IsRun : {X : Type 0} → List X → List X → Type 0
+IsRun {X} range all = (skipped later : List X) × (all ≡ skipped ++ (range ++ later))
+
+module _ {A : Type 0} where
+  -- whether a key isn't before a low bound
+  abbrev pub is_from : Bound (A → Ordering) → A → Bool
+  is_from Unbounded key = true
+  is_from (Included answer) key = is_le (answer key)
+  is_from (Excluded answer) key = is_lt (answer key)
+
+  -- whether it isn't past a high one
+  abbrev pub is_to : Bound (A → Ordering) → A → Bool
+  is_to Unbounded key = true
+  is_to (Included answer) key = is_ge (answer key)
+  is_to (Excluded answer) key = is_gt (answer key)
+
+  module _ {B : Type 0} where
+    -- the entries are ordered for the query of a bound, if it has one
+    abbrev pub OrderedFor : Bound (A → Ordering) → List (A × B) → Type 0
+    OrderedFor Unbounded all = Unit {0}
+    OrderedFor (Included answer) all = OrderedBy (λ e. answer e.0) all
+    OrderedFor (Excluded answer) all = OrderedBy (λ e. answer e.0) all
+
+    -- these entries are all that are within both bounds, where the entries are ordered for both
+    abbrev pub IsWithin : Bound (A → Ordering) → Bound (A → Ordering) → List (A × B) → List (A × B) → Type 0
+    IsWithin low high all range = OrderedFor low all → OrderedFor high all → range ≡ filter (λ e. is_from low e.0 && is_to high e.0) all
+
+-- what holds of two bounds, by a comparison that is some function of a query and of what it is compared with
+abbrev pub ByBounds : {Q W A : Type 0} → (Bor Q → W → Ordering → Type 0) → (W → A) → Bound (Bor Q) → Bound (Bor Q) → (Bound (A → Ordering) → Bound (A → Ordering) → Type 0) → Type 0
+ByBounds {Q} {A} post shows low high Holds =
+    (compared : Q → A → Ordering) → ComparesBy post shows compared → Holds (bound_map (λ q. compared q.now) low) (bound_map (λ q. compared q.now) high)

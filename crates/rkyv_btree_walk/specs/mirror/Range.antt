@@ -1,0 +1,119 @@
+-- Where a range begins and where it stops. These mirror the code, which seeks both places.
+use Rattle.std.specs.Prelude.{◌≡◌, ℕ, ◌-◌, ◌<◌, List, [], ◌∷◌, ◌++◌, map, filter, Option, Some, None, Bool, true, false, ◌&&◌, not, nat_eq, if◌then◌else◌}
+use Rattle.std.specs.Ordering.{is_le, is_lt}
+use Rattle.std.specs.declared.cmp.Ordering.{Ordering}
+use Rattle.std.specs.declared.ops.Bound.{Bound}
+use Rattle.std.specs.declared.ops.Bound.TheVariants.{Included, Excluded, Unbounded}
+use Rattle.rkyv_btree_base.specs.Kind.{Kind}
+use Rattle.rkyv_btree_base.specs.Layout.{NodeLayout, layout_of}
+use Rattle.rkyv_btree_base.specs.Read.{run, entry_at}
+use Rattle.rkyv_btree_walk.specs.Bounds.{is_from}
+use Rattle.rkyv_btree_walk.specs.declared.path.Step.{Step}
+use Rattle.rkyv_btree_walk.specs.declared.seek.Part.{Part}
+use Rattle.rkyv_btree_walk.specs.mirror.Node.{RunStands}
+use Rattle.rkyv_btree_walk.specs.mirror.Path.{tree_rest, path_rest, walk_rest}
+use Rattle.rkyv_btree_walk.specs.mirror.Search.{answers_at}
+
+-- whether a key with this answer reaches the query: it isn't before it, or where `past` is true, it is behind it
+abbrev pub is_reached : Bool → Ordering → Bool
+is_reached past answer = if past then is_lt answer else is_le answer
+
+-- whether an entry reaches the query, by its key
+abbrev pub reached_at : (K V : Kind) → ℕ → List ℕ → Bool → (K.Value → Ordering) → ℕ × ℕ → Bool
+reached_at K V E b past answer e = is_reached past (answers_at K V E b answer e)
+
+-- the first of `count` numbers that passes the test, or `count`
+abbrev pub IsFirst : (ℕ → Bool) → ℕ → ℕ → Type 0
+IsFirst test count i = ((k : ℕ) → k < i → test k ≡ false) × (i < count → test i ≡ true)
+
+module _ {X : Type 0} (test : X → Bool) where
+  abbrev pub AllPass : List X → Type 0
+  AllPass [] = Unit {0}
+  AllPass (x ∷ xs) = (test x ≡ true) × AllPass xs
+
+  -- once an entry of the list passes, all behind it do
+  abbrev pub Rises : List X → Type 0
+  Rises [] = Unit {0}
+  Rises (x ∷ xs) = (test x ≡ true → AllPass xs) × Rises xs
+
+-- the entries of a list that pass a test are these, where it rises along the list
+abbrev pub IsKept : {X : Type 0} → (X → Bool) → List X → List X → Type 0
+IsKept test all rest = Rises test all → rest ≡ filter test all
+
+-- a list ends so
+abbrev pub IsEnd : {X : Type 0} → List X → List X → Type 0
+IsEnd {X} rest all = (skipped : List X) × (all ≡ skipped ++ rest)
+
+-- whether a key is past a high bound
+abbrev pub is_past : {A : Type 0} → Bound (A → Ordering) → A → Bool
+is_past Unbounded key = false
+is_past (Included answer) key = is_lt (answer key)
+is_past (Excluded answer) key = is_le (answer key)
+
+module _ (K V : Kind) (E : ℕ) (b : List ℕ) (bound : Bound (K.Value → Ordering)) where
+  -- whether an entry isn't before a low bound, by its key
+  abbrev pub from_at : ℕ × ℕ → Bool
+  from_at e = is_from bound (entry_at K V E b e).0
+
+  -- whether it is past a high one
+  abbrev pub past_at : ℕ × ℕ → Bool
+  past_at e = is_past bound (entry_at K V E b e).0
+
+abbrev pub first_of : {X : Type 0} → List X → Option X
+first_of [] = None
+first_of (x ∷ xs) = Some x
+
+-- the first entry of a list that passes a test is this, where it rises along the list
+abbrev pub IsFound : {X : Type 0} → (X → Bool) → List X → Option X → Type 0
+IsFound test all found = Rises test all → found ≡ first_of (filter test all)
+
+-- the entries of a list that pass one test and fail another are these, where both rise along the list
+abbrev pub IsMiddle : {X : Type 0} → (X → Bool) → (X → Bool) → List X → List X → Type 0
+IsMiddle from past all range = Rises from all → Rises past all → range ≡ filter (λ e. from e && not (past e)) all
+
+-- whether there is a first entry, and it passes the test
+abbrev pub first_passes : {X : Type 0} → (X → Bool) → List X → Bool
+first_passes test [] = false
+first_passes test (x ∷ xs) = test x
+
+-- whether an entry is the one before which a range stops
+abbrev pub is_stop : Option (ℕ × ℕ) → ℕ × ℕ → Bool
+is_stop None e = false
+is_stop (Some stop) e = nat_eq stop.0 e.0 && nat_eq stop.1 e.1
+
+-- the entries before that one, if there is one
+abbrev pub take_before : Option (ℕ × ℕ) → List (ℕ × ℕ) → List (ℕ × ℕ)
+take_before stop [] = []
+take_before stop (e ∷ es) = if is_stop stop e then [] else e ∷ take_before stop es
+
+module _ (s : NodeLayout) (b : List ℕ) (stop : Option (ℕ × ℕ)) where
+  -- what is left of a range: the entries of a leaf from number i to before number n, and of the path above it those before
+  -- the stop
+  abbrev pub range_rest : ℕ → ℕ → ℕ → List (ℕ × ℕ) → List (ℕ × ℕ)
+  range_rest p i n fs = run s b p (n - i) i ++ take_before stop (path_rest s b 32 fs)
+
+  -- a step along a range takes its first entry from the path; or none is left, and none will be
+  abbrev pub StepsBefore : Option Step → List (ℕ × ℕ) → List (ℕ × ℕ) → Type 0
+  StepsBefore None old new = (take_before stop (path_rest s b 32 old) ≡ []) × (take_before stop (path_rest s b 32 new) ≡ [])
+  StepsBefore (Some e) old new = take_before stop (path_rest s b 32 old) ≡ (e.node, e.index) ∷ range_rest e.leaf.node 0 e.leaf.count new
+
+module _ (K V : Kind) (E : ℕ) (b : List ℕ) where
+  -- the entries of the tree at a root
+  abbrev pub tree_list : ℕ → List (ℕ × ℕ)
+  tree_list root = tree_rest (layout_of K V E) b 32 root 0
+
+  -- what is left of a leaf's part and the path above it
+  abbrev pub part_rest : Part → List (ℕ × ℕ) → List (ℕ × ℕ)
+  part_rest part fs = walk_rest (layout_of K V E) b part.node part.next part.end fs
+
+  -- what is left of them in a range
+  abbrev pub part_range : Option (ℕ × ℕ) → Part → List (ℕ × ℕ) → List (ℕ × ℕ)
+  part_range stop part fs = range_rest (layout_of K V E) b stop part.node part.next part.end fs
+
+  -- what those entries mean
+  abbrev pub read_range : Option (ℕ × ℕ) → Part → List (ℕ × ℕ) → List (K.Value × V.Value)
+  read_range stop part fs = map (entry_at K V E b) (part_range stop part fs)
+
+  -- the entries of a leaf's part stand
+  abbrev pub PartStands : Part → Type 0
+  PartStands part = RunStands K V E b part.node part.next part.end

@@ -1,0 +1,372 @@
+//! Walks between two bounds: where they begin, and the entry before which they stop.
+ghost use Rattle.std.specs.Prelude.{◌≡◌, ◌+◌, ◌≤◌, [], length, IfSome, IsTrue, None, false};
+ghost use Rattle.std.specs.Range.Bound.{bound_map};
+ghost use Rattle.std.specs.declared.cmp.Ordering.{Ordering as Answer};
+ghost use Rattle.std.specs.declared.ops.Bound.TheVariants.{Unbounded};
+ghost use Rattle.rkyv_btree_base.specs.Layout.{layout_of, are_fitting};
+ghost use Rattle.rkyv_btree_base.specs.Read.{read_map};
+ghost use Rattle.rkyv_btree_base.specs.Views.{stands};
+ghost use Rattle.rkyv_btree_walk.specs.Bounds.{IsRun, IsWithin, ByBounds};
+ghost use Rattle.rkyv_btree_walk.specs.Search.{ComparesBy, shown};
+ghost use Rattle.rkyv_btree_walk.specs.mirror.Node.{TreeStands, RunStands};
+ghost use Rattle.rkyv_btree_walk.specs.mirror.Path.{path_rest, IsPath, LeafStands, StepStands};
+ghost use Rattle.rkyv_btree_walk.specs.mirror.Range.{reached_at, from_at, past_at, IsKept, IsEnd, IsFound, IsMiddle, first_of, first_passes, is_stop as stops_at, take_before, range_rest, tree_list, part_rest, part_range, read_range, PartStands, StepsBefore};
+
+use crate::map::{ArchivedMap, map_len};
+use crate::node::{key_pos, root};
+use crate::path::{Leaf, Path, Step, climb, descend};
+use crate::seek::{Part, reaches, seek};
+use crate::shows::Shows;
+use arrayvec::ArrayVec;
+use rkyv_btree_base::check::Portable;
+use std::cmp::Ordering;
+use std::ops::Bound;
+
+/// A walk with nothing left, beside an empty path.
+fn nothing() -> Part
+    ensures { (result.node ≡ 0) × (result.next ≡ 0) × (result.end ≡ 0) }
+{
+    Part {
+        node: 0,
+        next: 0,
+        end: 0,
+    }
+}
+
+/// The first entry that is left. Nodes with none left are taken from the path.
+fn first_left<K: Portable, V: Portable, M: ArchivedMap<Key = K, Mapped = V>>(
+    _buf: &[u8],
+    part: Part,
+    path: &mut Path,
+) -> Option<(u32, u32)>
+    requires path { IsPath K.kind V.kind M.E _buf.now 32 path.old.items }
+    requires stands { PartStands K.kind V.kind M.E _buf.now part }
+    ensures path { IsPath K.kind V.kind M.E _buf.now 32 path.new.items }
+    ensures rest { let s = layout_of K.kind V.kind M.E in
+        path_rest s _buf.now 32 path.new.items ≡ path_rest s _buf.now 32 path.old.items }
+    ensures stands { IfSome result (λ e. RunStands K.kind V.kind M.E _buf.now e.0 e.1 (e.1 + 1)) }
+    ensures first { result ≡ first_of (part_rest K.kind V.kind M.E _buf.now part path.old.items) }
+{
+    if part.next < part.end {
+        return Some((part.node, part.next));
+    }
+    'up: while let Some((node, index)) = path.pop() {
+        if (index as usize) < M::entries_per_node() {
+            path.push((node, index));
+            return Some((node, index));
+        }
+    }
+    None
+}
+
+/// Goes down from the node at `root` beside the first entry that isn't before the low bound.
+fn seek_low<
+    'a,
+    Q,
+    K: Portable,
+    V: Portable,
+    M: ArchivedMap<Key = K, Mapped = V>,
+    W: Shows<'a, K>,
+    C: Fn(&Q, W) -> Ordering,
+>(buf: &'a [u8], root: u32, low: Bound<&Q>, cmp: &C, path: &mut Path) -> Part
+    requires callable { C.IsAlwaysCallable cmp.now }
+    requires fitting { IsTrue (are_fitting K.kind V.kind M.E) }
+    requires short { length buf.now ≤ 4294967295 }
+    requires tree { TreeStands K.kind V.kind M.E buf.now 32 root }
+    requires empty { path.old.items ≡ [] }
+    ensures path { IsPath K.kind V.kind M.E buf.now 32 path.new.items }
+    ensures stands { PartStands K.kind V.kind M.E buf.now result }
+    ensures run { IsEnd (part_rest K.kind V.kind M.E buf.now result path.new.items)
+        (tree_list K.kind V.kind M.E buf.now root) }
+    ensures whole { low.entry ≡ Unbounded
+        → part_rest K.kind V.kind M.E buf.now result path.new.items
+        ≡ tree_list K.kind V.kind M.E buf.now root }
+    ensures from { (c : Q → K.kind.Value → Answer)
+        → ComparesBy (C.post cmp.now) (shown K.kind W.Shows) c
+        → IsKept (from_at K.kind V.kind M.E buf.now (bound_map (λ q. c q.now) low.entry))
+        (tree_list K.kind V.kind M.E buf.now root)
+        (part_rest K.kind V.kind M.E buf.now result path.new.items) }
+{
+    match low {
+        Bound::Unbounded => {
+            let leaf = descend::<K, V, M>(buf, root, path);
+            Part {
+                node: leaf.node,
+                next: 0,
+                end: leaf.count,
+            }
+        }
+        Bound::Included(key) => seek::<Q, K, V, M, W, C>(buf, root, key, cmp, false, path),
+        Bound::Excluded(key) => seek::<Q, K, V, M, W, C>(buf, root, key, cmp, true, path),
+    }
+}
+
+/// The first entry whose key reaches the query, of the tree at `root`.
+fn first_reaching<
+    'a,
+    Q,
+    K: Portable,
+    V: Portable,
+    M: ArchivedMap<Key = K, Mapped = V>,
+    W: Shows<'a, K>,
+    C: Fn(&Q, W) -> Ordering,
+>(buf: &'a [u8], root: u32, key: &Q, cmp: &C, past: bool) -> Option<(u32, u32)>
+    requires callable { C.IsAlwaysCallable cmp.now }
+    requires fitting { IsTrue (are_fitting K.kind V.kind M.E) }
+    requires short { length buf.now ≤ 4294967295 }
+    requires tree { TreeStands K.kind V.kind M.E buf.now 32 root }
+    ensures { (c : Q → K.kind.Value → Answer)
+        → ComparesBy (C.post cmp.now) (shown K.kind W.Shows) c
+        → IsFound (reached_at K.kind V.kind M.E buf.now past (c key.now))
+        (tree_list K.kind V.kind M.E buf.now root) result }
+{
+    let mut path = ArrayVec::new();
+    let part = seek::<Q, K, V, M, W, C>(buf, root, key, cmp, past, &mut path);
+    first_left::<K, V, M>(buf, part, &mut path)
+}
+
+/// The first entry past the high bound, of the tree at `root`.
+fn first_past<
+    'a,
+    Q,
+    K: Portable,
+    V: Portable,
+    M: ArchivedMap<Key = K, Mapped = V>,
+    W: Shows<'a, K>,
+    C: Fn(&Q, W) -> Ordering,
+>(buf: &'a [u8], root: u32, high: Bound<&Q>, cmp: &C) -> Option<(u32, u32)>
+    requires callable { C.IsAlwaysCallable cmp.now }
+    requires fitting { IsTrue (are_fitting K.kind V.kind M.E) }
+    requires short { length buf.now ≤ 4294967295 }
+    requires tree { TreeStands K.kind V.kind M.E buf.now 32 root }
+    ensures whole { high.entry ≡ Unbounded → result ≡ None }
+    ensures first { (c : Q → K.kind.Value → Answer)
+        → ComparesBy (C.post cmp.now) (shown K.kind W.Shows) c
+        → IsFound (past_at K.kind V.kind M.E buf.now (bound_map (λ q. c q.now) high.entry))
+        (tree_list K.kind V.kind M.E buf.now root) result }
+{
+    match high {
+        Bound::Unbounded => None,
+        Bound::Included(key) => first_reaching::<Q, K, V, M, W, C>(buf, root, key, cmp, true),
+        Bound::Excluded(key) => first_reaching::<Q, K, V, M, W, C>(buf, root, key, cmp, false),
+    }
+}
+
+/// Whether the entry is past the high bound.
+fn is_past<
+    'a,
+    Q,
+    K: Portable,
+    V: Portable,
+    M: ArchivedMap<Key = K, Mapped = V>,
+    W: Shows<'a, K>,
+    C: Fn(&Q, W) -> Ordering,
+>(buf: &'a [u8], entry: (u32, u32), high: Bound<&Q>, cmp: &C) -> bool
+    requires callable { C.IsAlwaysCallable cmp.now }
+    requires fitting { IsTrue (are_fitting K.kind V.kind M.E) }
+    requires short { length buf.now ≤ 4294967295 }
+    requires stands { RunStands K.kind V.kind M.E buf.now entry.0 entry.1 (entry.1 + 1) }
+    ensures whole { high.entry ≡ Unbounded → result ≡ false }
+    ensures past { (c : Q → K.kind.Value → Answer)
+        → ComparesBy (C.post cmp.now) (shown K.kind W.Shows) c
+        → result
+        ≡ past_at K.kind V.kind M.E buf.now (bound_map (λ q. c q.now) high.entry) entry }
+{
+    let pos = key_pos::<K, V, M>(entry.0, entry.1 as usize);
+    match high {
+        Bound::Unbounded => false,
+        Bound::Included(key) => reaches::<Q, K, W, C>(buf, pos, key, cmp, true),
+        Bound::Excluded(key) => reaches::<Q, K, W, C>(buf, pos, key, cmp, false),
+    }
+}
+
+/// Whether an entry is left, and the first one is past the high bound. Nodes with none left are taken from the path.
+fn starts_past<
+    'a,
+    Q,
+    K: Portable,
+    V: Portable,
+    M: ArchivedMap<Key = K, Mapped = V>,
+    W: Shows<'a, K>,
+    C: Fn(&Q, W) -> Ordering,
+>(buf: &'a [u8], part: Part, high: Bound<&Q>, cmp: &C, path: &mut Path) -> bool
+    requires callable { C.IsAlwaysCallable cmp.now }
+    requires fitting { IsTrue (are_fitting K.kind V.kind M.E) }
+    requires short { length buf.now ≤ 4294967295 }
+    requires path { IsPath K.kind V.kind M.E buf.now 32 path.old.items }
+    requires stands { PartStands K.kind V.kind M.E buf.now part }
+    ensures path { IsPath K.kind V.kind M.E buf.now 32 path.new.items }
+    ensures rest { let s = layout_of K.kind V.kind M.E in
+        path_rest s buf.now 32 path.new.items ≡ path_rest s buf.now 32 path.old.items }
+    ensures whole { high.entry ≡ Unbounded → result ≡ false }
+    ensures past { (c : Q → K.kind.Value → Answer)
+        → ComparesBy (C.post cmp.now) (shown K.kind W.Shows) c
+        → result ≡ first_passes
+        (past_at K.kind V.kind M.E buf.now (bound_map (λ q. c q.now) high.entry))
+        (part_rest K.kind V.kind M.E buf.now part path.old.items) }
+{
+    match first_left::<K, V, M>(buf, part, path) {
+        None => false,
+        Some(first) => is_past::<Q, K, V, M, W, C>(buf, first, high, cmp),
+    }
+}
+
+/// Whether the entry is the one before which a range stops.
+fn is_stop(stop: Option<(u32, u32)>, node: u32, index: u32) -> bool
+    ensures { result ≡ stops_at stop (node, index) }
+{
+    match stop {
+        None => false,
+        Some(end) => end.0 == node && end.1 == index,
+    }
+}
+
+/// Where a leaf's part ends in a range: where the stop stands in it, there, and then nothing is left of the path either.
+fn cut<K: Portable, V: Portable, M: ArchivedMap<Key = K, Mapped = V>>(
+    _buf: &[u8],
+    part: Part,
+    stop: Option<(u32, u32)>,
+    path: &mut Path,
+) -> u32
+    requires path { IsPath K.kind V.kind M.E _buf.now 32 path.old.items }
+    ensures path { IsPath K.kind V.kind M.E _buf.now 32 path.new.items }
+    ensures less { result ≤ part.end }
+    ensures rest { let s = layout_of K.kind V.kind M.E in
+        range_rest s _buf.now stop part.node part.next result path.new.items
+        ≡ take_before stop (part_rest K.kind V.kind M.E _buf.now part path.old.items) }
+{
+    match stop {
+        None => part.end,
+        Some((node, index)) => {
+            if node == part.node && part.next <= index && index < part.end {
+                path.clear();
+                return index;
+            }
+            part.end
+        }
+    }
+}
+
+/// Takes the first entry that is left of the path before the stop, and finds the part of the leaf behind it.
+#[inline(never)]
+pub fn advance_before<K: Portable, V: Portable, M: ArchivedMap<Key = K, Mapped = V>>(
+    buf: &[u8],
+    stop: Option<(u32, u32)>,
+    path: &mut Path,
+) -> Option<Step>
+    requires fitting { IsTrue (are_fitting K.kind V.kind M.E) }
+    requires short { length buf.now ≤ 4294967295 }
+    requires path { IsPath K.kind V.kind M.E buf.now 32 path.old.items }
+    ensures path { IsPath K.kind V.kind M.E buf.now 32 path.new.items }
+    ensures entry { IfSome result (StepStands K.kind V.kind M.E buf.now) }
+    ensures leaf { IfSome result (λ e. LeafStands K.kind V.kind M.E buf.now e.leaf) }
+    ensures rest { StepsBefore (layout_of K.kind V.kind M.E) buf.now stop result path.old.items
+        path.new.items }
+{
+    match climb::<K, V, M>(buf, path) {
+        None => None,
+        Some(step) => {
+            if is_stop(stop, step.node, step.index) {
+                path.clear();
+                return None;
+            }
+            let part = Part {
+                node: step.leaf.node,
+                next: 0,
+                end: step.leaf.count,
+            };
+            let count = cut::<K, V, M>(buf, part, stop, path);
+            let node = part.node;
+            Some(Step {
+                node: step.node,
+                index: step.index,
+                leaf: Leaf { node, count },
+            })
+        }
+    }
+}
+
+/// Begins a walk between the bounds, of the tree at `root`.
+fn between_in<
+    'a,
+    Q,
+    K: Portable,
+    V: Portable,
+    M: ArchivedMap<Key = K, Mapped = V>,
+    W: Shows<'a, K>,
+    C: Fn(&Q, W) -> Ordering,
+>(
+    buf: &'a [u8],
+    root: u32,
+    low: Bound<&Q>,
+    high: Bound<&Q>,
+    cmp: &C,
+    path: &mut Path,
+) -> (Part, Option<(u32, u32)>)
+    requires callable { C.IsAlwaysCallable cmp.now }
+    requires fitting { IsTrue (are_fitting K.kind V.kind M.E) }
+    requires short { length buf.now ≤ 4294967295 }
+    requires tree { TreeStands K.kind V.kind M.E buf.now 32 root }
+    requires empty { path.old.items ≡ [] }
+    ensures path { IsPath K.kind V.kind M.E buf.now 32 path.new.items }
+    ensures stands { PartStands K.kind V.kind M.E buf.now result.0 }
+    ensures run { IsRun (part_range K.kind V.kind M.E buf.now result.1 result.0 path.new.items)
+        (tree_list K.kind V.kind M.E buf.now root) }
+    ensures whole { low.entry ≡ Unbounded → high.entry ≡ Unbounded
+        → part_range K.kind V.kind M.E buf.now result.1 result.0 path.new.items
+        ≡ tree_list K.kind V.kind M.E buf.now root }
+    ensures within { ByBounds (C.post cmp.now) (shown K.kind W.Shows) low.entry high.entry (λ lo hi.
+        IsMiddle (from_at K.kind V.kind M.E buf.now lo) (past_at K.kind V.kind M.E buf.now hi)
+        (tree_list K.kind V.kind M.E buf.now root)
+        (part_range K.kind V.kind M.E buf.now result.1 result.0 path.new.items)) }
+{
+    let part = seek_low::<Q, K, V, M, W, C>(buf, root, low, cmp, path);
+    if starts_past::<Q, K, V, M, W, C>(buf, part, high, cmp, path) {
+        path.clear();
+        return (nothing(), None);
+    }
+    let stop = first_past::<Q, K, V, M, W, C>(buf, root, high, cmp);
+    let end = cut::<K, V, M>(buf, part, stop, path);
+    let node = part.node;
+    let next = part.next;
+    (Part { node, next, end }, stop)
+}
+
+/// Begins a walk between the bounds, of the map at `pos` with an empty path. Where its keys are ordered for both queries,
+/// it goes along all entries within them; else along some that stand one behind the other.
+pub fn between<
+    'a,
+    Q,
+    K: Portable,
+    V: Portable,
+    M: ArchivedMap<Key = K, Mapped = V>,
+    W: Shows<'a, K>,
+    C: Fn(&Q, W) -> Ordering,
+>(
+    buf: &'a [u8],
+    pos: u32,
+    low: Bound<&Q>,
+    high: Bound<&Q>,
+    cmp: &C,
+    path: &mut Path,
+) -> (Part, Option<(u32, u32)>)
+    requires callable { C.IsAlwaysCallable cmp.now }
+    requires stands { IsTrue (stands M.kind buf.now pos) }
+    requires empty { path.old.items ≡ [] }
+    ensures path { IsPath K.kind V.kind M.E buf.now 32 path.new.items }
+    ensures stands { PartStands K.kind V.kind M.E buf.now result.0 }
+    ensures run { IsRun (read_range K.kind V.kind M.E buf.now result.1 result.0 path.new.items)
+        (read_map K.kind V.kind M.E buf.now pos) }
+    ensures whole { low.entry ≡ Unbounded → high.entry ≡ Unbounded
+        → read_range K.kind V.kind M.E buf.now result.1 result.0 path.new.items
+        ≡ read_map K.kind V.kind M.E buf.now pos }
+    ensures within { ByBounds (C.post cmp.now) (shown K.kind W.Shows) low.entry high.entry (λ lo hi.
+        IsWithin lo hi (read_map K.kind V.kind M.E buf.now pos)
+        (read_range K.kind V.kind M.E buf.now result.1 result.0 path.new.items)) }
+{
+    M::opened(buf, pos);
+    if map_len::<K, V, M>(buf, pos) > 0 {
+        return between_in::<Q, K, V, M, W, C>(buf, root(buf, pos), low, high, cmp, path);
+    }
+    (nothing(), None)
+}

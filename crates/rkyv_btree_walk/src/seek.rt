@@ -1,0 +1,127 @@
+//! Ways down to the first entry of a tree that reaches a query, beside which a range begins or stops.
+ghost use Rattle.std.specs.Prelude.{◌≡◌, ◌≤◌, [], length, IsTrue};
+ghost use Rattle.std.specs.declared.cmp.Ordering.{Ordering as Answer};
+ghost use Rattle.rkyv_btree_base.specs.Layout.{are_fitting};
+ghost use Rattle.rkyv_btree_base.specs.Views.{stands};
+ghost use Rattle.rkyv_btree_walk.specs.Search.{ComparesBy, shown};
+ghost use Rattle.rkyv_btree_walk.specs.mirror.Node.{TreeStands, RunStands};
+ghost use Rattle.rkyv_btree_walk.specs.mirror.Path.{IsPath};
+ghost use Rattle.rkyv_btree_walk.specs.mirror.Range.{is_reached, reached_at, IsFirst, IsKept, IsEnd, tree_list, part_rest, PartStands};
+
+use crate::map::ArchivedMap;
+use crate::node::{child, is_leaf, key_pos, leaf_count};
+use crate::path::Path;
+use crate::shows::Shows;
+use rkyv_btree_base::check::Portable;
+use std::cmp::Ordering;
+
+/// What is left of a leaf: its entries from number `next` to before number `end`.
+#[derive(Clone, Copy)]
+pub struct Part {
+    /// Where the leaf stands.
+    pub node: u32,
+    /// The number of the first entry left.
+    pub next: u32,
+    /// The number behind the last one.
+    pub end: u32,
+}
+
+/// Whether the key at `pos` reaches the query: it isn't before it, or where `past` is true, it is behind it.
+#[inline(always)]
+pub(crate) fn reaches<'a, Q, K: Portable, W: Shows<'a, K>, C: Fn(&Q, W) -> Ordering>(
+    buf: &'a [u8],
+    pos: u32,
+    key: &Q,
+    cmp: &C,
+    past: bool,
+) -> bool
+    requires callable { C.IsAlwaysCallable cmp.now }
+    requires stands { IsTrue (stands K.kind buf.now pos) }
+    ensures { (c : Q → K.kind.Value → Answer) → ComparesBy (C.post cmp.now) (shown K.kind W.Shows) c
+        → result ≡ is_reached past (c key.now (K.kind.read buf.now pos)) }
+{
+    let order = cmp(key, W::at(buf, pos));
+    if past {
+        return order.is_lt();
+    }
+    order.is_le()
+}
+
+/// The number of the first of a node's entries whose key reaches the query, or `count` where none does.
+#[inline(always)]
+fn seek_node<
+    'a,
+    Q,
+    K: Portable,
+    V: Portable,
+    M: ArchivedMap<Key = K, Mapped = V>,
+    W: Shows<'a, K>,
+    C: Fn(&Q, W) -> Ordering,
+>(buf: &'a [u8], node: u32, count: u32, key: &Q, cmp: &C, past: bool) -> u32
+    requires callable { C.IsAlwaysCallable cmp.now }
+    requires fitting { IsTrue (are_fitting K.kind V.kind M.E) }
+    requires short { length buf.now ≤ 4294967295 }
+    requires stands { RunStands K.kind V.kind M.E buf.now node 0 count }
+    ensures within { result ≤ count }
+    ensures first { (c : Q → K.kind.Value → Answer)
+        → ComparesBy (C.post cmp.now) (shown K.kind W.Shows) c
+        → IsFirst (λ i. reached_at K.kind V.kind M.E buf.now past (c key.now) (node, i)) count
+        result }
+{
+    for i in 0..count {
+        let pos = key_pos::<K, V, M>(node, i as usize);
+        if reaches::<Q, K, W, C>(buf, pos, key, cmp, past) {
+            return i;
+        }
+    }
+    count
+}
+
+/// Goes down from the node at `root` beside the first entry whose key reaches the query, and puts the inner nodes met on
+/// the empty path: left are that entry and all behind it, where the keys are ordered for the query.
+pub(crate) fn seek<
+    'a,
+    Q,
+    K: Portable,
+    V: Portable,
+    M: ArchivedMap<Key = K, Mapped = V>,
+    W: Shows<'a, K>,
+    C: Fn(&Q, W) -> Ordering,
+>(buf: &'a [u8], root: u32, key: &Q, cmp: &C, past: bool, path: &mut Path) -> Part
+    requires callable { C.IsAlwaysCallable cmp.now }
+    requires fitting { IsTrue (are_fitting K.kind V.kind M.E) }
+    requires short { length buf.now ≤ 4294967295 }
+    requires tree { TreeStands K.kind V.kind M.E buf.now 32 root }
+    requires empty { path.old.items ≡ [] }
+    ensures path { IsPath K.kind V.kind M.E buf.now 32 path.new.items }
+    ensures stands { PartStands K.kind V.kind M.E buf.now result }
+    ensures run { IsEnd (part_rest K.kind V.kind M.E buf.now result path.new.items)
+        (tree_list K.kind V.kind M.E buf.now root) }
+    ensures from { (c : Q → K.kind.Value → Answer)
+        → ComparesBy (C.post cmp.now) (shown K.kind W.Shows) c
+        → IsKept (reached_at K.kind V.kind M.E buf.now past (c key.now))
+        (tree_list K.kind V.kind M.E buf.now root)
+        (part_rest K.kind V.kind M.E buf.now result path.new.items) }
+{
+    let mut node = root;
+    'down: loop {
+        if is_leaf::<K, V, M>(buf, node) {
+            let end = leaf_count::<K, V, M>(buf, node);
+            let next = seek_node::<Q, K, V, M, W, C>(buf, node, end, key, cmp, past);
+            return Part { node, next, end };
+        }
+        let count = M::entries_per_node() as u32;
+        let next = seek_node::<Q, K, V, M, W, C>(buf, node, count, key, cmp, past);
+        path.push((node, next));
+        match child::<K, V, M>(buf, node, next as usize) {
+            None => {
+                return Part {
+                    node,
+                    next: 0,
+                    end: 0,
+                };
+            }
+            Some(below) => node = below,
+        }
+    }
+}

@@ -1,0 +1,166 @@
+//! Maps are compared, hashed and shown as their lists.
+
+use crate::entries::Recorder;
+use crate::foreign::{CHILDLESS, OVER_EMPTY};
+use crate::numbers::archive;
+use crate::texts::{archive_texts, with_texts};
+use crate::views::hashed;
+use rkyv_btree::compare::ViewHash;
+use rkyv_btree::debug::ViewDebug;
+use rkyv_btree::map::access;
+use rkyv_btree::view::View;
+use rkyv_btree_base::layout;
+use rkyv_btree_base::map::ArchivedBTreeMap;
+use rkyv_btree_base::numbers::ArchivedU32;
+use rkyv_btree_base::place::VecWriter;
+use rkyv_btree_base::signed::ArchivedI32;
+use rkyv_btree_base::text::ArchivedText;
+use std::alloc::Global;
+use std::hash::{DefaultHasher, Hash, Hasher};
+use std::process::Abort;
+use std::test::Fail;
+
+/// The map of numbers at a position.
+fn opened<'a, const E: usize>(
+    rt: &impl Abort,
+    bytes: &'a [u8],
+    pos: u32,
+) -> View<'a, ArchivedBTreeMap<ArchivedU32, ArchivedU32, E>> {
+    assert!(rt; layout::fits::<ArchivedU32, ArchivedU32, E>());
+    access::<ArchivedU32, ArchivedU32, E>(bytes, pos).expect(rt, "a map")
+}
+
+/// Archives two lists, the second behind three bytes and also with other nodes, and asserts whether their maps are equal.
+fn maps_are_equal(
+    rt: &impl Abort,
+    alloc: Global,
+    left: &[(u32, u32)],
+    right: &[(u32, u32)],
+    want: bool,
+) -> Result<(), Fail> {
+    let mut first = VecWriter::new(alloc);
+    let pos = archive::<5>(rt, alloc, left.len(), left, &mut first)?;
+    let left = opened::<5>(rt, first.bytes(), pos);
+    let mut second = VecWriter::from_vec([7, 8, 9].to_vec(alloc)?);
+    let pos = archive::<5>(rt, alloc, right.len(), right, &mut second)?;
+    let alike = opened::<5>(rt, second.bytes(), pos);
+    let mut third = VecWriter::new(alloc);
+    let pos = archive::<1>(rt, alloc, right.len(), right, &mut third)?;
+    let other = opened::<1>(rt, third.bytes(), pos);
+    assert_eq!(rt; left == alike, want);
+    assert_eq!(rt; alike == left, want);
+    assert_eq!(rt; left.eq_entries(alike), want);
+    assert_eq!(rt; left.eq_entries(other), want);
+    assert_eq!(rt; other.eq_entries(left), want);
+    assert_eq!(rt; hashed(&alike), hashed(&other));
+    assert_eq!(rt; hashed(&left) == hashed(&alike), want);
+    Ok(())
+}
+
+#[test]
+fn maps_of_equal_lists_are_equal(rt: HostRuntime) -> Result<(), Fail> {
+    let seven = [
+        (1, 10),
+        (2, 20),
+        (3, 30),
+        (4, 40),
+        (5, 50),
+        (6, 60),
+        (7, 70),
+    ];
+    maps_are_equal(&rt, rt.alloc(), &seven, &seven, true)?;
+    maps_are_equal(&rt, rt.alloc(), &seven[..1], &seven[..1], true)?;
+    maps_are_equal(&rt, rt.alloc(), &[], &[], true)
+}
+
+#[test]
+fn maps_of_other_lists_are_not_equal(rt: HostRuntime) -> Result<(), Fail> {
+    let four = [(1, 10), (2, 20), (3, 30), (4, 40)];
+    let others = [
+        [(1, 11), (2, 20), (3, 30), (4, 40)],
+        [(1, 10), (2, 20), (3, 30), (4, 41)],
+        [(0, 10), (2, 20), (3, 30), (4, 40)],
+        [(1, 10), (2, 20), (3, 30), (5, 40)],
+        [(2, 20), (1, 10), (3, 30), (4, 40)],
+        [(1, 20), (2, 10), (3, 30), (4, 40)],
+    ];
+    for other in &others {
+        maps_are_equal(&rt, rt.alloc(), &four, other, false)?;
+    }
+    maps_are_equal(&rt, rt.alloc(), &four, &four[..3], false)?;
+    maps_are_equal(&rt, rt.alloc(), &four[1..], &four, false)?;
+    maps_are_equal(&rt, rt.alloc(), &four[..1], &[], false)
+}
+
+// Over an empty leaf, and without children.
+#[test]
+fn maps_of_one_list_in_two_trees_are_equal(rt: HostRuntime) {
+    let left = opened::<1>(&rt, &OVER_EMPTY, 36);
+    let right = opened::<1>(&rt, &CHILDLESS, 20);
+    assert!(rt; left == right);
+    assert_eq!(rt; hashed(&left), hashed(&right));
+}
+
+#[test]
+fn a_map_of_texts_is_hashed_and_shown_entry_by_entry(rt: HostRuntime) -> Result<(), Fail> {
+    let entries = with_texts(rt.alloc(), &[("a", 1), ("b", 2)])?;
+    let mut writer = VecWriter::new(rt.alloc());
+    let pos = archive_texts::<i32, ArchivedI32, 5>(&rt, rt.alloc(), &entries, &mut writer)?;
+    assert!(rt; layout::fits::<ArchivedText, ArchivedI32, 5>());
+    let opened = access::<ArchivedText, ArchivedI32, 5>(writer.bytes(), pos);
+    let map = opened.expect(&rt, "a map");
+    let mut state = DefaultHasher::new();
+    "a".hash(&mut state);
+    1i32.hash(&mut state);
+    "b".hash(&mut state);
+    2i32.hash(&mut state);
+    assert_eq!(rt; hashed(&map), state.finish());
+    let told = format!(in rt.alloc(); "{map:?}")?;
+    assert_eq!(rt; told.as_str(), "{\"a\": 1, \"b\": 2}");
+    Ok(())
+}
+
+/// A recorder keeps these bytes of a map, which is shown so.
+fn is_taken_and_shown_as<T: ViewHash + ViewDebug>(
+    rt: &impl Abort,
+    alloc: Global,
+    map: View<T>,
+    bytes: u64,
+    text: &str,
+) -> Result<(), Fail> {
+    let mut taken = Recorder(0);
+    map.hash(&mut taken);
+    assert_eq!(rt; taken.finish(), bytes);
+    let told = format!(in alloc; "{map:?}")?;
+    assert_eq!(rt; told.as_str(), text);
+    Ok(())
+}
+
+// The recorder keeps eight bytes, which two entries of two bytes fill.
+#[test]
+fn a_map_feeds_a_hasher_its_entries_and_no_length(rt: HostRuntime) -> Result<(), Fail> {
+    let entries = [(1u8, 2u8), (3, 4)];
+    assert!(rt; layout::fits::<u8, u8, 1>());
+    let mut writer = VecWriter::new(rt.alloc());
+    let root = ArchivedBTreeMap::<u8, u8, 1>::serialize_from_ordered_iter(
+        rt.alloc(),
+        2,
+        entries.iter().map(|entry| (&entry.0, &entry.1)),
+        &mut writer,
+    )?;
+    let pos = ArchivedBTreeMap::<u8, u8, 1>::write_root(2, root, &mut writer)?;
+    let map = access::<u8, u8, 1>(writer.bytes(), pos).expect(&rt, "a map");
+    is_taken_and_shown_as(
+        &rt,
+        rt.alloc(),
+        map,
+        0x01_FF_02_FF_03_FF_04_FF,
+        "{1: 2, 3: 4}",
+    )
+}
+
+#[test]
+fn an_empty_map_feeds_nothing_and_shows_none(rt: HostRuntime) -> Result<(), Fail> {
+    let map = opened::<5>(&rt, &[1, 0, 0, 0, 0, 0, 0, 0], 0);
+    is_taken_and_shown_as(&rt, rt.alloc(), map, 0, "{}")
+}

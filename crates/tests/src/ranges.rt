@@ -1,0 +1,287 @@
+//! Ranges, and iterators over keys and over values.
+
+use crate::numbers::{archive, tens};
+use crate::texts::archive_texts;
+use rkyv_btree::map::access;
+use rkyv_btree::view::View;
+use rkyv_btree_base::layout;
+use rkyv_btree_base::map::ArchivedBTreeMap;
+use rkyv_btree_base::numbers::ArchivedU32;
+use rkyv_btree_base::place::VecWriter;
+use rkyv_btree_base::scalars::ArchivedChar;
+use rkyv_btree_base::text::ArchivedText;
+use std::alloc::Global;
+use std::ops::Bound;
+use std::process::Abort;
+use std::test::Fail;
+
+/// Whether a number is between two bounds.
+fn is_between(low: Bound<u32>, high: Bound<u32>, key: u32) -> bool {
+    let is_from = match low {
+        Bound::Included(from) => from <= key,
+        Bound::Excluded(from) => from < key,
+        Bound::Unbounded => true,
+    };
+    is_from
+        && match high {
+            Bound::Included(to) => key <= to,
+            Bound::Excluded(to) => key < to,
+            Bound::Unbounded => true,
+        }
+}
+
+/// The ranges of a map of numbers between these bounds have these keys.
+fn have_keys<const E: usize>(
+    rt: &impl Abort,
+    alloc: Global,
+    entries: &[(u32, u32)],
+    ranges: &[(Bound<u32>, Bound<u32>, &[u32])],
+) -> Result<(), Fail> {
+    let mut writer = VecWriter::new(alloc);
+    let root = archive::<E>(rt, alloc, entries.len(), entries, &mut writer)?;
+    assert!(rt; layout::fits::<ArchivedU32, ArchivedU32, E>());
+    let map = access::<ArchivedU32, ArchivedU32, E>(writer.bytes(), root).expect(rt, "a map");
+    for (low, high, keys) in ranges {
+        let mut range = map.range_by(*low, *high);
+        for key in *keys {
+            let met = range.next().map(|(k, _)| k.to_native());
+            assert_eq!(rt; met, Some(*key));
+        }
+        assert!(rt; range.next().is_none());
+        assert!(rt; range.next().is_none());
+    }
+    Ok(())
+}
+
+#[test]
+fn ranges_of_few_keys(rt: HostRuntime) -> Result<(), Fail> {
+    let nine = tens(rt.alloc(), 9)?;
+    have_keys::<5>(
+        &rt,
+        rt.alloc(),
+        nine.as_slice(),
+        &[
+            (Bound::Excluded(5), Bound::Excluded(5), &[]),
+            (Bound::Included(7), Bound::Included(3), &[]),
+            (Bound::Included(3), Bound::Excluded(6), &[3, 4, 5]),
+            (Bound::Excluded(9), Bound::Unbounded, &[]),
+            (Bound::Unbounded, Bound::Included(2), &[1, 2]),
+        ],
+    )?;
+    have_keys::<5>(
+        &rt,
+        rt.alloc(),
+        &[(1, 1)],
+        &[(Bound::Included(2), Bound::Unbounded, &[])],
+    )
+}
+
+/// A range of a map of numbers is that of its list.
+fn is_that_of_list<const E: usize>(
+    rt: &impl Abort,
+    alloc: Global,
+    map: View<ArchivedBTreeMap<ArchivedU32, ArchivedU32, E>>,
+    entries: &[(u32, u32)],
+    low: Bound<u32>,
+    high: Bound<u32>,
+) -> Result<(), Fail> {
+    let mut within = Vec::new(alloc);
+    for entry in entries {
+        if is_between(low, high, entry.0) {
+            within.push(*entry)?;
+        }
+    }
+    let mut range = map.range_by(low, high);
+    for entry in within.as_slice() {
+        let met = range.next().map(|(k, v)| (k.to_native(), v.to_native()));
+        assert_eq!(rt; met, Some(*entry));
+    }
+    assert!(rt; range.next().is_none());
+    assert!(rt; range.next().is_none());
+    Ok(())
+}
+
+/// The ranges of maps of 1 to 40 numbers between each two bounds at or beside their keys are those of their lists.
+fn are_those_of_lists<const E: usize>(rt: &impl Abort, alloc: Global) -> Result<(), Fail> {
+    for count in 1..=40u32 {
+        let entries = tens(alloc, count)?;
+        let mut writer = VecWriter::new(alloc);
+        let root = archive::<E>(rt, alloc, entries.len(), entries.as_slice(), &mut writer)?;
+        assert!(rt; layout::fits::<ArchivedU32, ArchivedU32, E>());
+        let map = access::<ArchivedU32, ArchivedU32, E>(writer.bytes(), root).expect(rt, "a map");
+        let mut bounds = Vec::new(alloc);
+        bounds.push(Bound::Unbounded)?;
+        for at in 0..=count.wrapping_add(1) {
+            bounds.push(Bound::Included(at))?;
+            bounds.push(Bound::Excluded(at))?;
+        }
+        for low in bounds.as_slice() {
+            for high in bounds.as_slice() {
+                is_that_of_list::<E>(rt, alloc, map, entries.as_slice(), *low, *high)?;
+            }
+        }
+    }
+    Ok(())
+}
+
+#[test]
+fn ranges_are_those_of_lists(rt: HostRuntime) -> Result<(), Fail> {
+    are_those_of_lists::<1>(&rt, rt.alloc())?;
+    are_those_of_lists::<2>(&rt, rt.alloc())?;
+    are_those_of_lists::<5>(&rt, rt.alloc())
+}
+
+#[test]
+fn a_range_of_many_keys(rt: HostRuntime) -> Result<(), Fail> {
+    let mut entries = Vec::new(rt.alloc());
+    for key in 0..200u32 {
+        entries.push((key, 0))?;
+    }
+    let mut keys = Vec::new(rt.alloc());
+    for key in 32..100u32 {
+        keys.push(key)?;
+    }
+    have_keys::<5>(
+        &rt,
+        rt.alloc(),
+        entries.as_slice(),
+        &[(Bound::Included(32), Bound::Excluded(100), keys.as_slice())],
+    )
+}
+
+// The keys of the leaf are out of order.
+#[test]
+fn a_list_out_of_order_is_walked(rt: HostRuntime) -> Result<(), Fail> {
+    let entries = [(3, 30), (1, 10), (2, 20)];
+    let mut writer = VecWriter::new(rt.alloc());
+    let root = archive::<5>(&rt, rt.alloc(), 3, &entries, &mut writer)?;
+    assert!(rt; layout::fits::<ArchivedU32, ArchivedU32, 5>());
+    let map = access::<ArchivedU32, ArchivedU32, 5>(writer.bytes(), root).expect(&rt, "a map");
+    let mut all = map.iter();
+    let mut open = map.range_by(Bound::<u32>::Unbounded, Bound::Unbounded);
+    for entry in entries {
+        let met = all.next().map(|(k, v)| (k.to_native(), v.to_native()));
+        assert_eq!(rt; met, Some(entry));
+        let met = open.next().map(|(k, v)| (k.to_native(), v.to_native()));
+        assert_eq!(rt; met, Some(entry));
+    }
+    assert!(rt; all.next().is_none());
+    assert!(rt; open.next().is_none());
+    Ok(())
+}
+
+#[test]
+fn keys_and_values_are_counted(rt: HostRuntime) -> Result<(), Fail> {
+    let entries = tens(rt.alloc(), 9)?;
+    let mut writer = VecWriter::new(rt.alloc());
+    let root = archive::<2>(&rt, rt.alloc(), 9, entries.as_slice(), &mut writer)?;
+    assert!(rt; layout::fits::<ArchivedU32, ArchivedU32, 2>());
+    let map = access::<ArchivedU32, ArchivedU32, 2>(writer.bytes(), root).expect(&rt, "a map");
+    let mut keys = map.keys();
+    let mut values = map.values();
+    let mut left = 9;
+    for (key, value) in &entries {
+        assert_eq!(rt; keys.len(), left);
+        assert_eq!(rt; values.size_hint(), (left, Some(left)));
+        left = left.wrapping_sub(1);
+        assert_eq!(rt; keys.next().map(|k| k.to_native()), Some(*key));
+        assert_eq!(rt; values.next().map(|v| v.to_native()), Some(*value));
+    }
+    for _ in 0..2 {
+        assert_eq!(rt; keys.len(), 0);
+        assert_eq!(rt; values.len(), 0);
+        assert!(rt; keys.next().is_none());
+        assert!(rt; values.next().is_none());
+    }
+    Ok(())
+}
+
+#[test]
+fn an_empty_map_has_nothing_to_walk(rt: HostRuntime) {
+    let buf = [0u8, 0, 0, 0, 0, 0, 0, 0];
+    assert!(rt; layout::fits::<ArchivedU32, ArchivedU32, 1>());
+    let map = access::<ArchivedU32, ArchivedU32, 1>(&buf, 0).expect(&rt, "a map");
+    assert_eq!(rt; map.keys().len(), 0);
+    assert!(rt; map.keys().next().is_none());
+    assert!(rt; map.values().next().is_none());
+    let mut range = map.range_by(Bound::Included(0), Bound::Excluded(9));
+    assert!(rt; range.next().is_none());
+    assert!(rt; range.next().is_none());
+    assert!(rt;
+        map.range(Bound::Unbounded, Bound::Unbounded)
+            .next()
+            .is_none()
+    );
+}
+
+#[test]
+fn ranges_of_characters(rt: HostRuntime) -> Result<(), Fail> {
+    let mut entries = Vec::new(rt.alloc());
+    for letter in 'a'..='y' {
+        entries.push((letter, letter))?;
+    }
+    assert!(rt; layout::fits::<ArchivedChar, ArchivedChar, 5>());
+    let mut writer = VecWriter::new(rt.alloc());
+    let tree = ArchivedBTreeMap::<ArchivedChar, ArchivedChar, 5>::serialize_from_ordered_iter(
+        rt.alloc(),
+        entries.len(),
+        entries
+            .iter()
+            .map(|entry: &(char, char)| (&entry.0, &entry.1)),
+        &mut writer,
+    )?;
+    let root = ArchivedBTreeMap::<ArchivedChar, ArchivedChar, 5>::write_root(
+        entries.len(),
+        tree,
+        &mut writer,
+    )?;
+    let map = access::<ArchivedChar, ArchivedChar, 5>(writer.bytes(), root).expect(&rt, "a map");
+    assert!(rt;
+        map.range_by(Bound::Unbounded, Bound::Excluded('a'))
+            .next()
+            .is_none()
+    );
+    assert!(rt;
+        map.range_by(Bound::Included('|'), Bound::Unbounded)
+            .next()
+            .is_none()
+    );
+    let mut range = map.range_by(Bound::Included('x'), Bound::Unbounded);
+    assert_eq!(rt; range.next().map(|(k, _)| k.to_native()), Some('x'));
+    assert_eq!(rt; range.next().map(|(_, v)| v.to_native()), Some('y'));
+    assert!(rt; range.next().is_none());
+    Ok(())
+}
+
+// By the first character of each text, and by views of texts.
+#[test]
+fn ranges_of_texts(rt: HostRuntime) -> Result<(), Fail> {
+    let mut entries = Vec::new(rt.alloc());
+    for letter in 'a'..='y' {
+        let mut text = String::new(rt.alloc());
+        text.push(letter)?;
+        entries.push((text, u32::from(letter)))?;
+    }
+    let mut writer = VecWriter::new(rt.alloc());
+    let root = archive_texts::<u32, ArchivedU32, 5>(&rt, rt.alloc(), &entries, &mut writer)?;
+    assert!(rt; layout::fits::<ArchivedText, ArchivedU32, 5>());
+    let map = access::<ArchivedText, ArchivedU32, 5>(writer.bytes(), root).expect(&rt, "a map");
+    let mut range = map.range_with(
+        Bound::Included(&'d'),
+        Bound::Excluded(&'w'),
+        |letter: &char, key: View<ArchivedText>| Some(*letter).cmp(&key.as_str().chars().next()),
+    );
+    for letter in 'd'..='v' {
+        let met = range.next().map(|(_, v)| v.to_native());
+        assert_eq!(rt; met, Some(u32::from(letter)));
+    }
+    assert!(rt; range.next().is_none());
+    let (low, _) = map.iter().nth(2).expect(&rt, "a third entry");
+    let (high, _) = map.iter().nth(3).expect(&rt, "a fourth entry");
+    let mut range = map.range(Bound::Excluded(low), Bound::Included(high));
+    assert_eq!(rt; range.next().map(|(k, _)| k.as_str()), Some("d"));
+    assert!(rt; range.next().is_none());
+    let mut range = map.range_by(Bound::Excluded("wz"), Bound::Unbounded);
+    assert_eq!(rt; range.next().map(|(k, _)| k.as_str()), Some("x"));
+    Ok(())
+}
