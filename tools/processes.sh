@@ -1,6 +1,6 @@
 #!/usr/bin/env bash
 # Runs the built program as a process of its own, and compares its status, its standard output and its line on standard
-# error with what each case names. Then it has more than 1 MB of lines built and listed through pipes.
+# error with what each case names. Then it has more than 1 MB of lines built and listed through pipes, and a value set.
 #
 #     tools/processes.sh [PROGRAM]
 #
@@ -45,20 +45,27 @@ ends 0       ''                                               "$empty"  'ok 0 en
 ends 1       ''                                               "$empty"  ''                get 1
 ends 0       ''                                               "$three"  '2 20\n9 90\n'    range 2 9
 ends 0       ''                                               "$three"  ''                range 9 2
+ends 1       ''                                               "$three"  ''                set 3 99
 ends 2       'btreearc: line 2: not KEY VALUE'                '1 2\n3'  ''                build
 ends 2       'btreearc: refused: position 0 is out of range'  ''        ''                list
 ends 2       'btreearc: refused: position 0 is out of range'  ''        ''                check
+ends 2       'btreearc: refused: position 0 is out of range'  ''        ''                set 2 99
 ends 2       "$usage"                                         ''        ''
 ends 2       "$usage"                                         "$empty"  ''                lists
 ends 2       "$usage"                                         "$empty"  ''                list list
 ends 2       "$usage"                                         "$three"  ''                range 2
 ends 2       "$usage"                                         "$three"  ''                range -1 2
+ends 2       "$usage"                                         "$three"  ''                set 2
+ends 2       "$usage"                                         "$three"  ''                set 2 x
 ends 2       "$usage"                                         "$empty"  ''                $'\xff'
 
 awk 'BEGIN { for (i = 0; i < 100000; i++) printf "%d %d\n", 4 * i + 1, 10 * i }' > "$work/lines"
 (($(wc -c < "$work/lines") > 1048576)) || fail "the lines are no more than 1 MB"
 "$program" build < "$work/lines" | "$program" list | cmp -s - "$work/lines" ||
     fail "list doesn't give back the lines that were built"
+
+printf '%b' "$three" | "$program" set 2 99 | "$program" list > "$work/listed"
+printf '1 10\n2 99\n9 90\n' | cmp -s - "$work/listed" || fail "list doesn't give the value that set has written"
 
 ((failed)) || echo "processes: $program ends as it must"
 exit "$failed"

@@ -4,6 +4,7 @@
 
 mod numbers;
 mod report;
+mod writes;
 
 use anyhow::{Context, ensure};
 use rkyv_btree::map::access;

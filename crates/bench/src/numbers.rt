@@ -2,6 +2,7 @@
 //! that are there, in random order; walks; and ranges from such keys on, of a million entries in all.
 
 use crate::report::Report;
+use crate::writes;
 use anyhow::ensure;
 use rkyv_btree::map::access;
 use rkyv_btree::view::View;
@@ -13,10 +14,11 @@ use std::alloc::{AllocError, Global};
 use std::collections::BTreeMap;
 use std::ops::{Bound, ControlFlow};
 
-type Map = ArchivedBTreeMap<ArchivedU32, ArchivedU32, 5>;
+/// The maps that are timed.
+pub(crate) type Map = ArchivedBTreeMap<ArchivedU32, ArchivedU32, 5>;
 
 /// How many look-ups are timed together.
-const LOOKUPS: u32 = 1000000;
+pub(crate) const LOOKUPS: u32 = 1000000;
 
 /// Key and value of entry `index`.
 fn entry(index: u32) -> (u32, u32) {
@@ -100,7 +102,7 @@ fn visit_archived(map: View<Map>) -> u64 {
 
 /// The sum of the values that the archived map's iterator gives.
 #[inline(never)]
-fn iter_archived(map: View<Map>) -> u64 {
+pub(crate) fn iter_archived(map: View<Map>) -> u64 {
     let mut sum = 0u64;
     for (_key, value) in map.iter() {
         sum = sum.wrapping_add(u64::from(value.to_native()));
@@ -110,7 +112,7 @@ fn iter_archived(map: View<Map>) -> u64 {
 
 /// The sum of the values that std's iterator gives.
 #[inline(never)]
-fn iter_std(map: &BTreeMap<u32, u32>) -> u64 {
+pub(crate) fn iter_std(map: &BTreeMap<u32, u32>) -> u64 {
     let mut sum = 0u64;
     for (_key, value) in map.iter() {
         sum = sum.wrapping_add(u64::from(*value));
@@ -172,7 +174,7 @@ fn measure_walks(
     Ok(())
 }
 
-/// Times look-ups, walks and ranges of maps of so many entries.
+/// Times look-ups, walks, ranges and writes of maps of so many entries.
 pub fn measure(rt: &HostRuntime, count: u32) -> anyhow::Result<()> {
     ensure!(layout::fits::<ArchivedU32, ArchivedU32, 5>(), "too large");
     let entries = entries(rt.alloc(), count)?;
@@ -193,5 +195,7 @@ pub fn measure(rt: &HostRuntime, count: u32) -> anyhow::Result<()> {
     let std = report.time("std", "get", LOOKUPS, || get_std(&std_map, &keys))?;
     let sorted = report.time("sorted", "get", LOOKUPS, || get_sorted(&entries, &keys))?;
     ensure!(port == std && std == sorted, "sums differ");
-    measure_walks(&report, map, &std_map, &keys)
+    measure_walks(&report, map, &std_map, &keys)?;
+    let mut archive = writer.bytes().to_vec(rt.alloc())?;
+    writes::measure(&report, &mut archive, root, &mut std_map, &keys)
 }

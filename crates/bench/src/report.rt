@@ -13,12 +13,12 @@ pub struct Report<'a> {
 impl Report<'_> {
     /// Runs a measure of so many operations some times, tells the least time of one operation, and gives what the last run
     /// answered.
-    pub fn time<T: Drop, F: Fn() -> T>(
+    pub fn time<T: Drop, F: FnMut() -> T>(
         &self,
         who: &str,
         what: &str,
         operations: u32,
-        run: F,
+        mut run: F,
     ) -> io::Result<T>
         requires { F.IsAlwaysCallable run }
     {

@@ -17,7 +17,6 @@ use Rattle.rkyv_btree_base.specs.Archiving.{Archival, itself, plain_archival}
 use Rattle.rkyv_btree_base.specs.Plan.{planned_alone}
 use Rattle.rkyv_btree_base.specs.Tree.{Child, ChildHasShape}
 use Rattle.rkyv_btree_base.specs.Entries.{now_of}
-use Rattle.rkyv_btree_base.proofs.Holding.{appended-append}
 use Rattle.rkyv_btree_base.specs.Written.{ChildStopped}
 use Rattle.rkyv_btree_base.proofs.Alike.{AreAlike, alike_length, alike_reach, same_child_root, child_alike}
 use Rattle.rkyv_btree_base.proofs.Imaged.{child_written, child_stopped}
@@ -28,7 +27,7 @@ use Rattle.rkyv_btree_base.specs.Writing.{Writing, position, Write, AllReach, Wr
 use Rattle.rkyv_btree_base.specs.Fault.{Fault}
 use Rattle.rkyv_btree_base.specs.Fault.TheVariants.{Length, LengthOverflow, PositionOverflow, OffsetOverflow, Writer, Memory, Entry}
 use Rattle.rkyv_btree_base.proofs.Accepting.{accepted_archive, archive_length}
-use Rattle.rkyv_btree_base.proofs.WriteRuns.{stopped_past, stopped_stray}
+use Rattle.rkyv_btree_base.proofs.WriteRuns.{appended-append, stopped_past, stopped_stray}
 use Rattle.btreearc.specs.Archive.{own, five, tree_writes, root_writes, archive_of, IsUnbuilt}
 use Rattle.btreearc.specs.Grammar.{IsLines}
 use Rattle.btreearc.specs.Opening.{IsArchive, root_of}

@@ -1,9 +1,11 @@
 pub mod Between
 pub mod Built
 pub mod Digits
+pub mod Edited
 pub mod Found
 pub mod Listed
 pub mod Once
+pub mod SetOut
 pub mod Spelling
 pub mod Splitting
 pub mod Written

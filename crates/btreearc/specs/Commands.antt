@@ -1,12 +1,13 @@
 -- What each command does with known input, and when it fails.
-use Rattle.std.specs.Prelude.{◌≡◌, ℕ, List, [], ◌∷◌, ◌++◌, ◌&&◌, nat_le, length, filter, Option, Some, None, IfSome, Result, Ok, Err, codes, decimal}
+use Rattle.std.specs.Prelude.{◌≡◌, ℕ, List, [], ◌∷◌, ◌++◌, ◌&&◌, ◌↔◌, Contains, nat_le, length, map, filter, Option, Some, None, IfSome, MatchOption, Result, Ok, Err, codes, decimal}
 use Rattle.std.specs.Io.KnownBytes.{Appends}
 use Rattle.std.specs.Ordering.{nat_cmp}
 use Rattle.rkyv_btree.specs.Bounds.{IsRun}
 use Rattle.rkyv_btree.specs.Search.{OrderedBy}
 use Rattle.btreearc.specs.Archive.{archive_of, IsUnbuilt}
 use Rattle.btreearc.specs.Grammar.{IsLines, BadLine, text_of}
-use Rattle.btreearc.specs.Opening.{IsArchive, RefusesArchive, found_in_archive}
+use Rattle.btreearc.specs.Opening.{IsArchive, RefusesArchive, found_in_archive, place_in_archive}
+use Rattle.btreearc.specs.Setting.{IsSet}
 use Rattle.btreearc.specs.declared.fault.ProgramFault.{ProgramFault}
 use Rattle.btreearc.specs.declared.fault.ProgramFault.TheVariants.{Line, Refused, NotBuilt, InputFailed, OutputFailed, Memory}
 
@@ -83,3 +84,22 @@ Ranges low high input old new (Err InputFailed) = new ≡ old
 Ranges low high input old new (Err Memory) = new ≡ old
 Ranges low high input old new (Err OutputFailed) = IfSome input (λ bytes. (entries : List (ℕ × ℕ)) × IsArchive bytes entries)
 Ranges low high input old new (Err _) = ⊥
+
+-- the archive in which the entry that a search for the key finds has this value is written, with status 0; where none is
+-- found nothing is written, with status 1. Where along the list come keys before the key, then keys equal to it, then keys
+-- past it, one is found exactly if the key is among them
+pub record IsSetOut (key value : ℕ) (entries : List (ℕ × ℕ)) (bytes : List ℕ) (old new : Option (List ℕ)) (status : ℕ) : Type 0 where
+  pub written : MatchOption (place_in_archive bytes key) ((status ≡ 1) × (new ≡ old))
+      (λ place. (status ≡ 0) × ((made : List ℕ) × IsSet key value entries bytes place made × Appends old new made))
+  pub complete : OrderedBy (λ e. nat_cmp key e.0) entries → ((status ≡ 0) ↔ Contains (map (λ e. e.0) entries) key)
+
+-- `set` has written the input's archive with this value of the key, or it names the fault and has written nothing, except
+-- where a write failed
+abbrev pub Sets : ℕ → ℕ → Option (List ℕ) → Option (List ℕ) → Option (List ℕ) → Result ℕ ProgramFault → Type 0
+Sets key value input old new (Ok status) =
+    IfSome input (λ bytes. (entries : List (ℕ × ℕ)) × IsArchive bytes entries × IsSetOut key value entries bytes old new status)
+Sets key value input old new (Err (Refused refusal)) = IfSome input (λ bytes. RefusesArchive bytes refusal) × (new ≡ old)
+Sets key value input old new (Err InputFailed) = new ≡ old
+Sets key value input old new (Err Memory) = new ≡ old
+Sets key value input old new (Err OutputFailed) = IfSome input (λ bytes. (entries : List (ℕ × ℕ)) × IsArchive bytes entries)
+Sets key value input old new (Err _) = ⊥

@@ -4,4 +4,5 @@ pub mod Faults
 pub mod Grammar
 pub mod Opening
 pub mod Reading
+pub mod Setting
 pub mod Words

@@ -26,12 +26,17 @@ RefusesArchive b refusal = RefusesMap u32_kind u32_kind 5 b 0 (root_of b) (root_
 abbrev pub entries_read : List ℕ → ℕ → List (ℕ × ℕ)
 entries_read b at = read_map u32_kind u32_kind 5 b at
 
--- the entry of the map at a position that a search for a key asks and finds equal
-abbrev pub found_at : List ℕ → ℕ → ℕ → Option (ℕ × ℕ)
-found_at b at key =
-    let entry = entry_at u32_kind u32_kind 5 b in
-    option_map entry (probe (λ e. nat_cmp key (entry e).0) (map_tree (layout_of u32_kind u32_kind 5) b at))
+-- where the entry of the map at a position is that a search for a key asks and finds equal: its node and its number there
+abbrev pub place_at : List ℕ → ℕ → ℕ → Option (ℕ × ℕ)
+place_at b at key = probe (λ e. nat_cmp key (entry_at u32_kind u32_kind 5 b e).0) (map_tree (layout_of u32_kind u32_kind 5) b at)
 
--- that of an archive
+-- that entry
+abbrev pub found_at : List ℕ → ℕ → ℕ → Option (ℕ × ℕ)
+found_at b at key = option_map (entry_at u32_kind u32_kind 5 b) (place_at b at key)
+
+-- those of an archive
+abbrev pub place_in_archive : List ℕ → ℕ → Option (ℕ × ℕ)
+place_in_archive b key = place_at b (root_of b) key
+
 abbrev pub found_in_archive : List ℕ → ℕ → Option (ℕ × ℕ)
 found_in_archive b key = found_at b (root_of b) key

@@ -3,7 +3,7 @@ use Rattle.std.specs.Prelude.{◌≡◌, ℕ, List, [], ◌∷◌, String, strin
 use Rattle.std.specs.Global.{Global}
 use Rattle.btreearc.specs.Grammar.{IsNumber}
 use Rattle.btreearc.specs.declared.command.Command.{Command}
-use Rattle.btreearc.specs.declared.command.Command.TheVariants.{Build, List as ListEntries, Check, Get, Range}
+use Rattle.btreearc.specs.declared.command.Command.TheVariants.{Build, List as ListEntries, Check, Get, Range, Set}
 
 -- one word, and this
 abbrev pub IsWord : List ℕ → List (String Global) → Type 0
@@ -34,6 +34,7 @@ Names args ListEntries = IsWord (codes "list") args
 Names args Check = IsWord (codes "check") args
 Names args (Get key) = IsWordAndNumber (codes "get") key args
 Names args (Range low high) = IsWordAndNumbers (codes "range") low high args
+Names args (Set key value) = IsWordAndNumbers (codes "set") key value args
 
 -- the words name no command
 abbrev pub IsNoCommand : List (String Global) → Type 0

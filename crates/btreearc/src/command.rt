@@ -14,6 +14,8 @@ pub enum Command {
     Get(u32),
     /// Write the lines of the keys from the first to the second, both included.
     Range(u32, u32),
+    /// Write the input's archive with the second number as the value of the first, which is a key.
+    Set(u32, u32),
 }
 
 impl Command {
@@ -39,6 +41,7 @@ impl Command {
             },
             [word, first, second] => match word.as_str() {
                 "range" => Some(Command::Range(whole_number(first)?, whole_number(second)?)),
+                "set" => Some(Command::Set(whole_number(first)?, whole_number(second)?)),
                 _ => None,
             },
             _ => None,

@@ -1,4 +1,4 @@
-//! Archived maps of `u32` to `u32`, built from lines, checked, listed again and looked up in.
+//! Archived maps of `u32` to `u32`: built from lines, checked, listed, looked up in and edited.
 #![tactic(auto)]
 
 mod build;
@@ -8,6 +8,7 @@ mod lines;
 mod listing;
 mod opening;
 mod program;
+mod setting;
 mod streams;
 #[cfg(test)]
 mod tests;

@@ -1,7 +1,7 @@
 //! The commands over a reader and a writer.
 ghost use Rattle.std.specs.Prelude.{◌≡◌, ℕ, codes, Err, OnOk};
 ghost use Rattle.std.specs.Io.KnownBytes.{IsAtEnd};
-ghost use Rattle.btreearc.specs.Commands.{Builds, Lists, Checks, Gets, Ranges};
+ghost use Rattle.btreearc.specs.Commands.{Builds, Lists, Checks, Gets, Ranges, Sets};
 ghost use Rattle.btreearc.specs.Words.{IsWord, IsWordAndNumber, IsWordAndNumbers, IsNoCommand};
 
 use crate::build;
@@ -10,6 +10,7 @@ use crate::fault::ProgramFault;
 use crate::lines::parse_lines;
 use crate::listing::write_entries;
 use crate::opening::open;
+use crate::setting::set_value;
 use crate::streams::{read_all, write_all};
 use std::alloc::Global;
 use std::io::{Read, Write};
@@ -39,6 +40,9 @@ pub fn run<R: Read, W: Write>(
     ensures range { (low high : ℕ) → IsWordAndNumbers (codes "range") low high args.now →
         Ranges low high (R.remaining input.old) (W.contents output.old) (W.contents output.new)
         result }
+    ensures set { (key value : ℕ) → IsWordAndNumbers (codes "set") key value args.now →
+        Sets key value (R.remaining input.old) (W.contents output.old) (W.contents output.new)
+        result }
     ensures usage { IsNoCommand args.now → result ≡ Err ProgramFault.Usage }
     ensures unread { IsNoCommand args.now → R.remaining input.new ≡ R.remaining input.old }
     ensures unwritten { IsNoCommand args.now → W.contents output.new ≡ W.contents output.old }
@@ -50,6 +54,7 @@ pub fn run<R: Read, W: Write>(
         Some(Command::Check) => check(alloc, input, output),
         Some(Command::Get(key)) => get(alloc, key, input, output),
         Some(Command::Range(low, high)) => range(alloc, low, high, input, output),
+        Some(Command::Set(key, value)) => set(alloc, key, value, input, output),
         None => Err(ProgramFault::Usage),
     }
 }
@@ -174,4 +179,31 @@ fn range<R: Read, W: Write>(
     }
     write_all(output, text.as_str().as_bytes())?;
     Ok(0)
+}
+
+/// Writes the input's archive with this value of the entry whose key is this, and answers 1 where a
+/// search of the archive finds none. The value is written in place: the archive isn't copied.
+///
+/// # Errors
+///
+/// `Refused` for the first fact for which the input is no archive, and `InputFailed`, `OutputFailed` or `Memory`.
+fn set<R: Read, W: Write>(
+    alloc: Global,
+    key: u32,
+    value: u32,
+    input: &mut R,
+    output: &mut W,
+) -> Result<u8, ProgramFault>
+    ensures done { Sets key value (R.remaining input.old) (W.contents output.old)
+        (W.contents output.new) result }
+    ensures end { OnOk result (IsAtEnd (R.remaining input.new)) }
+{
+    let mut archive = read_all(alloc, input)?;
+    let root = open(&archive)?.pos;
+    if set_value(&mut archive, root, key, value) {
+        write_all(output, &archive)?;
+        Ok(0)
+    } else {
+        Ok(1)
+    }
 }

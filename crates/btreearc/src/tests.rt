@@ -224,6 +224,114 @@ fn the_ends_of_a_range_are_two_numbers(rt: HostRuntime) -> Result<(), Fail> {
     fails(&rt, alloc, &["range", "1", "2"], b"", refused)
 }
 
+/// What `set` makes of an archive in which the key is found.
+fn set_in(
+    rt: &impl Abort,
+    alloc: Global,
+    archive: &[u8],
+    key: &str,
+    value: &str,
+) -> Result<Vec<u8>, Fail> {
+    let args = words_of(alloc, &["set", key, value])?;
+    let mut input = archive;
+    let mut output = Vec::new(alloc);
+    assert_eq!(rt; run(alloc, &args, &mut input, &mut output)?, 0);
+    Ok(output)
+}
+
+/// In how many places bytes differ, which are as many.
+fn differences(rt: &impl Abort, one: &[u8], other: &[u8]) -> usize {
+    assert_eq!(rt; one.len(), other.len());
+    one.iter()
+        .zip(other)
+        .filter(|pair: &(&u8, &u8)| pair.0 != pair.1)
+        .count()
+}
+
+#[test]
+fn a_value_is_set_by_its_key(rt: HostRuntime) -> Result<(), Fail> {
+    let alloc = rt.alloc();
+    let three = built(&rt, alloc, "1 10\n2 20\n9 90\n")?;
+    let sets: [(&str, &str, &[u8], usize); 6] = [
+        ("2", "99", b"1 10\n2 99\n9 90\n", 1),
+        ("0000000001", "0", b"1 0\n2 20\n9 90\n", 1),
+        ("9", "4294967295", b"1 10\n2 20\n9 4294967295\n", 4),
+        ("9", "16909060", b"1 10\n2 20\n9 16909060\n", 4),
+        ("2", "0000000020", b"1 10\n2 20\n9 90\n", 0),
+        ("1", "256", b"1 256\n2 20\n9 90\n", 2),
+    ];
+    for (key, value, lines, changed) in sets {
+        let archive = set_in(&rt, alloc, &three, key, value)?;
+        writes(&rt, alloc, &["list"], &archive, lines)?;
+        assert_eq!(rt; differences(&rt, &three, &archive), changed);
+    }
+    let mut thirteen = SEVEN;
+    thirteen[24] = 13;
+    writes(&rt, alloc, &["set", "7", "13"], &SEVEN, &thirteen)
+}
+
+// 215 entries stand in three levels of nodes: each is found and set.
+#[test]
+fn a_value_of_any_node_is_set(rt: HostRuntime) -> Result<(), Fail> {
+    let alloc = rt.alloc();
+    let mut archive = built(&rt, alloc, lines(alloc, 215)?.as_str())?;
+    let mut expected = String::new(alloc);
+    for key in 1..=215u32 {
+        let word = format!(in alloc; "{key}")?;
+        archive = set_in(&rt, alloc, &archive, word.as_str(), "7")?;
+        writeln!(expected, "{key} 7")?;
+    }
+    writes(
+        &rt,
+        alloc,
+        &["list"],
+        &archive,
+        expected.as_str().as_bytes(),
+    )
+}
+
+#[test]
+fn a_key_that_is_not_found_is_not_set(rt: HostRuntime) -> Result<(), Fail> {
+    let alloc = rt.alloc();
+    let two = built(&rt, alloc, "1 10\n2 20\n")?;
+    let unordered = built(&rt, alloc, "3 30\n1 10\n2 20\n")?;
+    let none = built(&rt, alloc, "")?;
+    let absent: [(&[u8], &str); 5] = [
+        (&two, "3"),
+        (&two, "0"),
+        (&two, "10"),
+        (&unordered, "1"),
+        (&none, "1"),
+    ];
+    for (archive, key) in absent {
+        let args = words_of(alloc, &["set", key, "99"])?;
+        let mut input = archive;
+        let mut output = Vec::new(alloc);
+        assert_eq!(rt; run(alloc, &args, &mut input, &mut output)?, 1);
+        assert!(rt; output.is_empty());
+    }
+    Ok(())
+}
+
+#[test]
+fn a_key_and_its_value_are_two_numbers(rt: HostRuntime) -> Result<(), Fail> {
+    let alloc = rt.alloc();
+    reads_nothing(&rt, alloc, &["set"])?;
+    reads_nothing(&rt, alloc, &["set", "7"])?;
+    reads_nothing(&rt, alloc, &["set", "7", "99", "3"])?;
+    reads_nothing(&rt, alloc, &["sets", "7", "99"])?;
+    for wrong in ["", "x", "-1", "+1", "2 ", "4294967296", "00000000001"] {
+        reads_nothing(&rt, alloc, &["set", wrong, "99"])?;
+        reads_nothing(&rt, alloc, &["set", "7", wrong])?;
+    }
+    let refused = "btreearc: refused: position 0 is out of range";
+    fails(&rt, alloc, &["set", "7", "99"], b"", refused)?;
+    let mut damaged = SEVEN;
+    damaged[0] = 2;
+    let kind = "btreearc: refused: position 0 holds kind 2, which is no node";
+    fails(&rt, alloc, &["set", "7", "99"], &damaged, kind)
+}
+
 #[test]
 fn the_greatest_numbers_stand(rt: HostRuntime) -> Result<(), Fail> {
     let alloc = rt.alloc();
@@ -487,7 +595,13 @@ impl Write for FailingWriter {
 #[test]
 fn a_failed_read_is_told(rt: HostRuntime) -> Result<(), Fail> {
     let alloc = rt.alloc();
-    let uses: [&[&str]; 4] = [&["build"], &["list"], &["check"], &["range", "1", "2"]];
+    let uses: [&[&str]; 5] = [
+        &["build"],
+        &["list"],
+        &["check"],
+        &["range", "1", "2"],
+        &["set", "1", "2"],
+    ];
     for words in uses {
         let args = words_of(alloc, words)?;
         let mut input = FailingReader { bytes: b"1 x\n" };
@@ -502,11 +616,12 @@ fn a_failed_read_is_told(rt: HostRuntime) -> Result<(), Fail> {
 #[test]
 fn a_failed_write_is_told(rt: HostRuntime) -> Result<(), Fail> {
     let alloc = rt.alloc();
-    let uses: [(&[&str], &[u8]); 4] = [
+    let uses: [(&[&str], &[u8]); 5] = [
         (&["build"], b"7 11"),
         (&["list"], &SEVEN),
         (&["check"], &SEVEN),
         (&["range", "7", "7"], &SEVEN),
+        (&["set", "7", "13"], &SEVEN),
     ];
     for (words, input) in uses {
         let args = words_of(alloc, words)?;

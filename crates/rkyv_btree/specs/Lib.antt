@@ -1,4 +1,15 @@
 -- What contracts and specs of callers may name of the crates below.
+pub use Rattle.rkyv_btree_seal.specs.Alone
+pub use Rattle.rkyv_btree_seal.specs.Along
+pub use Rattle.rkyv_btree_seal.specs.Apart
+pub use Rattle.rkyv_btree_seal.specs.Calls
+pub use Rattle.rkyv_btree_seal.specs.Cursor
+pub use Rattle.rkyv_btree_seal.specs.Lent
+pub use Rattle.rkyv_btree_seal.specs.Places
+pub use Rattle.rkyv_btree_seal.specs.Put
+pub use Rattle.rkyv_btree_seal.specs.Visits
+pub use Rattle.rkyv_btree_seal.specs.declared.lent.LentKey
+pub use Rattle.rkyv_btree_seal.specs.declared.seal.Seal
 pub use Rattle.rkyv_btree_view.specs.Deserializing
 pub use Rattle.rkyv_btree_view.specs.Items
 pub use Rattle.rkyv_btree_view.specs.Iter

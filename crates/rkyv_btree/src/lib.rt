@@ -9,6 +9,13 @@ pub mod compare {
     pub use rkyv_btree_view::compare::{ViewEq, ViewHash, ViewOrd};
 }
 
+/// Cursors along the entries of a map, whose values they can write.
+pub mod cursor {
+    pub use rkyv_btree_seal::cursor::{IterSeal, ValuesSeal};
+    pub use rkyv_btree_seal::range_cursor::RangeSeal;
+    pub use rkyv_btree_seal::range_walk::RangeWalk;
+}
+
 /// Views in messages, as what they read.
 pub mod debug {
     pub use rkyv_btree_view::debug::ViewDebug;
@@ -34,8 +41,9 @@ pub mod lookup {
     pub use rkyv_btree_view::lookup::{increasing_keys_are_found, what_is_found_is_equal};
 }
 
-/// Archived maps, read in place.
+/// Archived maps, read in place, and with their values written there.
 pub mod map {
+    pub use rkyv_btree_seal::map::{MapSeal, access_mut};
     pub use rkyv_btree_view::map::{access, access_valid};
     pub use rkyv_btree_walk::map::ArchivedMap;
 }
@@ -54,6 +62,14 @@ pub mod query {
 /// Ranges of the entries of a map.
 pub mod range {
     pub use rkyv_btree_view::range::Range;
+}
+
+/// Values that are written in place.
+pub mod seal {
+    pub use rkyv_btree_seal::lent::LentKey;
+    pub use rkyv_btree_seal::place::EntryPlace;
+    pub use rkyv_btree_seal::put::{values_are_apart, writes_put_values};
+    pub use rkyv_btree_seal::seal::Seal;
 }
 
 /// Values in a buffer.

@@ -1,18 +1,16 @@
-//! What archives are, how they are written, and how foreign bytes are checked.
+//! What archives are, how they are written, and how foreign bytes are checked: what a program
+//! names that writes archives. It has no code of its own.
 #![tactic(auto)]
 
+pub use rkyv_btree_archive::{text, util};
+pub use rkyv_btree_build::{build, map};
 pub use rkyv_btree_portable::{numbers, refusal, scalars, signed};
 pub use rkyv_btree_writer::fault;
 
-pub mod archive;
-pub mod build;
-mod entries;
-pub mod map;
-mod node;
-pub mod text;
-mod tree;
-pub mod util;
-mod writes;
+/// Values that can be archived.
+pub mod archive {
+    pub use rkyv_btree_archive::archive::{Archive, Native, Serialize, natives_are_determined};
+}
 
 /// Numbers and pointers in a buffer.
 pub mod bytes {
@@ -21,7 +19,8 @@ pub mod bytes {
 
 /// Archived types, and the check of their bytes.
 pub mod check {
-    pub use rkyv_btree_portable::check::{CheckBytes, InPlace, Portable, Window, check_place};
+    pub use rkyv_btree_portable::check::{CheckBytes, Portable, Scalar, Window, check_place};
+    pub use rkyv_btree_portable::in_place::InPlace;
 }
 
 /// Sizes and offsets of nodes, and levels of trees.

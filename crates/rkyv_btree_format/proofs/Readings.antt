@@ -48,7 +48,7 @@ module _ (K V : Kind) (E : ℕ) (b : List ℕ) (kr : IsRead K) (vr : IsRead V) w
         pair : (k l : K.Value) (v w : V.Value) → k ≡ l → v ≡ w → ◌≡◌ {A = K.Value × V.Value} (k, v) (l, w)
         pair k l v w ek ev = cc
 
-    child_read : (c : Child (K.Value × V.Value)) (levels p i lo next : ℕ) → SpellsChild K V E b p i lo next c → child_height c ≤ levels → child_list c ≡ map (entry_at K V E b) (child_list (child_of (layout_of K V E) b (tree_at (layout_of K V E) b levels) (target_at b (p + pointer_at (layout_of K V E) i))))
+    pub child_read : (c : Child (K.Value × V.Value)) (levels p i lo next : ℕ) → SpellsChild K V E b p i lo next c → child_height c ≤ levels → child_list c ≡ map (entry_at K V E b) (child_list (child_of (layout_of K V E) b (tree_at (layout_of K V E) b levels) (target_at b (p + pointer_at (layout_of K V E) i))))
     child_read absent levels p i lo next h d = rw h.0 refl
     child_read (child t) levels p i lo next h d = rw h.1 (tree_read t levels lo p h.0 h.2 d)
 

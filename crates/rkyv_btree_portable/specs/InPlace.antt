@@ -1,6 +1,7 @@
--- Types whose values lie in their own bytes alone, as they are written from native values.
-use Rattle.std.specs.Prelude.{◌≡◌, ℕ, ◌+◌, ◌≤◌, List, [], ◌∷◌, length}
-use Rattle.rkyv_btree_portable.specs.Bytes.{bytes_at}
+-- Types whose values lie in their own bytes alone, as these are written from native values and read as them.
+use Rattle.std.specs.Prelude.{◌≡◌, ℕ, ◌+◌, ◌≤◌, ◌↔◌, ◌++◌, IsTrue, List, [], ◌∷◌, length}
+use Rattle.rkyv_btree_portable.specs.Bytes.{bytes_at, filled}
+use Rattle.rkyv_btree_portable.specs.Entry.{value_offset, entry_size}
 use Rattle.rkyv_btree_portable.specs.Kind.{Kind, IsLawful}
 use Rattle.rkyv_btree_portable.specs.Plain.{Plain, plain_kind}
 use Rattle.rkyv_btree_portable.specs.Standing.{IsAligned}
@@ -29,6 +30,38 @@ pub record IsFaithful {X : Type 0} (form : NativeForm X) : Type 0 where
   pub is_own : (x : X) → IsOwn (plain_kind form.plain) (form.own x)
   pub told : (x : X) → form.IsIn x → value_of (plain_kind form.plain) (form.own x) ≡ form.meaning x
   pub one_own : (x y : X) → form.meaning x ≡ form.meaning y → form.own x ≡ form.own y
+
+-- values that lie in their own bytes alone: these leave the window as it was, and mean the value wherever they stand
+pub record LiesAlone (kind : Kind) : Type 0 where
+  pub unmoved : (b : List ℕ) (lo hi at left : ℕ) (v : kind.Value) → kind.Means b lo hi at left v → left ≡ lo
+  pub own : (b : List ℕ) (lo hi at left : ℕ) (v : kind.Value) → kind.Means b lo hi at left v → IsOwn kind (bytes_at b at kind.size)
+
+-- how native values are written in place: their own bytes, what is told of a value, and what own bytes tell
+pub record InPlaceForm (X : Type 0) : Type 1 where
+  pub Told : Type 0
+  pub told : X → Told
+  pub own : X → List ℕ
+  pub tells : List ℕ → Told
+
+-- what such a form owes: the values lie in their own bytes alone, the own bytes of each native value mean one, and what
+-- own bytes tell is what they mean
+pub record IsInPlace (kind : Kind) {X : Type 0} (form : InPlaceForm X) : Type 0 where
+  pub alone : LiesAlone kind
+  pub written : (x : X) → IsOwn kind (form.own x)
+  pub told : IsTrue kind.is_fitting → (b c : List ℕ) → IsOwn kind b → IsOwn kind c → form.tells b ≡ form.tells c ↔ (value_of kind b ≡ value_of kind c)
+
+-- the form of a native type
+abbrev pub scalar_form : {X : Type 0} → NativeForm X → InPlaceForm X
+scalar_form form = record { Told = form.plain.Value; told = form.meaning; own = form.own; tells = form.plain.value }
+
+-- that of pairs, as entries: the key, then the value at its place, and zeros wherever nothing stands
+abbrev pub pair_form : {X Y : Type 0} → Kind → Kind → InPlaceForm X → InPlaceForm Y → InPlaceForm (X × Y)
+pair_form K V key value = record {
+  Told = key.Told × value.Told;
+  told = λ x. (key.told x.0, value.told x.1);
+  own = λ x. filled (filled (key.own x.0) (value_offset K V) ++ value.own x.1) (entry_size K V);
+  tells = λ b. (key.tells (bytes_at b 0 K.size), value.tells (bytes_at b (value_offset K V) V.size));
+}
 
 -- the own bytes of an entry's key and value
 abbrev pub OwnBytes : Type 0

@@ -1,6 +1,7 @@
 -- What is proved of these definitions, as far as an archived type or a crate above cites it.
 pub mod Choices
 pub mod Standing
+pub mod Holding
 pub mod Rounding
 pub mod Numbers
 pub mod Refusing
@@ -10,4 +11,5 @@ pub mod Natives
 pub mod Views
 pub mod EntryLaws
 pub mod EntryRefusals
+pub mod InPlace
 pub mod TextLaws

@@ -39,8 +39,8 @@ pub trait Portable {
     ghost laws: { IsLawful kind };
 }
 
-/// An archived type whose values lie in their own bytes alone.
-pub trait InPlace {
+/// An archived type of numbers, truth values or characters, in their own bytes alone.
+pub trait Scalar {
     /// The type of the values as the program has them.
     type Native: Copy + Drop;
 
@@ -55,10 +55,17 @@ pub trait InPlace {
         ensures size { result.0 ≡ form.plain.size }
         ensures align { result.1 ≡ form.plain.align };
 
-    /// Writes the own bytes of a value.
+    /// The value that own bytes mean.
+    fn read(bytes: &[u8]) -> Self::Native
+        requires size { length bytes.now ≡ form.plain.size }
+        requires value { IsTrue (form.plain.is_value bytes.now) }
+        ensures { form.meaning result ≡ form.plain.value bytes.now };
+
+    /// Writes the own bytes of a value. What they mean is the value.
     fn write(value: Self::Native, bytes: &mut [u8])
         requires { length bytes.old ≡ form.plain.size }
-        ensures { bytes.new ≡ form.own value };
+        ensures bytes { bytes.new ≡ form.own value }
+        ensures means { form.plain.value (form.own value) ≡ form.meaning value };
 
     /// The test that the own bytes at position `pos` are a value.
     fn is_value(buf: &[u8], pos: u32) -> bool
@@ -117,7 +124,7 @@ pub fn check_place<T: Portable>(buf: &[u8], pos: u32) -> Result<(), Refusal>
 }
 
 /// The check of a value that lies in its own bytes alone, which leaves the window as it was.
-pub(crate) fn check_in_place<T: InPlace>(
+pub(crate) fn check_in_place<T: Scalar>(
     buf: &[u8],
     pos: u32,
     window: Window,

@@ -4,6 +4,7 @@
 pub mod bytes;
 pub mod check;
 pub mod entry;
+pub mod in_place;
 pub mod little_endian;
 pub mod numbers;
 pub mod refusal;

@@ -3,7 +3,7 @@ ghost use Rattle.rkyv_btree_portable.specs.Plain.{plain_kind};
 ghost use Rattle.rkyv_btree_portable.specs.Refusing.{RefusesWhole};
 ghost use Rattle.rkyv_btree_portable.specs.laws.Refusing.{whole_refusals};
 
-use crate::check::{CheckBytes, InPlace, Portable, Window, check_in_place};
+use crate::check::{CheckBytes, Portable, Scalar, Window, check_in_place};
 use crate::refusal::Refusal;
 use std::marker::PhantomData;
 
@@ -16,9 +16,9 @@ pub struct LittleEndian<N> {
 // the bound `Portable` and a ghost field, as a view of text, would then get no proof.
 impl<N> Portable for LittleEndian<N>
 where
-    LittleEndian<N>: InPlace,
+    LittleEndian<N>: Scalar,
 {
-    ghost kind = { plain_kind ⟦<LittleEndian<N> as InPlace>⟧.form.plain };
+    ghost kind = { plain_kind ⟦<LittleEndian<N> as Scalar>⟧.form.plain };
 
     fn size() -> u32 {
         LittleEndian::<N>::size_and_align().0
@@ -32,18 +32,18 @@ where
         true
     }
 
-    ghost laws = { ⟦<LittleEndian<N> as InPlace>⟧.faithful.lawful };
+    ghost laws = { ⟦<LittleEndian<N> as Scalar>⟧.faithful.lawful };
 }
 
 impl<N> CheckBytes for LittleEndian<N>
 where
-    LittleEndian<N>: InPlace,
+    LittleEndian<N>: Scalar,
 {
-    ghost Refuses = { RefusesWhole (plain_kind ⟦<LittleEndian<N> as InPlace>⟧.form.plain) };
+    ghost Refuses = { RefusesWhole (plain_kind ⟦<LittleEndian<N> as Scalar>⟧.form.plain) };
 
     fn check(buf: &[u8], pos: u32, window: Window) -> Result<Window, Refusal> {
         check_in_place::<LittleEndian<N>>(buf, pos, window)
     }
 
-    ghost refusals = { λ _. whole_refusals ⟦<LittleEndian<N> as InPlace>⟧.faithful.lawful };
+    ghost refusals = { λ _. whole_refusals ⟦<LittleEndian<N> as Scalar>⟧.faithful.lawful };
 }

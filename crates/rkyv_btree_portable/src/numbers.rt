@@ -1,4 +1,6 @@
 //! The archived numbers without a sign, and `bool`.
+ghost use Rattle.rkyv_btree_portable.specs.InPlace.{scalar_form};
+ghost use Rattle.rkyv_btree_portable.specs.laws.InPlace.{scalar_in_place};
 ghost use Rattle.rkyv_btree_portable.specs.Natives.{u8_form, u16_form, u32_form, u64_form, bool_form};
 ghost use Rattle.rkyv_btree_portable.specs.laws.Natives.{u8_faithful, u16_faithful, u32_faithful, u64_faithful, bool_faithful};
 ghost use Rattle.rkyv_btree_portable.specs.Refusing.{RefusesWhole};
@@ -6,14 +8,16 @@ ghost use Rattle.rkyv_btree_portable.specs.Scalars.{u8_kind, bool_kind};
 ghost use Rattle.rkyv_btree_portable.specs.laws.Refusing.{whole_refusals};
 ghost use Rattle.rkyv_btree_portable.specs.laws.Scalars.{u8_laws, bool_laws};
 
-use crate::check::{CheckBytes, InPlace, Portable, Window, check_in_place};
+use crate::bytes::num32;
+use crate::check::{CheckBytes, Portable, Scalar, Window, check_in_place};
+use crate::in_place::InPlace;
 use crate::little_endian::LittleEndian;
 use crate::refusal::Refusal;
 
 /// The byte of `true`. That of `false` is 0, and no other byte is a `bool`.
 const TRUE: u8 = 1;
 
-impl InPlace for u8 {
+impl Scalar for u8 {
     type Native = u8;
 
     ghost form = { u8_form };
@@ -22,6 +26,10 @@ impl InPlace for u8 {
 
     fn size_and_align() -> (u32, u32) {
         (1, 1)
+    }
+
+    fn read(bytes: &[u8]) -> u8 {
+        bytes[0]
     }
 
     fn write(value: u8, bytes: &mut [u8]) {
@@ -36,7 +44,7 @@ impl InPlace for u8 {
 /// A `u16` in two bytes, the least first.
 pub type ArchivedU16 = LittleEndian<u16>;
 
-impl InPlace for ArchivedU16 {
+impl Scalar for ArchivedU16 {
     type Native = u16;
 
     ghost form = { u16_form };
@@ -45,6 +53,10 @@ impl InPlace for ArchivedU16 {
 
     fn size_and_align() -> (u32, u32) {
         (2, 2)
+    }
+
+    fn read(bytes: &[u8]) -> u16 {
+        u16::from_le_bytes([bytes[0], bytes[1]])
     }
 
     fn write(value: u16, bytes: &mut [u8]) {
@@ -59,7 +71,7 @@ impl InPlace for ArchivedU16 {
 /// A `u32` in four bytes, the least first.
 pub type ArchivedU32 = LittleEndian<u32>;
 
-impl InPlace for ArchivedU32 {
+impl Scalar for ArchivedU32 {
     type Native = u32;
 
     ghost form = { u32_form };
@@ -68,6 +80,11 @@ impl InPlace for ArchivedU32 {
 
     fn size_and_align() -> (u32, u32) {
         (4, 4)
+    }
+
+    #[tactic(auto, unfolding(crate::specs::Bytes::number_at))]
+    fn read(bytes: &[u8]) -> u32 {
+        num32(bytes, 0)
     }
 
     fn write(value: u32, bytes: &mut [u8]) {
@@ -82,7 +99,7 @@ impl InPlace for ArchivedU32 {
 /// A `u64` in eight bytes, the least first.
 pub type ArchivedU64 = LittleEndian<u64>;
 
-impl InPlace for ArchivedU64 {
+impl Scalar for ArchivedU64 {
     type Native = u64;
 
     ghost form = { u64_form };
@@ -91,6 +108,12 @@ impl InPlace for ArchivedU64 {
 
     fn size_and_align() -> (u32, u32) {
         (8, 8)
+    }
+
+    fn read(bytes: &[u8]) -> u64 {
+        u64::from_le_bytes([
+            bytes[0], bytes[1], bytes[2], bytes[3], bytes[4], bytes[5], bytes[6], bytes[7],
+        ])
     }
 
     fn write(value: u64, bytes: &mut [u8]) {
@@ -102,7 +125,7 @@ impl InPlace for ArchivedU64 {
     }
 }
 
-impl InPlace for bool {
+impl Scalar for bool {
     type Native = bool;
 
     ghost form = { bool_form };
@@ -111,6 +134,10 @@ impl InPlace for bool {
 
     fn size_and_align() -> (u32, u32) {
         (1, 1)
+    }
+
+    fn read(bytes: &[u8]) -> bool {
+        bytes[0] == TRUE
     }
 
     fn write(value: bool, bytes: &mut [u8]) {
@@ -151,6 +178,22 @@ impl CheckBytes for u8 {
     ghost refusals = { λ _. whole_refusals u8_laws };
 }
 
+impl InPlace for u8 {
+    type Native = u8;
+
+    ghost in_place = { scalar_form u8_form };
+
+    fn read(bytes: &[u8]) -> u8 {
+        <u8 as Scalar>::read(bytes)
+    }
+
+    fn write(value: u8, bytes: &mut [u8]) {
+        <u8 as Scalar>::write(value, bytes);
+    }
+
+    ghost is_in_place = { scalar_in_place u8_faithful };
+}
+
 impl Portable for bool {
     ghost kind = { bool_kind };
 
@@ -177,4 +220,20 @@ impl CheckBytes for bool {
     }
 
     ghost refusals = { λ _. whole_refusals bool_laws };
+}
+
+impl InPlace for bool {
+    type Native = bool;
+
+    ghost in_place = { scalar_form bool_form };
+
+    fn read(bytes: &[u8]) -> bool {
+        <bool as Scalar>::read(bytes)
+    }
+
+    fn write(value: bool, bytes: &mut [u8]) {
+        <bool as Scalar>::write(value, bytes);
+    }
+
+    ghost is_in_place = { scalar_in_place bool_faithful };
 }

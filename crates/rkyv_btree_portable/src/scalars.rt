@@ -1,4 +1,6 @@
 //! The archived `()`, `char` and `NonZeroU32`.
+ghost use Rattle.rkyv_btree_portable.specs.InPlace.{scalar_form};
+ghost use Rattle.rkyv_btree_portable.specs.laws.InPlace.{scalar_in_place};
 ghost use Rattle.rkyv_btree_portable.specs.Natives.{unit_form, char_form, non_zero_form};
 ghost use Rattle.rkyv_btree_portable.specs.laws.Natives.{unit_faithful, char_faithful, non_zero_faithful};
 ghost use Rattle.rkyv_btree_portable.specs.Refusing.{RefusesWhole};
@@ -7,12 +9,13 @@ ghost use Rattle.rkyv_btree_portable.specs.laws.Refusing.{whole_refusals};
 ghost use Rattle.rkyv_btree_portable.specs.laws.Scalars.{unit_laws};
 
 use crate::bytes::num32;
-use crate::check::{CheckBytes, InPlace, Portable, Window, check_in_place};
+use crate::check::{CheckBytes, Portable, Scalar, Window, check_in_place};
+use crate::in_place::InPlace;
 use crate::little_endian::LittleEndian;
 use crate::refusal::Refusal;
 use std::num::NonZeroU32;
 
-impl InPlace for () {
+impl Scalar for () {
     type Native = ();
 
     ghost form = { unit_form };
@@ -22,6 +25,8 @@ impl InPlace for () {
     fn size_and_align() -> (u32, u32) {
         (0, 1)
     }
+
+    fn read(_bytes: &[u8]) {}
 
     fn write(_value: (), _bytes: &mut [u8]) {}
 
@@ -33,7 +38,7 @@ impl InPlace for () {
 /// A `char`, by its code in four bytes, the least first.
 pub type ArchivedChar = LittleEndian<char>;
 
-impl InPlace for ArchivedChar {
+impl Scalar for ArchivedChar {
     type Native = char;
 
     ghost form = { char_form };
@@ -42,6 +47,12 @@ impl InPlace for ArchivedChar {
 
     fn size_and_align() -> (u32, u32) {
         (4, 4)
+    }
+
+    #[tactic(auto, unfolding(crate::specs::Bytes::number_at))]
+    fn read(bytes: &[u8]) -> char {
+        // No other code is a value.
+        unsafe { char::from_u32_unchecked(num32(bytes, 0)) }
     }
 
     fn write(value: char, bytes: &mut [u8]) {
@@ -57,7 +68,7 @@ impl InPlace for ArchivedChar {
 /// A `u32` other than 0 in four bytes, the least first.
 pub type ArchivedNonZeroU32 = LittleEndian<NonZeroU32>;
 
-impl InPlace for ArchivedNonZeroU32 {
+impl Scalar for ArchivedNonZeroU32 {
     type Native = NonZeroU32;
 
     ghost form = { non_zero_form };
@@ -66,6 +77,12 @@ impl InPlace for ArchivedNonZeroU32 {
 
     fn size_and_align() -> (u32, u32) {
         (4, 4)
+    }
+
+    #[tactic(auto, unfolding(crate::specs::Bytes::number_at))]
+    fn read(bytes: &[u8]) -> NonZeroU32 {
+        // 0 is no value.
+        unsafe { NonZeroU32::new_unchecked(num32(bytes, 0)) }
     }
 
     fn write(value: NonZeroU32, bytes: &mut [u8]) {
@@ -105,4 +122,20 @@ impl CheckBytes for () {
     }
 
     ghost refusals = { λ _. whole_refusals unit_laws };
+}
+
+impl InPlace for () {
+    type Native = ();
+
+    ghost in_place = { scalar_form unit_form };
+
+    fn read(bytes: &[u8]) {
+        <() as Scalar>::read(bytes);
+    }
+
+    fn write(value: (), bytes: &mut [u8]) {
+        <() as Scalar>::write(value, bytes);
+    }
+
+    ghost is_in_place = { scalar_in_place unit_faithful };
 }

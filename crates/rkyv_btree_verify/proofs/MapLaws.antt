@@ -21,7 +21,7 @@ use Rattle.rkyv_btree_portable.specs.laws.Views.{means_read}
 use Rattle.rkyv_btree_format.proofs.Unique.{map_unique}
 use Rattle.rkyv_btree_format.proofs.Widen.{map_widens}
 
-leaving_of : {kind : Kind} → IsLawful kind → Leaving kind
+pub leaving_of : {kind : Kind} → IsLawful kind → Leaving kind
 leaving_of laws b lo hi at left v m = let l = laws.lies b lo hi at left v m in (l.forward, l.kept)
 
 module _ (K V : Kind) (E : ℕ) (k : IsLawful K) (v : IsLawful V) where

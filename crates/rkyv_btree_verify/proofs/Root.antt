@@ -15,7 +15,8 @@ use Rattle.rkyv_btree_verify.proofs.Results.{bind_ok}
 use Rattle.rkyv_btree_verify.proofs.Sound.{node_sound}
 use Rattle.rkyv_btree_verify.proofs.Complete.{tree_complete}
 
-spelled_within : (K V : Kind) (E : ℕ) (b : List ℕ) (lo hi p : ℕ) (t : Tree (K.Value × V.Value)) → Spells K V E b lo hi p t → (lo ≤ p + root_size (layout_of K V E) t) × (p + root_size (layout_of K V E) t ≤ hi)
+-- what a tree takes of its window ends at its root
+pub spelled_within : (K V : Kind) (E : ℕ) (b : List ℕ) (lo hi p : ℕ) (t : Tree (K.Value × V.Value)) → Spells K V E b lo hi p t → (lo ≤ p + root_size (layout_of K V E) t) × (p + root_size (layout_of K V E) t ≤ hi)
 spelled_within K V E b lo hi p (leaf m) h = let at = h.0 in (omega arith, omega arith)
 spelled_within K V E b lo hi p (inner row) h = let at = h.0 in (omega arith, omega arith)
 

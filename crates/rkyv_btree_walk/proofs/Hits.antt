@@ -1,6 +1,6 @@
 -- An entry that a search finds is a hit; and along an ordered list it finds one if there is one. Greater ranks above
 -- Equal, and Equal above Less: along an ordered list the ranks fall.
-use Rattle.std.proofs.Common.{◌≡◌, ℕ, zero, suc, ◌≤◌, ◌<◌, List, [], ◌∷◌, ◌++◌, length, map, refl, ap, sym, arith, Option, Some, None, ◌⊎◌, inl, inr, IsSome, append_assoc, false, true}
+use Rattle.std.proofs.Common.{◌≡◌, ℕ, zero, suc, ◌≤◌, ◌<◌, List, [], ◌∷◌, ◌++◌, length, map, refl, ap, sym, arith, Option, Some, None, ◌⊎◌, inl, inr, IsSome, append_assoc, false, true, slice_get}
 use Rattle.std.proofs.lemmas.List.{append-nil}
 use Rattle.std.specs.List.{All, HoldsAt}
 use Rattle.std.specs.Option.{option_map}
@@ -140,6 +140,10 @@ module _ {X : Type 0} where
   in_at x [] h = absurd h
   in_at x (y ∷ xs) h = elim h [ inl e ↦ (0, omega arith, λ d. e) | inr r ↦ let q = in_at x xs r in (suc q.0, omega (arith, q.1), q.2) ]
 
+  in_get : (x : X) (xs : List X) → IsIn x xs → (i : ℕ) × (slice_get xs i ≡ Some x)
+  in_get x [] h = absurd h
+  in_get x (y ∷ xs) h = elim h [ inl e ↦ (0, ap Some e) | inr r ↦ let q = in_get x xs r in (suc q.0, q.1) ]
+
   in_map : {Y : Type 0} (f : X → Y) (x : X) (xs : List X) → IsIn x xs → IsIn (f x) (map f xs)
   in_map f x [] h = absurd h
   in_map f x (y ∷ xs) h = elim h [ inl e ↦ inl (ap f e) | inr r ↦ inr (in_map f x xs r) ]
@@ -223,3 +227,7 @@ module _ {X Y : Type 0} (f : X → Y) (c : Y → Ordering) where
     hit = probe_hits t x (sym is);
     complete = λ o. (λ s. let h = probe_hits t x (sym is) in (h.1, h.2, λ d. rw (h.3 d) h.0), λ h. refl);
   }
+
+-- what a probe finds is an entry of the tree
+pub probe_is_entry : {X : Type 0} (answer : X → Ordering) (t : Tree X) (x : X) → probe answer t ≡ Some x → (i : ℕ) × (slice_get (list t) i ≡ Some x)
+probe_is_entry answer t x h = let s = first_sound answer (asked answer t) x h in in_get x (list t) (tree_asks answer t x s.1)

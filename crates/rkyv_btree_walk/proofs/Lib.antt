@@ -1,5 +1,8 @@
 -- The lemmas of walks.
+pub mod Below
+pub mod BelowKept
 pub mod Hits
+pub mod Listed
 pub mod Nodes
 pub mod Paths
 pub mod Props

@@ -1,7 +1,7 @@
 -- What a walk needs is a fact and no data, so a ghost field can keep it.
-use Rattle.std.proofs.Common.{ℕ, zero, suc, List, [], ◌∷◌, Option, Some, None}
+use Rattle.std.proofs.Common.{◌≡◌, ℕ, zero, suc, List, [], ◌∷◌, Option, Some, None}
 use Rattle.std.proofs.Math.Bool.{Bool-set}
-use Rattle.std.specs.Coded.{le_prop}
+use Rattle.std.specs.Coded.{le_prop, Coded-set, coded_list, coded×, coded_ℕ}
 use Rattle.std.specs.Prelude.{ℤ, pos, negsuc}
 use mathlib.Core.Logic.{∥∥₁_elim}
 use Rattle.rkyv_btree_base.specs.Kind.{Kind}
@@ -41,3 +41,8 @@ module _ (K V : Kind) (E : ℕ) (b : List ℕ) where
 
   pub path_had : (levels : ℕ) (fs : List (ℕ × ℕ)) → ∥ IsPath K V E b levels fs ∥₁ → IsPath K V E b levels fs
   path_had levels fs h = ∥∥₁_elim h (path_prop levels fs) (λ p. p)
+
+-- How a node is reached from a root is data, so of a walk below a root a ghost field keeps only that it is: what is left
+-- of it is known all the same.
+pub places_had : (xs ys : List (ℕ × ℕ)) → ∥ xs ≡ ys ∥₁ → xs ≡ ys
+places_had xs ys h = ∥∥₁_elim h (Coded-set (coded_list (coded× coded_ℕ coded_ℕ)) xs ys) (λ e. e)

@@ -16,14 +16,14 @@ use Rattle.rkyv_btree_walk.specs.mirror.Range.{is_reached, AllPass, Rises, is_pa
 use Rattle.rkyv_btree_walk.proofs.Hits.{rank, NoneAbove, Falls, ordered_falls, falls_map}
 use Rattle.rkyv_btree_walk.proofs.Seeks.{rises_right, none_before}
 
-stop_same : (stop e : ℕ × ℕ) → is_stop (Some stop) e ≡ true → stop ≡ e
+pub stop_same : (stop e : ℕ × ℕ) → is_stop (Some stop) e ≡ true → stop ≡ e
 stop_same stop e h =
     let both = and_parts _ _ h in
     let node : stop.0 ≡ e.0 = eqb-true stop.0 e.0 both.0 in
     let index : stop.1 ≡ e.1 = eqb-true stop.1 e.1 both.1 in
     ap (λ x. let f : ℕ × ℕ = (x, stop.1) in f) node ∙ ap (λ y. let f : ℕ × ℕ = (e.0, y) in f) index
 
-stop_at : (e : ℕ × ℕ) → is_stop (Some e) e ≡ true
+pub stop_at : (e : ℕ × ℕ) → is_stop (Some e) e ≡ true
 stop_at e = and_from _ _ (eq-eqb e.0 e.0 refl) (eq-eqb e.1 e.1 refl)
 
 pub taken_whole : (xs : List (ℕ × ℕ)) → take_before None xs ≡ xs

@@ -42,7 +42,7 @@ module _ (s : NodeLayout) (b : List ℕ) where
   child_is below (Some (negsuc n)) = refl
   child_is below (Some (pos q)) = refl
 
-  inner_children : (m p : ℕ) → is_leaf s b p ≡ false → (j : ℕ) → children_of m p j ≡ child_of s b (tree_at s b m) (target_at b (p + pointer_at s j))
+  pub inner_children : (m p : ℕ) → is_leaf s b p ≡ false → (j : ℕ) → children_of m p j ≡ child_of s b (tree_at s b m) (target_at b (p + pointer_at s j))
   inner_children m p e j = rw e (child_is (tree_at s b m) (target_at b (p + pointer_at s j)))
 
   row_is : (below : ℕ → Tree (ℕ × ℕ)) (children : ℕ → Child (ℕ × ℕ)) (p : ℕ) → ((j : ℕ) → children j ≡ child_of s b below (target_at b (p + pointer_at s j))) → (n i : ℕ) → row_at s b below p n i ≡ row_of children p n i

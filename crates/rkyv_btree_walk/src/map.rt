@@ -27,6 +27,11 @@ pub trait ArchivedMap: Portable {
         requires { IsTrue (stands Self.kind buf.now pos) }
         ensures { IsTrue (stands (map_kind Self.Key.kind Self.Mapped.kind E) buf.now pos) };
 
+    /// Does nothing: it says the converse.
+    fn closed(buf: &[u8], pos: u32)
+        requires { IsTrue (stands (map_kind Self.Key.kind Self.Mapped.kind E) buf.now pos) }
+        ensures { IsTrue (stands Self.kind buf.now pos) };
+
     /// `E`, as a number of the program.
     fn entries_per_node() -> usize
         ensures { result ≡ E };
@@ -65,6 +70,8 @@ impl<K: Portable, V: Portable, const E: usize> ArchivedMap for ArchivedBTreeMap<
     ghost E = { E };
 
     fn opened(_buf: &[u8], _pos: u32) {}
+
+    fn closed(_buf: &[u8], _pos: u32) {}
 
     fn entries_per_node() -> usize {
         E

@@ -1,9 +1,10 @@
 //! Steps along the entries of a tree, over the path of nodes from its root.
-ghost use Rattle.std.specs.Prelude.{◌≡◌, ◌+◌, ◌-◌, ◌≤◌, [], ◌++◌, length, IfSome, IsTrue};
+ghost use Rattle.std.specs.Prelude.{◌≡◌, ℕ, ◌+◌, ◌-◌, ◌≤◌, [], ◌++◌, length, Option, IfSome, IsTrue};
 ghost use Rattle.rkyv_btree_base.specs.Layout.{layout_of, are_fitting};
 ghost use Rattle.rkyv_btree_base.specs.Read.{map_tree};
 ghost use Rattle.rkyv_btree_base.specs.Tree.{list};
 ghost use Rattle.rkyv_btree_base.specs.Views.{stands};
+ghost use Rattle.rkyv_btree_walk.specs.mirror.Below.{root_place, IsBelow, PathBelow, LeafBelow, StepStaysBelow};
 ghost use Rattle.rkyv_btree_walk.specs.mirror.Node.{TreeStands};
 ghost use Rattle.rkyv_btree_walk.specs.mirror.Path.{tree_rest, path_rest, leaf_rest, LeafStands, StepStands, Steps, IsPath};
 
@@ -52,6 +53,10 @@ pub(crate) fn descend<K: Portable, V: Portable, M: ArchivedMap<Key = K, Mapped =
         leaf_rest s buf.now result path.new.items
         ≡ tree_rest s buf.now (32 - length path.old.items) node 0
         ++ path_rest s buf.now 32 path.old.items }
+    ensures below { let s = layout_of K.kind V.kind M.E in
+        (root : Option ℕ) → PathBelow s buf.now root 0 path.old.items
+        → IsBelow s buf.now root (length path.old.items) node
+        → LeafBelow s buf.now root result path.new.items }
 {
     let mut at = node;
     'down: loop {
@@ -83,6 +88,8 @@ pub(crate) fn climb<K: Portable, V: Portable, M: ArchivedMap<Key = K, Mapped = V
     ensures leaf { IfSome result (λ e. LeafStands K.kind V.kind M.E buf.now e.leaf) }
     ensures rest { Steps (layout_of K.kind V.kind M.E) buf.now result path.old.items
         path.new.items }
+    ensures below { StepStaysBelow (layout_of K.kind V.kind M.E) buf.now path.old.items
+        path.new.items result }
 {
     'up: while let Some((node, index)) = path.pop() {
         if (index as usize) < M::entries_per_node() {
@@ -112,6 +119,8 @@ pub fn advance<K: Portable, V: Portable, M: ArchivedMap<Key = K, Mapped = V>>(
     ensures leaf { IfSome result (λ e. LeafStands K.kind V.kind M.E buf.now e.leaf) }
     ensures rest { Steps (layout_of K.kind V.kind M.E) buf.now result path.old.items
         path.new.items }
+    ensures below { StepStaysBelow (layout_of K.kind V.kind M.E) buf.now path.old.items
+        path.new.items result }
 {
     climb::<K, V, M>(buf, path)
 }
@@ -128,6 +137,8 @@ pub fn begin<K: Portable, V: Portable, M: ArchivedMap<Key = K, Mapped = V>>(
     ensures stands { LeafStands K.kind V.kind M.E buf.now result }
     ensures rest { let s = layout_of K.kind V.kind M.E in
         leaf_rest s buf.now result path.new.items ≡ list (map_tree s buf.now pos) }
+    ensures below { LeafBelow (layout_of K.kind V.kind M.E) buf.now (root_place buf.now pos) result
+        path.new.items }
 {
     M::opened(buf, pos);
     if map_len::<K, V, M>(buf, pos) > 0 {

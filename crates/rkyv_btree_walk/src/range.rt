@@ -1,13 +1,15 @@
 //! Walks between two bounds: where they begin, and the entry before which they stop.
-ghost use Rattle.std.specs.Prelude.{◌≡◌, ◌+◌, ◌≤◌, [], length, IfSome, IsTrue, None, false};
+ghost use Rattle.std.specs.Prelude.{◌≡◌, ℕ, ◌+◌, ◌≤◌, [], length, IfSome, IsTrue, None, Some, false};
 ghost use Rattle.std.specs.Range.Bound.{bound_map};
 ghost use Rattle.std.specs.declared.cmp.Ordering.{Ordering as Answer};
 ghost use Rattle.std.specs.declared.ops.Bound.TheVariants.{Unbounded};
 ghost use Rattle.rkyv_btree_base.specs.Layout.{layout_of, are_fitting};
-ghost use Rattle.rkyv_btree_base.specs.Read.{read_map};
+ghost use Rattle.rkyv_btree_base.specs.Read.{map_tree, read_map};
+ghost use Rattle.rkyv_btree_base.specs.Tree.{list};
 ghost use Rattle.rkyv_btree_base.specs.Views.{stands};
 ghost use Rattle.rkyv_btree_walk.specs.Bounds.{IsRun, IsWithin, ByBounds};
 ghost use Rattle.rkyv_btree_walk.specs.Search.{ComparesBy, shown};
+ghost use Rattle.rkyv_btree_walk.specs.mirror.Below.{root_place, PartBelow, PathStaysBelow, StepStaysBelow};
 ghost use Rattle.rkyv_btree_walk.specs.mirror.Node.{TreeStands, RunStands};
 ghost use Rattle.rkyv_btree_walk.specs.mirror.Path.{path_rest, IsPath, LeafStands, StepStands};
 ghost use Rattle.rkyv_btree_walk.specs.mirror.Range.{reached_at, from_at, past_at, IsKept, IsEnd, IsFound, IsMiddle, first_of, first_passes, is_stop as stops_at, take_before, range_rest, tree_list, part_rest, part_range, read_range, PartStands, StepsBefore};
@@ -46,6 +48,8 @@ fn first_left<K: Portable, V: Portable, M: ArchivedMap<Key = K, Mapped = V>>(
         path_rest s _buf.now 32 path.new.items ≡ path_rest s _buf.now 32 path.old.items }
     ensures stands { IfSome result (λ e. RunStands K.kind V.kind M.E _buf.now e.0 e.1 (e.1 + 1)) }
     ensures first { result ≡ first_of (part_rest K.kind V.kind M.E _buf.now part path.old.items) }
+    ensures below { PathStaysBelow (layout_of K.kind V.kind M.E) _buf.now path.old.items
+        path.new.items }
 {
     if part.next < part.end {
         return Some((part.node, part.next));
@@ -86,6 +90,8 @@ fn seek_low<
         → IsKept (from_at K.kind V.kind M.E buf.now (bound_map (λ q. c q.now) low.entry))
         (tree_list K.kind V.kind M.E buf.now root)
         (part_rest K.kind V.kind M.E buf.now result path.new.items) }
+    ensures below { PartBelow (layout_of K.kind V.kind M.E) buf.now (Some root) result
+        path.new.items }
 {
     match low {
         Bound::Unbounded => {
@@ -204,6 +210,8 @@ fn starts_past<
         → result ≡ first_passes
         (past_at K.kind V.kind M.E buf.now (bound_map (λ q. c q.now) high.entry))
         (part_rest K.kind V.kind M.E buf.now part path.old.items) }
+    ensures below { PathStaysBelow (layout_of K.kind V.kind M.E) buf.now path.old.items
+        path.new.items }
 {
     match first_left::<K, V, M>(buf, part, path) {
         None => false,
@@ -234,6 +242,8 @@ fn cut<K: Portable, V: Portable, M: ArchivedMap<Key = K, Mapped = V>>(
     ensures rest { let s = layout_of K.kind V.kind M.E in
         range_rest s _buf.now stop part.node part.next result path.new.items
         ≡ take_before stop (part_rest K.kind V.kind M.E _buf.now part path.old.items) }
+    ensures below { PathStaysBelow (layout_of K.kind V.kind M.E) _buf.now path.old.items
+        path.new.items }
 {
     match stop {
         None => part.end,
@@ -262,6 +272,8 @@ pub fn advance_before<K: Portable, V: Portable, M: ArchivedMap<Key = K, Mapped =
     ensures leaf { IfSome result (λ e. LeafStands K.kind V.kind M.E buf.now e.leaf) }
     ensures rest { StepsBefore (layout_of K.kind V.kind M.E) buf.now stop result path.old.items
         path.new.items }
+    ensures below { StepStaysBelow (layout_of K.kind V.kind M.E) buf.now path.old.items
+        path.new.items result }
 {
     match climb::<K, V, M>(buf, path) {
         None => None,
@@ -319,6 +331,8 @@ fn between_in<
         IsMiddle (from_at K.kind V.kind M.E buf.now lo) (past_at K.kind V.kind M.E buf.now hi)
         (tree_list K.kind V.kind M.E buf.now root)
         (part_range K.kind V.kind M.E buf.now result.1 result.0 path.new.items)) }
+    ensures below { PartBelow (layout_of K.kind V.kind M.E) buf.now (Some root) result.0
+        path.new.items }
 {
     let part = seek_low::<Q, K, V, M, W, C>(buf, root, low, cmp, path);
     if starts_past::<Q, K, V, M, W, C>(buf, part, high, cmp, path) {
@@ -357,12 +371,16 @@ pub fn between<
     ensures stands { PartStands K.kind V.kind M.E buf.now result.0 }
     ensures run { IsRun (read_range K.kind V.kind M.E buf.now result.1 result.0 path.new.items)
         (read_map K.kind V.kind M.E buf.now pos) }
+    ensures places { IsRun (part_range K.kind V.kind M.E buf.now result.1 result.0 path.new.items)
+        (list (map_tree (layout_of K.kind V.kind M.E) buf.now pos)) }
     ensures whole { low.entry ≡ Unbounded → high.entry ≡ Unbounded
         → read_range K.kind V.kind M.E buf.now result.1 result.0 path.new.items
         ≡ read_map K.kind V.kind M.E buf.now pos }
     ensures within { ByBounds (C.post cmp.now) (shown K.kind W.Shows) low.entry high.entry (λ lo hi.
         IsWithin lo hi (read_map K.kind V.kind M.E buf.now pos)
         (read_range K.kind V.kind M.E buf.now result.1 result.0 path.new.items)) }
+    ensures below { PartBelow (layout_of K.kind V.kind M.E) buf.now (root_place buf.now pos)
+        result.0 path.new.items }
 {
     M::opened(buf, pos);
     if map_len::<K, V, M>(buf, pos) > 0 {

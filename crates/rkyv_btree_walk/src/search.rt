@@ -2,11 +2,12 @@
 ghost use Rattle.std.specs.Prelude.{◌≡◌, ◌+◌, ◌*◌, ◌≤◌, length, IfSome, IsTrue};
 ghost use Rattle.std.specs.declared.cmp.Ordering.{Ordering as Answer};
 ghost use Rattle.rkyv_btree_base.specs.Layout.{layout_of, are_fitting};
-ghost use Rattle.rkyv_btree_base.specs.Read.{read_map};
+ghost use Rattle.rkyv_btree_base.specs.Read.{read_map, tree_at, map_tree};
+ghost use Rattle.rkyv_btree_base.specs.Tree.{list};
 ghost use Rattle.rkyv_btree_base.specs.Views.{stands};
 ghost use Rattle.rkyv_btree_walk.specs.Search.{compared_of, shown};
 ghost use Rattle.rkyv_btree_walk.specs.mirror.Node.{TreeStands, RunStands};
-ghost use Rattle.rkyv_btree_walk.specs.mirror.Search.{StopsAt, StopsWithin, asked_by, answers_at, searched, searched_map, TellsBy};
+ghost use Rattle.rkyv_btree_walk.specs.mirror.Search.{StopsAt, StopsWithin, IsListed, asked_by, answers_at, searched, searched_map, TellsBy};
 
 use crate::map::{ArchivedMap, map_len};
 use crate::node::{child, is_leaf, key_pos, leaf_count, root};
@@ -129,6 +130,8 @@ fn search_tree<
         → TellsBy (C.post cmp.now) (shown K.kind W.Shows) c
         → result ≡ searched (layout_of K.kind V.kind M.E) buf.now
         (answers_at K.kind V.kind M.E buf.now (c key.now)) 32 from }
+    ensures listed { let s = layout_of K.kind V.kind M.E in
+        IfSome result.0 (λ e. IsListed e (list (tree_at s buf.now 32 from))) }
     ensures few { result.1 ≤ M.E * 32 }
 {
     let mut node = from;
@@ -175,6 +178,8 @@ pub fn search<
         → TellsBy (C.post cmp.now) (shown K.kind W.Shows) c
         → result ≡ searched_map (layout_of K.kind V.kind M.E) buf.now
         (answers_at K.kind V.kind M.E buf.now (c key.now)) pos }
+    ensures listed { let s = layout_of K.kind V.kind M.E in
+        IfSome result.0 (λ e. IsListed e (list (map_tree s buf.now pos))) }
     ensures none { length (read_map K.kind V.kind M.E buf.now pos) ≡ 0 → result.1 ≡ 0 }
     ensures few { result.1 ≤ M.E * 32 }
 {

@@ -1,9 +1,10 @@
 //! Ways down to the first entry of a tree that reaches a query, beside which a range begins or stops.
-ghost use Rattle.std.specs.Prelude.{◌≡◌, ◌≤◌, [], length, IsTrue};
+ghost use Rattle.std.specs.Prelude.{◌≡◌, ℕ, ◌≤◌, [], length, IsTrue, Some};
 ghost use Rattle.std.specs.declared.cmp.Ordering.{Ordering as Answer};
-ghost use Rattle.rkyv_btree_base.specs.Layout.{are_fitting};
+ghost use Rattle.rkyv_btree_base.specs.Layout.{layout_of, are_fitting};
 ghost use Rattle.rkyv_btree_base.specs.Views.{stands};
 ghost use Rattle.rkyv_btree_walk.specs.Search.{ComparesBy, shown};
+ghost use Rattle.rkyv_btree_walk.specs.mirror.Below.{PartBelow};
 ghost use Rattle.rkyv_btree_walk.specs.mirror.Node.{TreeStands, RunStands};
 ghost use Rattle.rkyv_btree_walk.specs.mirror.Path.{IsPath};
 ghost use Rattle.rkyv_btree_walk.specs.mirror.Range.{is_reached, reached_at, IsFirst, IsKept, IsEnd, tree_list, part_rest, PartStands};
@@ -102,6 +103,8 @@ pub(crate) fn seek<
         → IsKept (reached_at K.kind V.kind M.E buf.now past (c key.now))
         (tree_list K.kind V.kind M.E buf.now root)
         (part_rest K.kind V.kind M.E buf.now result path.new.items) }
+    ensures below { PartBelow (layout_of K.kind V.kind M.E) buf.now (Some root) result
+        path.new.items }
 {
     let mut node = root;
     'down: loop {

@@ -1,6 +1,5 @@
 pub mod WriteRuns
 pub mod HeldNumbers
-pub mod Holding
 pub mod Archiving
 pub mod TextArchived
 pub mod FieldRuns

@@ -10,7 +10,7 @@ use Rattle.rkyv_btree_writer.specs.Pointers.{pointer}
 use Rattle.rkyv_btree_portable.specs.Text.{text_len}
 use Rattle.rkyv_btree_writer.specs.TextArchival.{text_writes, text_own, FitsText, text_archival}
 use Rattle.rkyv_btree_writer.specs.Writing.{Write, appended}
-use Rattle.rkyv_btree_writer.proofs.Holding.{Holds-front, Holds-back}
+use Rattle.rkyv_btree_portable.specs.laws.Holding.{Holds-front, Holds-back}
 use Rattle.rkyv_btree_writer.proofs.HeldNumbers.{held_number, held_pointer}
 
 appended_text : (text : List ℕ) → appended (text_writes text) ≡ text

@@ -8,8 +8,11 @@ use Rattle.rkyv_btree_portable.specs.Bytes.{zeros}
 use Rattle.rkyv_btree_writer.specs.Padding.{zeros_write, padding}
 use Rattle.rkyv_btree_portable.specs.Rounding.{round_up}
 use Rattle.rkyv_btree_writer.specs.Writing.{Writing, Appended, position, Write, appended, AllReach, Wrote, Refused, Stopped, last_end}
-use Rattle.rkyv_btree_writer.proofs.Holding.{appended-append}
 use Rattle.rkyv_btree_portable.proofs.Rounds.{round_up-past, round_up-multiple}
+
+pub appended-append : (xs ys : List Write) → appended (xs ++ ys) ≡ appended xs ++ appended ys
+appended-append [] ys = refl
+appended-append (x ∷ xs) ys = ap (λ z. x.bytes ++ z) (appended-append xs ys) ∙ sym (append_assoc x.bytes (appended xs) (appended ys))
 
 AllReach-both : (xs ys : List Write) → AllReach xs → AllReach ys → AllReach (xs ++ ys)
 AllReach-both [] ys g h = h

@@ -1,5 +1,5 @@
--- Zeros in writes: those up to an alignment, and those behind bytes up to a length.
-use Rattle.std.specs.Prelude.{ℕ, ◌-◌, true, nat_eq, if◌then◌else◌, List, [], ◌∷◌, ◌++◌, length}
+-- Zeros in writes, up to an alignment.
+use Rattle.std.specs.Prelude.{ℕ, ◌-◌, nat_eq, true, if◌then◌else◌, List, [], ◌∷◌}
 use Rattle.rkyv_btree_portable.specs.Bytes.{zeros}
 use Rattle.rkyv_btree_portable.specs.Rounding.{round_up}
 use Rattle.rkyv_btree_writer.specs.Writing.{Write}
@@ -11,7 +11,3 @@ zeros_write count = record { bytes = zeros count; reaches = true }
 -- zeros from a position up to a multiple of an alignment, in one write, if there have to be any
 abbrev pub padding : ℕ → ℕ → List Write
 padding align at = if nat_eq (round_up at align) at then [] else zeros_write (round_up at align - at) ∷ []
-
--- bytes, and zeros behind them up to a length
-abbrev pub filled : List ℕ → ℕ → List ℕ
-filled bytes len = bytes ++ zeros (len - length bytes)

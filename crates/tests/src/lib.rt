@@ -2,6 +2,8 @@
 #![tactic(auto)]
 
 #[cfg(test)]
+mod cursors;
+#[cfg(test)]
 mod damage;
 #[cfg(test)]
 mod entries;
@@ -15,6 +17,8 @@ mod faults;
 mod first;
 #[cfg(test)]
 mod foreign;
+#[cfg(test)]
+mod in_place;
 #[cfg(test)]
 mod lookups;
 #[cfg(test)]
@@ -35,6 +39,8 @@ mod opening;
 mod pairs;
 #[cfg(test)]
 mod ranges;
+#[cfg(test)]
+mod seals;
 #[cfg(test)]
 mod texts;
 #[cfg(test)]

@@ -16,7 +16,7 @@ use std::process::Abort;
 use std::test::Fail;
 
 /// Whether a number is between two bounds.
-fn is_between(low: Bound<u32>, high: Bound<u32>, key: u32) -> bool {
+pub(crate) fn is_between(low: Bound<u32>, high: Bound<u32>, key: u32) -> bool {
     let is_from = match low {
         Bound::Included(from) => from <= key,
         Bound::Excluded(from) => from < key,

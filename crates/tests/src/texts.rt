@@ -17,7 +17,7 @@ use std::process::Abort;
 use std::test::Fail;
 
 /// A text's bytes, zeros up to the next multiple of four, and the text over them, with its position.
-fn archived_text(
+pub(crate) fn archived_text(
     rt: &impl Abort,
     alloc: Global,
     text: &[u8],

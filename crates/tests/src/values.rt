@@ -1,7 +1,7 @@
 //! Values in their own bytes, and what is said of refused ones.
 
 use rkyv_btree_base::bytes::{num32, target};
-use rkyv_btree_base::check::{CheckBytes, InPlace, Window};
+use rkyv_btree_base::check::{CheckBytes, Scalar, Window};
 use rkyv_btree_base::numbers::ArchivedU16;
 use rkyv_btree_base::place::{Place, RelPtr};
 use rkyv_btree_base::refusal::{EntriesLengthMismatch, InvalidLength, Refusal};

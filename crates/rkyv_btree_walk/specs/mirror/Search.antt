@@ -1,5 +1,5 @@
 -- Where the search of a node stops. This mirrors the code, which compares from the left.
-use Rattle.std.specs.Prelude.{◌≡◌, ℕ, ◌+◌, ◌<◌, ◌≤◌, min, List, length, Option}
+use Rattle.std.specs.Prelude.{◌≡◌, ℕ, ◌+◌, ◌<◌, ◌≤◌, min, List, length, Option, Some, slice_get}
 use Rattle.std.specs.Borrow.{Bor}
 use Rattle.std.specs.declared.cmp.Ordering.{Ordering}
 use Rattle.std.specs.declared.cmp.Ordering.TheVariants.{Less, Equal, Greater}
@@ -29,6 +29,10 @@ StopsWithin count (Before i) = i ≤ count
 abbrev pub asked_by : ℕ → Stop → ℕ
 asked_by count (At i) = i + 1
 asked_by count (Before i) = min (i + 1) count
+
+-- an entry stands in a list
+abbrev pub IsListed : {X : Type 0} → X → List X → Type 0
+IsListed x xs = (i : ℕ) × (slice_get xs i ≡ Some x)
 
 -- what an entry answers, where its key answers so
 abbrev pub answers_at : (K V : Kind) → ℕ → List ℕ → (K.Value → Ordering) → ℕ × ℕ → Ordering

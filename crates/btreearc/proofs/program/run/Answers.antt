@@ -1,5 +1,5 @@
 -- Words that name no command name none of these.
-use Rattle.btreearc.specs.declared.command.Command.TheVariants.{Build, List, Check, Get, Range}
+use Rattle.btreearc.specs.declared.command.Command.TheVariants.{Build, List, Check, Get, Range, Set}
 use Rattle.btreearc.proofs.program.run.Goals as goal
 
 pub returns-in-None-clause-build : goal.returns-in-None-clause-build
@@ -16,3 +16,6 @@ returns-in-None-clause-get g c key is = absurd (c.in-None.ensures.unnamed (Get k
 
 pub returns-in-None-clause-range : goal.returns-in-None-clause-range
 returns-in-None-clause-range g c low high is = absurd (c.in-None.ensures.unnamed (Range low high) is)
+
+pub returns-in-None-clause-set : goal.returns-in-None-clause-set
+returns-in-None-clause-set g c key value is = absurd (c.in-None.ensures.unnamed (Set key value) is)

@@ -2,6 +2,8 @@
 use Rattle.std.proofs.Common.{◌∙◌, arith}
 use Rattle.std.proofs.lemmas.List.{append-nil}
 use Rattle.rkyv_btree_base.proofs.MapLaws.{map_room, map_short}
+use Rattle.rkyv_btree_walk.specs.mirror.Below.{root_place}
+use Rattle.rkyv_btree_walk.proofs.Below.{root_placed}
 use Rattle.rkyv_btree_walk.proofs.Roots.{root_leads, root_stands, root_list}
 use Rattle.rkyv_btree_walk.proofs.path.begin.Goals as goal
 
@@ -26,3 +28,8 @@ pub returns-then-map_len-gt0-clause-rest : goal.returns-then-map_len-gt0-clause-
 returns-then-map_len-gt0-clause-rest g c =
     let all = root_list _ _ _ g.met.K.Portable.laws g.met.V.Portable.laws _ _ c.opened.ensures (rw c.map_len.ensures at c.if-map_len-gt0.true) c.root.result c.root.ensures in
     rw (c.requires.empty, append-nil) at c.descend.ensures.rest ∙ all
+
+pub returns-then-map_len-gt0-clause-below : goal.returns-then-map_len-gt0-clause-below
+returns-then-map_len-gt0-clause-below g c =
+    let placed = root_placed _ _ _ g.met.K.Portable.laws g.met.V.Portable.laws _ _ c.opened.ensures (rw c.map_len.ensures at c.if-map_len-gt0.true) c.root.result c.root.ensures in
+    c.descend.ensures.below (root_place c.args.buf.now c.args.pos) (rw c.requires.empty tt) (rw c.requires.empty placed)

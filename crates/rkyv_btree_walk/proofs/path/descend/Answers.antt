@@ -2,6 +2,7 @@
 use Rattle.std.proofs.Common.{◌-◌, ◌++◌, ◌∙◌, length, arith, sym, ap}
 use Rattle.rkyv_btree_base.specs.Layout.{layout_of}
 use Rattle.rkyv_btree_walk.specs.mirror.Path.{tree_rest, path_rest, walk_rest}
+use Rattle.rkyv_btree_walk.proofs.Below.{put_below}
 use Rattle.rkyv_btree_walk.proofs.Nodes.{tree_node, child_before}
 use Rattle.rkyv_btree_walk.proofs.Paths.{put_short, put_path, put_leaf, put_absent, put_child, leaf_run}
 use Rattle.rkyv_btree_walk.proofs.path.descend.Goals as goal
@@ -40,6 +41,14 @@ returns-in-None-clause-rest g c =
     let none = sym c.child.ensures ∙ c.in-None.is in
     rw c.push.ensures.items (put_absent _ _ _ _ 32 _ _ c.down.path.items c.down.invariant.path c.down.invariant.tree none ∙ c.down.invariant.rest)
 
+pub returns-in-None-clause-below : goal.returns-in-None-clause-below
+returns-in-None-clause-below g c root path node =
+    let s = layout_of g.K.Portable.kind g.V.Portable.kind g.M.ArchivedMap.E in
+    let inner = sym c.is_leaf.ensures ∙ c.if-is_leaf.false in
+    let way = c.down.invariant.below root path node in
+    let put = put_below s c.args.buf.now root c.down.at 0 c.down.path.items c.push.new.self.items c.push.ensures.items way.0 way.1 inner (omega arith) c.push.ensures.len in
+    (λ less. absurd (omega arith), put.0)
+
 pub down-smaller : goal.down-smaller
 down-smaller g c =
     let node = tree_node _ _ _ _ _ c.down.at c.down.invariant.tree in
@@ -59,4 +68,8 @@ down-preserved g c =
       path = rw c.push.ensures.items (put_path K V E b 32 _ 0 c.down.path.items c.down.invariant.path c.down.invariant.tree inner (omega arith));
       tree = below.0;
       rest = ap (λ xs. tree_rest (layout_of K V E) b levels c.in-Some.below 0 ++ path_rest (layout_of K V E) b 32 xs) c.push.ensures.items ∙ below.1 ∙ c.down.invariant.rest;
+      below = λ root path node.
+          let way = c.down.invariant.below root path node in
+          let put = put_below (layout_of K V E) b root c.down.at 0 c.down.path.items c.push.new.self.items c.push.ensures.items way.0 way.1 inner (omega arith) c.push.ensures.len in
+          (put.0, put.1 c.in-Some.below some);
     }

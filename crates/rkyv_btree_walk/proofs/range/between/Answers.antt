@@ -6,6 +6,7 @@ use Rattle.rkyv_btree_base.specs.Read.{entry_at, map_tree, read_map}
 use Rattle.rkyv_btree_base.specs.Tree.{list}
 use Rattle.rkyv_btree_base.proofs.MapLaws.{map_room, map_short}
 use Rattle.rkyv_btree_walk.specs.mirror.Node.{TreeStands}
+use Rattle.rkyv_btree_walk.proofs.Below.{root_placed}
 use Rattle.rkyv_btree_walk.proofs.Ranges.{from_rises, past_rises, within_means, run_means}
 use Rattle.rkyv_btree_walk.proofs.Roots.{root_leads, root_stands, root_list}
 use Rattle.rkyv_btree_walk.proofs.range.between.Goals as goal
@@ -33,6 +34,11 @@ returns-then-map_len-gt0-clause-run g c =
     let all = root_list K V E g.met.K.Portable.laws g.met.V.Portable.laws b _ c.opened.ensures (rw c.map_len.ensures at c.if-map_len-gt0.true) c.root.result c.root.ensures in
     run_means (entry_at K V E b) _ (list (map_tree (layout_of K V E) b c.args.pos)) (rw all at c.between_in.ensures.run)
 
+pub returns-then-map_len-gt0-clause-places : goal.returns-then-map_len-gt0-clause-places
+returns-then-map_len-gt0-clause-places g c =
+    let all = root_list g.K.Portable.kind g.V.Portable.kind g.M.ArchivedMap.E g.met.K.Portable.laws g.met.V.Portable.laws c.args.buf.now _ c.opened.ensures (rw c.map_len.ensures at c.if-map_len-gt0.true) c.root.result c.root.ensures in
+    rw all at c.between_in.ensures.run
+
 pub returns-then-map_len-gt0-clause-whole : goal.returns-then-map_len-gt0-clause-whole
 returns-then-map_len-gt0-clause-whole g c low high =
     let K = g.K.Portable.kind in let V = g.V.Portable.kind in let E = g.M.ArchivedMap.E in
@@ -52,7 +58,16 @@ returns-then-map_len-gt0-clause-within g c f p low high =
     ap (map means) (rw all at (c.between_in.ensures.within f p) (from_rises means places from low) (past_rises means places to high))
     ∙ within_means means from to places
 
+pub returns-then-map_len-gt0-clause-below : goal.returns-then-map_len-gt0-clause-below
+returns-then-map_len-gt0-clause-below g c =
+    rw (root_placed _ _ _ g.met.K.Portable.laws g.met.V.Portable.laws _ _ c.opened.ensures (rw c.map_len.ensures at c.if-map_len-gt0.true) c.root.result c.root.ensures) c.between_in.ensures.below
+
 pub returns-clause-run : goal.returns-clause-run
 returns-clause-run g c =
     let K = g.K.Portable.kind in let V = g.V.Portable.kind in let E = g.M.ArchivedMap.E in
     ([], read_map K V E c.args.buf.now c.args.pos, rw (c.nothing.ensures.1, c.nothing.ensures.2, c.requires.empty) refl)
+
+pub returns-clause-places : goal.returns-clause-places
+returns-clause-places g c =
+    let s = layout_of g.K.Portable.kind g.V.Portable.kind g.M.ArchivedMap.E in
+    ([], list (map_tree s c.args.buf.now c.args.pos), rw (c.nothing.ensures.1, c.nothing.ensures.2, c.requires.empty) refl)

@@ -3,7 +3,8 @@ use Rattle.std.proofs.Common.{◌≡◌, [], ◌∙◌, arith, rules, sym, ap}
 use Rattle.rkyv_btree_base.specs.Layout.{layout_of}
 use Rattle.rkyv_btree_walk.specs.mirror.Path.{path_rest}
 use Rattle.rkyv_btree_walk.specs.mirror.Range.{first_of}
-use Rattle.rkyv_btree_walk.proofs.Paths.{pop_path, pop_run, pop_short, pop_end, pop_more, walk_end}
+use Rattle.rkyv_btree_walk.proofs.Below.{pop_below}
+use Rattle.rkyv_btree_walk.proofs.Paths.{pop_path, pop_tree, pop_node, pop_inner, pop_end, pop_more, put_short, inner_run, walk_end, pop_run, pop_short}
 use Rattle.rkyv_btree_walk.proofs.range.first_left.Goals as goal
 
 pub push-requires : goal.push-requires
@@ -38,6 +39,8 @@ up-preserved g c =
     record {
       path = pop_path _ _ _ _ 32 _ _ c.pop.new.self.items _ c.in-Some.ensures.items c.up.invariant.path;
       rest = sym (pop_end _ _ _ _ 32 _ _ c.pop.new.self.items _ c.in-Some.ensures.items c.up.invariant.path none) ∙ c.up.invariant.rest;
+      below = λ root path.
+          (pop_below (layout_of g.K.Portable.kind g.V.Portable.kind g.M.ArchivedMap.E) c.args._buf.now root c.in-Some.node c.in-Some.index c.pop.new.self.items _ c.in-Some.ensures.items (c.up.invariant.below root path)).0;
     }
 
 pub returns-clause-first : goal.returns-clause-first

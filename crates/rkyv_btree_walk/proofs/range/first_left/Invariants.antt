@@ -1,6 +1,7 @@
 -- The way up, past nodes with no entry left: as much is left as at the start.
 use Rattle.std.proofs.Common.{◌≡◌, length}
 use Rattle.rkyv_btree_base.specs.Layout.{layout_of}
+use Rattle.rkyv_btree_walk.specs.mirror.Below.{PathStaysBelow}
 use Rattle.rkyv_btree_walk.specs.mirror.Path.{path_rest, IsPath}
 use Rattle.rkyv_btree_walk.proofs.range.first_left.Given as goal
 
@@ -10,6 +11,7 @@ invariant-up g l =
     record {
       path : IsPath K V E l._buf 32 l.path.items;
       rest : path_rest (layout_of K V E) l._buf 32 l.path.items ≡ path_rest (layout_of K V E) l._buf 32 l.fn.path.items;
+      below : PathStaysBelow (layout_of K V E) l._buf l.fn.path.items l.path.items;
     }
 
 abbrev pub decreases-up : goal.decreases-up

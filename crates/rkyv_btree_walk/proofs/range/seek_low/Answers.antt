@@ -1,5 +1,5 @@
 -- An open bound leaves all, and another what reaches its query.
-use Rattle.std.proofs.Common.{◌∙◌, sym}
+use Rattle.std.proofs.Common.{◌∙◌, refl, sym, Some}
 use Rattle.std.proofs.lemmas.List.{append-nil}
 use Rattle.rkyv_btree_walk.proofs.Ranges.{kept_whole}
 use Rattle.rkyv_btree_walk.proofs.range.seek_low.Goals as goal
@@ -12,3 +12,6 @@ returns-in-Included-clause-from g c f p = rw c.in-Included.is (c.seek.ensures.fr
 
 pub returns-in-Excluded-clause-from : goal.returns-in-Excluded-clause-from
 returns-in-Excluded-clause-from g c f p = rw c.in-Excluded.is (c.seek-in-Excluded.ensures.from f p)
+
+pub returns-in-Unbounded-clause-below : goal.returns-in-Unbounded-clause-below
+returns-in-Unbounded-clause-below g c = c.descend-leaf.ensures.below (Some c.args.root) (rw c.requires.empty tt) (rw c.requires.empty refl)

@@ -1,8 +1,10 @@
 -- A map that stands has a root where it has entries.
 use Rattle.std.proofs.Common.{◌≡◌, ◌≤◌, length, ◌∙◌, arith, rules}
 use Rattle.rkyv_btree_base.proofs.MapLaws.{map_room, map_short}
+use Rattle.rkyv_btree_base.specs.Layout.{layout_of}
 use Rattle.rkyv_btree_walk.specs.mirror.Node.{TreeStands}
-use Rattle.rkyv_btree_walk.proofs.Roots.{root_leads, root_stands, root_searched, none_searched}
+use Rattle.rkyv_btree_walk.proofs.Paths.{tree_from}
+use Rattle.rkyv_btree_walk.proofs.Roots.{root_leads, root_stands, root_list, root_searched, none_searched}
 use Rattle.rkyv_btree_walk.proofs.search.search.Goals as goal
 
 pub root-requires-clause-inside : goal.root-requires-clause-inside
@@ -30,3 +32,8 @@ pub returns-clause-found : goal.returns-clause-found
 returns-clause-found g c f p =
     let empty : length _ ≡ 0 = omega (arith, c.map_len.ensures, c.if-map_len-gt0.false) in
     none_searched _ _ _ g.met.K.Portable.laws g.met.V.Portable.laws _ _ c.opened.ensures empty _
+
+pub returns-then-map_len-gt0-clause-listed : goal.returns-then-map_len-gt0-clause-listed
+returns-then-map_len-gt0-clause-listed g c =
+    let whole = tree_from (layout_of g.K.Portable.kind g.V.Portable.kind g.M.ArchivedMap.E) c.args.buf.now 31 c.root.result ∙ root_list _ _ _ g.met.K.Portable.laws g.met.V.Portable.laws _ _ c.opened.ensures (rw c.map_len.ensures at c.if-map_len-gt0.true) c.root.result c.root.ensures in
+    rw whole at c.search_tree.ensures.listed

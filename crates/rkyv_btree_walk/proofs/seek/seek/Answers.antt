@@ -1,9 +1,10 @@
 -- Each node that is met stands, and the way goes on beside its first entry that reaches the query.
-use Rattle.std.proofs.Common.{◌≡◌, ◌+◌, ◌-◌, ◌≤◌, [], ◌∙◌, length, refl, sym, arith, rules}
+use Rattle.std.proofs.Common.{◌≡◌, ◌+◌, ◌-◌, ◌≤◌, [], ◌∙◌, length, refl, sym, arith, rules, true, false, Some}
 use Rattle.std.proofs.lemmas.List.{append-nil}
 use Rattle.rkyv_btree_base.specs.Layout.{layout_of}
 use Rattle.rkyv_btree_base.proofs.Sizes.{room_of}
-use Rattle.rkyv_btree_walk.specs.mirror.Node.{RunStands}
+use Rattle.rkyv_btree_walk.specs.mirror.Node.{RunStands, is_leaf, entry_count}
+use Rattle.rkyv_btree_walk.proofs.Below.{put_below}
 use Rattle.rkyv_btree_walk.proofs.Nodes.{tree_node, child_before}
 use Rattle.rkyv_btree_walk.proofs.Paths.{put_short, put_path, put_child, leaf_run}
 use Rattle.rkyv_btree_walk.proofs.Searches.{node_run, leaf_counted, inner_counted}
@@ -11,7 +12,7 @@ use Rattle.rkyv_btree_walk.proofs.Seeks.{kept_behind, leaves_leaf, leaves_absent
 use Rattle.rkyv_btree_walk.proofs.seek.seek.Goals as goal
 
 pub down-init : goal.down-init
-down-init g c = rw c.requires.empty (record { path = tt; tree = c.requires.tree; skipped = []; run = sym (append-nil _); from = λ f p rises. (refl, tt) })
+down-init g c = rw c.requires.empty (record { path = tt; tree = c.requires.tree; skipped = []; run = sym (append-nil _); from = λ f p rises. (refl, tt); below = (tt, refl) })
 
 pub is_leaf-requires-clause-node : goal.is_leaf-requires-clause-node
 is_leaf-requires-clause-node g c = tree_node _ _ _ _ _ c.down.node c.down.invariant.tree
@@ -95,6 +96,15 @@ returns-in-None-clause-from g c f p rises =
     let pass = leaves.2 _ rises (c.seek_node-next-in-down.ensures.first f p) (inv.from f p rises) in
     kept_behind _ _ leaves.0 _ leaves.1 pass.0 pass.1
 
+pub returns-in-None-clause-below : goal.returns-in-None-clause-below
+returns-in-None-clause-below g c =
+    let s = layout_of g.K.Portable.kind g.V.Portable.kind g.M.ArchivedMap.E in
+    let inner = sym c.is_leaf.ensures ∙ c.if-is_leaf.false in
+    let low : c.seek_node-next-in-down.result ≤ g.M.ArchivedMap.E = rw c.entries_per_node-count.ensures at c.seek_node-next-in-down.ensures.within in
+    let way = c.down.invariant.below in
+    let put = put_below s c.args.buf.now (Some c.args.root) c.down.node _ c.down.path.items c.push.new.self.items c.push.ensures.items way.0 way.1 inner low c.push.ensures.len in
+    (λ less. absurd (omega arith), put.0)
+
 pub down-smaller : goal.down-smaller
 down-smaller g c =
     let node = tree_node _ _ _ _ _ c.down.node c.down.invariant.tree in
@@ -107,14 +117,16 @@ down-preserved g c =
     let b = c.args.buf.now in
     let j = c.seek_node-next-in-down.result in
     let within = c.seek_node-next-in-down.ensures.within in
+    let s = layout_of g.K.Portable.kind g.V.Portable.kind g.M.ArchivedMap.E in
     let inner = sym c.is_leaf.ensures ∙ c.if-is_leaf.false in
-    let counted = inner_counted (layout_of g.K.Portable.kind g.V.Portable.kind g.M.ArchivedMap.E) c.args.buf.now c.down.node inner c.entries_per_node-count.ensures in
+    let counted = inner_counted s c.args.buf.now c.down.node inner c.entries_per_node-count.ensures in
     let inv = c.down.invariant in
     let low : j ≤ E = rw c.entries_per_node-count.ensures at within in
     let levels = 32 - length c.push.new.self.items in
     let less : levels ≡ 32 - (length c.down.path.items + 1) = omega (arith, c.push.ensures.len) in
     let some = sym c.child.ensures ∙ c.in-Some.is in
     let below = put_child K V E b 32 c.down.node j c.down.path.items inv.path inv.tree low c.in-Some.below some levels less in
+    let put = put_below s b (Some c.args.root) c.down.node j c.down.path.items c.push.new.self.items c.push.ensures.items inv.below.0 inv.below.1 inner low c.push.ensures.len in
     let leaves = leaves_child K V E b c.down.node j _ c.down.path.items _ inv.skipped inv.path inv.tree counted within inv.run low c.in-Some.below some levels less _ c.push.ensures.items in
     record {
       path = rw c.push.ensures.items (put_path K V E b 32 c.down.node j c.down.path.items inv.path inv.tree inner low);
@@ -122,4 +134,5 @@ down-preserved g c =
       skipped = leaves.0;
       run = leaves.1;
       from = λ f p rises. leaves.2 _ rises (c.seek_node-next-in-down.ensures.first f p) (inv.from f p rises);
+      below = (put.0, put.1 c.in-Some.below some);
     }

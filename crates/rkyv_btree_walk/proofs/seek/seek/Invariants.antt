@@ -1,9 +1,10 @@
 -- The way down: what was skipped fails, and what is left of the path passes, where the test rises along the list.
-use Rattle.std.proofs.Common.{◌≡◌, ◌-◌, [], ◌++◌, length, List, ℕ, Bool}
+use Rattle.std.proofs.Common.{◌≡◌, ◌-◌, [], ◌++◌, length, List, ℕ, Bool, Some}
 use Rattle.std.specs.Prelude.{filter}
 use Rattle.std.specs.declared.cmp.Ordering.{Ordering}
 use Rattle.rkyv_btree_base.specs.Layout.{layout_of}
 use Rattle.rkyv_btree_walk.specs.Search.{ComparesBy, shown}
+use Rattle.rkyv_btree_walk.specs.mirror.Below.{IsBelow, PathBelow}
 use Rattle.rkyv_btree_walk.specs.mirror.Node.{TreeStands}
 use Rattle.rkyv_btree_walk.specs.mirror.Path.{tree_rest, path_rest, IsPath}
 use Rattle.rkyv_btree_walk.specs.mirror.Range.{reached_at, AllPass, Rises}
@@ -21,6 +22,7 @@ invariant-down g l =
           → let test : ℕ × ℕ → Bool = reached_at K V E l.buf l.past (c l.key) in
           Rises test (tree_rest (layout_of K V E) l.buf 32 l.root 0)
           → (filter test skipped ≡ []) × AllPass test (path_rest (layout_of K V E) l.buf 32 l.path.items);
+      below : PathBelow (layout_of K V E) l.buf (Some l.root) 0 l.path.items × IsBelow (layout_of K V E) l.buf (Some l.root) (length l.path.items) l.node;
     }
 
 abbrev pub decreases-down : goal.decreases-down

@@ -1,0 +1,4 @@
+-- What is known of maps of numbers whose values are edited.
+pub mod Numbers
+pub mod Adding
+pub mod Calling

@@ -1,0 +1,4 @@
+pub mod Kept
+mod TextsWritten
+pub mod Both
+pub mod OneArchival

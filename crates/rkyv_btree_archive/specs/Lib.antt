@@ -1,0 +1,4 @@
+pub mod Kept
+pub mod Determined
+pub mod EntryArchival
+pub mod laws

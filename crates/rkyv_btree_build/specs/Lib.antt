@@ -1,0 +1,4 @@
+pub mod Miscounts
+pub mod Serialising
+pub mod Archives
+pub mod Determined

@@ -1,0 +1,5 @@
+//! Building archived maps.
+#![tactic(auto)]
+
+pub mod build;
+pub mod map;

@@ -1,0 +1,14 @@
+-- The lemmas of writes in place.
+pub mod Puts
+pub mod Same
+pub mod Kept
+pub mod Trees
+pub mod Maps
+pub mod Pairs
+pub mod Apart
+pub mod Lending
+pub mod Standing
+pub mod Entered
+pub mod Found
+pub mod Cursors
+pub mod Visiting

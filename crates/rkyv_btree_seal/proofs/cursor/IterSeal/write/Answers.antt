@@ -1,0 +1,21 @@
+-- What is lent is an entry; and a write leaves all entries, and the walk, where they are.
+use Rattle.rkyv_btree_seal.proofs.Cursors.{lent_is_entry, walk_left_kept, is_walk_kept, among_kept}
+use Rattle.rkyv_btree_seal.proofs.cursor.IterSeal.write.Goals as goal
+
+pub put_at-requires-clause-entry : goal.put_at-requires-clause-entry
+put_at-requires-clause-entry g c = lent_is_entry _ _ _ (rw c.unwrap-place.ensures at c.args.self.now.among)
+
+pub invariant_of-self : goal.invariant_of-self
+invariant_of-self g c =
+    let self = c.args.self.now in
+    let tree = c.put_at.ensures.puts.tree in
+    record {
+      valid = c.put_at.ensures.stands;
+      walks = is_walk_kept g.K.Portable.kind g.V.Portable.kind g.M.ArchivedMap.E g.met.K.Portable.laws g.met.V.Portable.laws self.buf.now c.put_at.new.buf self.pos c.put_at.ensures.stood tree self.walk self.walks;
+      among = among_kept g.K.Portable.kind g.V.Portable.kind g.M.ArchivedMap.E g.met.K.Portable.laws g.met.V.Portable.laws self.buf.now c.put_at.new.buf self.pos c.put_at.ensures.stood tree _ _ _ (walk_left_kept g.K.Portable.kind g.V.Portable.kind g.M.ArchivedMap.E g.met.K.Portable.laws g.met.V.Portable.laws self.buf.now c.put_at.new.buf self.pos c.put_at.ensures.stood tree self.walk self.walks) self.among;
+    }
+
+pub returns-clause-left : goal.returns-clause-left
+returns-clause-left g c =
+    let self = c.args.self.now in
+    walk_left_kept g.K.Portable.kind g.V.Portable.kind g.M.ArchivedMap.E g.met.K.Portable.laws g.met.V.Portable.laws self.buf.now c.put_at.new.buf self.pos c.put_at.ensures.stood c.put_at.ensures.puts.tree self.walk self.walks

@@ -1,0 +1,14 @@
+-- A cursor stays among the entries by a step.
+use mathlib.Core.Logic.{∥∥₁_map}
+use Rattle.rkyv_btree_seal.proofs.Cursors.{among_takes}
+use Rattle.rkyv_btree_seal.proofs.range_cursor.RangeSeal.next.Goals as goal
+
+pub invariant_of-self : goal.invariant_of-self
+invariant_of-self g c =
+    let self = c.args.self.now in
+    let same = c.step_before-self.ensures.same in
+    record {
+      valid = rw same self.valid;
+      walks = rw same c.step_before-self.ensures.walks;
+      among = rw same (∥∥₁_map self.among (among_takes _ _ _ _ _ c.step_before-self.ensures.takes));
+    }

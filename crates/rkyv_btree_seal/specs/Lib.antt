@@ -1,0 +1,10 @@
+-- The definitions over which writes in place are stated.
+pub mod Put
+pub mod Alone
+pub mod Places
+pub mod Lent
+pub mod Along
+pub mod Cursor
+pub mod Calls
+pub mod Visits
+pub mod Apart

@@ -1,0 +1,53 @@
+-- Which entry of a map a search finds, and what a write over its value makes of the map.
+use Rattle.std.specs.Prelude.{◌≡◌, ℕ, List, Option, Some, IfSome, MatchOption, Bool, is_some, slice_get}
+use Rattle.std.specs.Option.{option_map}
+use Rattle.std.specs.declared.cmp.Ordering.{Ordering}
+use Rattle.rkyv_btree_base.specs.Bytes.{bytes_at}
+use Rattle.rkyv_btree_base.specs.InPlace.{value_of}
+use Rattle.rkyv_btree_base.specs.Kind.{Kind}
+use Rattle.rkyv_btree_base.specs.Layout.{layout_of}
+use Rattle.rkyv_btree_base.specs.Read.{entry_at, map_tree, read_map}
+use Rattle.rkyv_btree_base.specs.Spells.{Accepted}
+use Rattle.rkyv_btree_seal.specs.Put.{put_bytes, put_value, key_place, value_place, entry_places}
+use Rattle.rkyv_btree_seal.specs.declared.place.EntryPlace.{EntryPlace}
+use Rattle.rkyv_btree_walk.specs.Search.{Answers, probe}
+
+-- the node of an entry, and its number there
+abbrev pub place_of : EntryPlace → ℕ × ℕ
+place_of p = (p.node, p.index)
+
+module _ (K V : Kind) (E : ℕ) (b : List ℕ) (at : ℕ) where
+  -- it is entry i of the map
+  abbrev pub IsNumber : ℕ → ℕ × ℕ → Type 0
+  IsNumber i e = slice_get (entry_places K V E b at) i ≡ Some e
+
+  -- it is one of its entries
+  abbrev pub IsEntry : ℕ × ℕ → Type 0
+  IsEntry e = (i : ℕ) × IsNumber i e
+
+  -- what stands at an entry's places is its key and its value
+  abbrev pub ShowsEntry : ℕ × ℕ → Type 0
+  ShowsEntry e = (i : ℕ) → IsNumber i e → slice_get (read_map K V E b at) i ≡ Some (K.read b (key_place K V E e), value_of V (bytes_at b (value_place K V E e) V.size))
+
+  -- a search has found the entry that it asks and finds equal: an entry of the map that is equal, and under an ordered
+  -- comparison one if there is one
+  pub record FindsPlace (answer : K.Value → Ordering) (found : Option (ℕ × ℕ)) : Type 0 where
+    pub probed : found ≡ probe (λ e. answer (entry_at K V E b e).0) (map_tree (layout_of K V E) b at)
+    pub entry : IfSome found IsEntry
+    pub answers : Answers (λ e. answer e.0) (entry_at K V E b) (map_tree (layout_of K V E) b at) (option_map (entry_at K V E b) found)
+
+  -- c is the buffer with these own bytes as the value of an entry: no other byte is another, and the map is accepted as
+  -- it was, of the list with what they mean there put in, its entries where they were
+  pub record PutsEntry (e : ℕ × ℕ) (own : List ℕ) (c : List ℕ) : Type 0 where
+    pub entry : IsEntry e
+    pub bytes : c ≡ put_bytes b (value_place K V E e) own
+    pub list : (i : ℕ) → IsNumber i e → read_map K V E c at ≡ put_value (read_map K V E b at) i (value_of V own)
+    pub accepted : (i lo hi left : ℕ) (m : List (K.Value × V.Value)) → IsNumber i e → Accepted K V E b lo hi at left m → Accepted K V E c lo hi at left (put_value m i (value_of V own))
+    pub tree : map_tree (layout_of K V E) c at ≡ map_tree (layout_of K V E) b at
+
+  -- a search for an entry, and such a write over its value, if it is there
+  pub record SetsFound (answer : K.Value → Ordering) (own : List ℕ) (c : List ℕ) (result : Bool) : Type 0 where
+    pub found : Option (ℕ × ℕ)
+    pub finds : FindsPlace answer found
+    pub told : result ≡ is_some found
+    pub puts : MatchOption found (c ≡ b) (λ e. PutsEntry e own c)

@@ -1,0 +1,281 @@
+//! Maps in a buffer whose values are written in place.
+ghost use Rattle.std.specs.Prelude.{◌≡◌, ◌+◌, ◌≤◌, ◌↔◌, [], IsTrue, IsOk, IfOk, IfErr, Err, IfSome, length, List, ℕ};
+ghost use Rattle.std.specs.Option.{option_map};
+ghost use Rattle.rkyv_btree_base.specs.InPlace.{IsOwn};
+ghost use Rattle.rkyv_btree_base.specs.Layout.{are_fitting};
+ghost use Rattle.rkyv_btree_base.specs.Read.{read_map};
+ghost use Rattle.rkyv_btree_base.specs.Refusal.{Refusal};
+ghost use Rattle.rkyv_btree_base.specs.Refusals.{RefusesMap};
+ghost use Rattle.rkyv_btree_base.specs.Views.{stands};
+ghost use Rattle.rkyv_btree_seal.specs.Alone.{StandsAlone};
+ghost use Rattle.rkyv_btree_seal.specs.Calls.{MayCallEach, CallsEntry, CallsFound};
+ghost use Rattle.rkyv_btree_seal.specs.Places.{place_of, IsEntry, FindsPlace, PutsEntry, SetsFound};
+ghost use Rattle.rkyv_btree_seal.specs.Put.{put_bytes};
+ghost use Rattle.rkyv_btree_view.specs.Lookup.{ByComparison, ByNative};
+ghost use Rattle.rkyv_btree_view.specs.Map.{IsMap};
+ghost use Rattle.rkyv_btree_view.specs.View.{reads};
+ghost use Rattle.rkyv_btree_walk.specs.Search.{shown};
+
+use crate::call::call_entry;
+use crate::lent::LentKey;
+use crate::place::{EntryPlace, positions, put_at};
+use crate::seal::Seal;
+use rkyv_btree_base::check::{CheckBytes, InPlace, Portable};
+use rkyv_btree_base::map::ArchivedBTreeMap;
+use rkyv_btree_base::refusal::Refusal;
+use rkyv_btree_view::compare::ViewOrd;
+use rkyv_btree_view::map::access;
+use rkyv_btree_view::query::CompareWith;
+use rkyv_btree_view::view::View;
+use rkyv_btree_walk::map::ArchivedMap;
+use rkyv_btree_walk::search::{Compared, search};
+use rkyv_btree_walk::shows::Shows;
+use std::cmp::Ordering;
+use std::marker::PhantomData;
+
+/// The map of type `M` at position `pos` of `buf`, where the bytes mean one, to be read and to have its values written.
+#[derive(Drop)]
+pub struct MapSeal<'a, M: Portable> {
+    pub buf: &'a mut [u8],
+    pub pos: u32,
+    pub of: PhantomData<M>,
+    // The type's own decision, as of a view.
+    pub ghost valid: { IsTrue (stands M.kind buf.now pos) },
+}
+
+/// The map at position `pos` of `buf`, whoever wrote it, if the bytes mean some list of entries in the window of all that
+/// stands before it. What the buffer has become by writes is told where the map was made by `MapSeal::at`.
+pub fn access_mut<'a, K: CheckBytes, V: CheckBytes, const E: usize>(
+    buf: &'a mut [u8],
+    pos: u32,
+) -> Result<MapSeal<'a, ArchivedBTreeMap<K, V, E>>, Refusal>
+    requires { IsTrue (are_fitting K.kind V.kind E) }
+    ensures same_reference { IfOk result (λ map. map.buf.ghost_name ≡ buf.entry.ghost_name) }
+    ensures buffer { IfOk result (λ map. map.buf.now ≡ buf.entry.now) }
+    ensures position { IfOk result (λ map. map.pos ≡ pos) }
+    ensures accepted { let entries = read_map K.kind V.kind E buf.entry.now pos in
+        IfOk result (λ _. IsMap K.kind V.kind E buf.entry.now pos entries) }
+    ensures all_accepted { (m : _) → IsMap K.kind V.kind E buf.entry.now pos m → IsOk result }
+    ensures refused { IfErr result (λ refusal.
+        RefusesMap K.kind V.kind E buf.entry.now 0 pos pos refusal) }
+    ensures all_refused { (refusal : Refusal) →
+        RefusesMap K.kind V.kind E buf.entry.now 0 pos pos refusal → result ≡ Err refusal }
+{
+    match access::<K, V, E>(buf, pos) {
+        Ok(_) => Ok(MapSeal {
+            buf,
+            pos,
+            of: PhantomData,
+        }),
+        Err(refusal) => Err(refusal),
+    }
+}
+
+impl<'a, M: Portable> MapSeal<'a, M> {
+    /// The map at position `pos` of `buf`, where one stands: `access` is the test for that. Nothing is looked at.
+    pub fn at(buf: &'a mut [u8], pos: u32) -> MapSeal<'a, M>
+        requires { IsTrue (stands M.kind buf.old pos) }
+        ensures same_reference { result.buf.ghost_name ≡ buf.entry.ghost_name }
+        ensures buffer { result.buf.now ≡ buf.entry.now }
+        ensures position { result.pos ≡ pos }
+    {
+        MapSeal {
+            buf,
+            pos,
+            of: PhantomData,
+        }
+    }
+
+    /// The view of the map, with all that can be asked of one.
+    pub fn as_view(&self) -> View<'_, M>
+        ensures buffer { result.buf.now ≡ self.now.buf.now }
+        ensures position { result.pos ≡ self.now.pos }
+    {
+        View {
+            buf: self.buf,
+            pos: self.pos,
+            of: PhantomData,
+        }
+    }
+}
+
+/// The entry at which a search has ended.
+fn found_place(found: Option<(u32, u32)>) -> Option<EntryPlace>
+    ensures { option_map place_of result ≡ found }
+{
+    match found {
+        None => None,
+        Some((node, index)) => Some(EntryPlace { node, index }),
+    }
+}
+
+impl<'a, K: Portable, V: InPlace, M: ArchivedMap<Key = K, Mapped = V>> MapSeal<'a, M> {
+    /// The seal of the value of an entry of the map at position `pos` of `buf`. The caller owes that a map is there, and
+    /// that `place` is one of its entries, which each look-up for a place tells. Nothing is looked at.
+    pub fn seal_at(buf: &'a mut [u8], pos: u32, place: EntryPlace) -> Seal<'a, V>
+        requires stands { IsTrue (stands M.kind buf.old pos) }
+        requires entry { IsEntry K.kind V.kind M.E buf.old pos (place_of place) }
+        ensures same_reference { result.buf.ghost_name ≡ buf.entry.ghost_name }
+        ensures buffer { result.buf.now ≡ buf.entry.now }
+        ensures stands { StandsAlone V.kind result.buf.now result.pos }
+        ensures puts { (own : List ℕ) → IsOwn V.kind own
+            → PutsEntry K.kind V.kind M.E buf.entry.now pos (place_of place) own
+            (put_bytes buf.entry.now result.pos own) }
+    {
+        M::opened(buf, pos);
+        let (_, at) = positions::<K, V, M>(buf, pos, place);
+        Seal::at(buf, at)
+    }
+
+    /// The place of the entry whose key is equal to the query, by a comparison that is a function of both: the query comes
+    /// first, and `Greater` means that it is past the key.
+    pub fn find_with<'s, Q, W: Shows<'s, K>, C: Fn(&Q, W) -> Ordering>(
+        &'s self,
+        key: &Q,
+        cmp: C,
+    ) -> Option<EntryPlace>
+        requires { C.IsAlwaysCallable cmp }
+        ensures entry { IfSome result (λ place.
+            IsEntry K.kind V.kind M.E self.now.buf.now self.now.pos (place_of place)) }
+        ensures finds { ByComparison (C.post cmp) (shown K.kind W.Shows) key.now (λ answer.
+            FindsPlace K.kind V.kind M.E self.now.buf.now self.now.pos answer
+            (option_map place_of result)) }
+    {
+        let compare = |query: &Q, key: W| Compared::of(cmp(query, key));
+        let (found, _) = search::<Q, K, V, M, W, _>(self.buf, self.pos, key, &compare);
+        found_place(found)
+    }
+
+    /// Replaces the value of an entry, and no other byte. The caller owes that `place` is one of the map's entries, which
+    /// each look-up for a place tells. Writes leave all entries where they are.
+    pub fn set_at(&mut self, place: EntryPlace, value: V::Native)
+        requires { IsEntry K.kind V.kind M.E self.old.buf.now self.old.pos (place_of place) }
+        ensures same_reference { self.new.buf.ghost_name ≡ self.old.buf.ghost_name }
+        ensures position { self.new.pos ≡ self.old.pos }
+        ensures puts { PutsEntry K.kind V.kind M.E self.old.buf.now self.old.pos (place_of place)
+            (V.in_place.own value) self.new.buf.now }
+    {
+        let pos = self.pos;
+        put_at::<K, V, M>(&mut *self.buf, pos, place, value);
+    }
+
+    /// Calls `f` with the key of an entry and a seal of its value, and answers what it answers. The caller owes that
+    /// `place` is one of the map's entries.
+    pub fn with_seal_at<R, F: FnOnce(LentKey<'_, K>, &mut Seal<'_, V>) -> R>(
+        &mut self,
+        place: EntryPlace,
+        f: F,
+    ) -> R
+        requires entry { IsEntry K.kind V.kind M.E self.old.buf.now self.old.pos (place_of place) }
+        requires may { MayCallEach K.kind V.kind M.E self.old.buf.now self.old.pos
+            (λ k s. F.pre f k s) (λ k s r t. F.post f k s r t) }
+        ensures same_reference { self.new.buf.ghost_name ≡ self.old.buf.ghost_name }
+        ensures position { self.new.pos ≡ self.old.pos }
+        ensures calls { CallsEntry K.kind V.kind M.E self.old.buf.now self.old.pos
+            self.new.buf.now (λ k s r t. F.post f k s r t) (place_of place) result }
+    {
+        let pos = self.pos;
+        call_entry::<K, V, M, R, F>(&mut *self.buf, pos, place, f)
+    }
+
+    /// The place of the entry whose key is equal to a native value.
+    pub fn find_by<T: Drop>(&self, key: T) -> Option<EntryPlace>
+    where
+        K: CompareWith<T>,
+        ensures { ByNative K.kind K.compared_at key (λ answer.
+            FindsPlace K.kind V.kind M.E self.now.buf.now self.now.pos answer
+            (option_map place_of result)) }
+    {
+        let compare = |query: &T, key: View<K>| K::compared(query, &key);
+        let (found, _) = search::<_, K, V, M, _, _>(self.buf, self.pos, &key, &compare);
+        found_place(found)
+    }
+
+    /// Replaces the value of the entry whose key is equal to a native value, and no other byte, and tells whether there is
+    /// such an entry. If there is none, nothing is written.
+    pub fn set_by<T: Drop>(&mut self, key: T, value: V::Native) -> bool
+    where
+        K: CompareWith<T>,
+        ensures same_reference { self.new.buf.ghost_name ≡ self.old.buf.ghost_name }
+        ensures position { self.new.pos ≡ self.old.pos }
+        ensures sets { ByNative K.kind K.compared_at key (λ answer.
+            SetsFound K.kind V.kind M.E self.old.buf.now self.old.pos answer
+            (V.in_place.own value) self.new.buf.now result) }
+    {
+        match self.find_by(key) {
+            None => false,
+            Some(place) => {
+                self.set_at(place, value);
+                true
+            }
+        }
+    }
+
+    /// Calls `f` with the key of the entry whose key is equal to a native value and a seal of its value, and answers what
+    /// it answers. If there is none, nothing is called or written.
+    pub fn with_seal_by<T: Drop, R, F: FnOnce(LentKey<'_, K>, &mut Seal<'_, V>) -> R>(
+        &mut self,
+        key: T,
+        f: F,
+    ) -> Option<R>
+    where
+        K: CompareWith<T>,
+        requires { MayCallEach K.kind V.kind M.E self.old.buf.now self.old.pos
+            (λ k s. F.pre f k s) (λ k s r t. F.post f k s r t) }
+        ensures same_reference { self.new.buf.ghost_name ≡ self.old.buf.ghost_name }
+        ensures position { self.new.pos ≡ self.old.pos }
+        ensures calls { ByNative K.kind K.compared_at key (λ answer.
+            CallsFound K.kind V.kind M.E self.old.buf.now self.old.pos answer
+            self.new.buf.now (λ k s r t. F.post f k s r t) result) }
+    {
+        let place = self.find_by(key)?;
+        Some(self.with_seal_at(place, f))
+    }
+}
+
+impl<'a, K: ViewOrd, V: InPlace, M: ArchivedMap<Key = K, Mapped = V>> MapSeal<'a, M> {
+    /// The place of the entry whose key is equal to `key`.
+    pub fn find(&self, key: View<'_, K>) -> Option<EntryPlace>
+        ensures { FindsPlace K.kind V.kind M.E self.now.buf.now self.now.pos
+            (K.kind.order (reads key.entry)) (option_map place_of result) }
+    {
+        let compare = |query: &View<'_, K>, key: View<K>| Compared::of(K::compare(query, &key));
+        let (found, _) = search::<_, K, V, M, _, _>(self.buf, self.pos, &key, &compare);
+        found_place(found)
+    }
+
+    /// Replaces the value of the entry whose key is equal to `key`, and no other byte, and tells whether there is such an
+    /// entry. If there is none, nothing is written.
+    pub fn set(&mut self, key: View<'_, K>, value: V::Native) -> bool
+        ensures same_reference { self.new.buf.ghost_name ≡ self.old.buf.ghost_name }
+        ensures position { self.new.pos ≡ self.old.pos }
+        ensures sets { SetsFound K.kind V.kind M.E self.old.buf.now self.old.pos
+            (K.kind.order (reads key.entry)) (V.in_place.own value) self.new.buf.now result }
+    {
+        match self.find(key) {
+            None => false,
+            Some(place) => {
+                self.set_at(place, value);
+                true
+            }
+        }
+    }
+
+    /// Calls `f` with the key of the entry whose key is equal to `key` and a seal of its value, and answers what it
+    /// answers. If there is none, nothing is called or written.
+    pub fn with_seal<R, F: FnOnce(LentKey<'_, K>, &mut Seal<'_, V>) -> R>(
+        &mut self,
+        key: View<'_, K>,
+        f: F,
+    ) -> Option<R>
+        requires { MayCallEach K.kind V.kind M.E self.old.buf.now self.old.pos
+            (λ k s. F.pre f k s) (λ k s r t. F.post f k s r t) }
+        ensures same_reference { self.new.buf.ghost_name ≡ self.old.buf.ghost_name }
+        ensures position { self.new.pos ≡ self.old.pos }
+        ensures calls { CallsFound K.kind V.kind M.E self.old.buf.now self.old.pos
+            (K.kind.order (reads key.entry)) self.new.buf.now (λ k s r t. F.post f k s r t) result }
+    {
+        let place = self.find(key)?;
+        Some(self.with_seal_at(place, f))
+    }
+}

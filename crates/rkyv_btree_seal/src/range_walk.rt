@@ -1,0 +1,97 @@
+//! A walk over the entries of a map between two bounds, by their places.
+ghost use Rattle.std.specs.Prelude.{◌≡◌, IsTrue, map};
+ghost use Rattle.std.specs.declared.ops.Bound.TheVariants.{Unbounded};
+ghost use Rattle.rkyv_btree_base.specs.Layout.{layout_of};
+ghost use Rattle.rkyv_btree_base.specs.Read.{entry_at, read_map};
+ghost use Rattle.rkyv_btree_base.specs.Views.{stands};
+ghost use Rattle.rkyv_btree_seal.specs.Along.{range_left, IsRangeWalk, Takes};
+ghost use Rattle.rkyv_btree_seal.specs.Put.{entry_places};
+ghost use Rattle.rkyv_btree_walk.specs.Bounds.{IsRun, IsWithin, ByBounds};
+ghost use Rattle.rkyv_btree_walk.specs.Search.{shown};
+
+use crate::place::EntryPlace;
+use arrayvec::ArrayVec;
+use rkyv_btree_base::check::Portable;
+use rkyv_btree_walk::map::ArchivedMap;
+use rkyv_btree_walk::path::Path;
+use rkyv_btree_walk::range::{advance_before, between};
+use rkyv_btree_walk::seek::Part;
+use rkyv_btree_walk::shows::Shows;
+use std::cmp::Ordering;
+use std::ops::Bound;
+
+/// Where a walk between bounds stands: in a part of a leaf, beside the path above it.
+#[derive(Drop)]
+pub struct RangeWalk {
+    /// The inner nodes from the root on.
+    pub path: Path,
+    /// What is left of the leaf.
+    pub part: Part,
+    /// The entry before which the walk stops.
+    pub stop: Option<(u32, u32)>,
+}
+
+/// The walk of the map at `pos` between the bounds, before its first entry.
+pub(crate) fn start_between<
+    'a,
+    Q,
+    K: Portable,
+    V: Portable,
+    M: ArchivedMap<Key = K, Mapped = V>,
+    W: Shows<'a, K>,
+    C: Fn(&Q, W) -> Ordering,
+>(buf: &'a [u8], pos: u32, low: Bound<&Q>, high: Bound<&Q>, cmp: &C) -> RangeWalk
+    requires callable { C.IsAlwaysCallable cmp.now }
+    requires stands { IsTrue (stands M.kind buf.now pos) }
+    ensures walks { IsRangeWalk (layout_of K.kind V.kind M.E) buf.now pos result }
+    ensures run { IsRun (range_left (layout_of K.kind V.kind M.E) buf.now result)
+        (entry_places K.kind V.kind M.E buf.now pos) }
+    ensures whole { low.entry ≡ Unbounded → high.entry ≡ Unbounded
+        → map (entry_at K.kind V.kind M.E buf.now)
+        (range_left (layout_of K.kind V.kind M.E) buf.now result)
+        ≡ read_map K.kind V.kind M.E buf.now pos }
+    ensures within { ByBounds (C.post cmp.now) (shown K.kind W.Shows) low.entry high.entry (λ lo hi.
+        IsWithin lo hi (read_map K.kind V.kind M.E buf.now pos)
+        (map (entry_at K.kind V.kind M.E buf.now)
+        (range_left (layout_of K.kind V.kind M.E) buf.now result))) }
+{
+    let mut path = ArrayVec::new();
+    let (part, stop) = between::<Q, K, V, M, W, C>(buf, pos, low, high, cmp, &mut path);
+    RangeWalk { path, part, stop }
+}
+
+/// Takes the next entry of the map at `pos` before the stop, if there is one. It writes nothing: the buffer is the caller's
+/// own, who may write the entry's value.
+#[inline(always)]
+pub(crate) fn step_before<K: Portable, V: Portable, M: ArchivedMap<Key = K, Mapped = V>>(
+    buf: &mut [u8],
+    pos: u32,
+    walk: &mut RangeWalk,
+) -> Option<EntryPlace>
+    requires stands { IsTrue (stands M.kind buf.old pos) }
+    requires walks { IsRangeWalk (layout_of K.kind V.kind M.E) buf.old pos walk.old }
+    ensures same { buf.new ≡ buf.old }
+    ensures walks { IsRangeWalk (layout_of K.kind V.kind M.E) buf.old pos walk.new }
+    ensures takes { let s = layout_of K.kind V.kind M.E in
+        Takes (range_left s buf.old walk.old) (range_left s buf.old walk.new) result }
+{
+    let next = walk.part.next;
+    if next < walk.part.end {
+        walk.part.next = next + 1;
+        return Some(EntryPlace {
+            node: walk.part.node,
+            index: next,
+        });
+    }
+    M::opened(buf, pos);
+    let step = advance_before::<K, V, M>(buf, walk.stop, &mut walk.path)?;
+    walk.part = Part {
+        node: step.leaf.node,
+        next: 0,
+        end: step.leaf.count,
+    };
+    Some(EntryPlace {
+        node: step.node,
+        index: step.index,
+    })
+}

@@ -1,0 +1,14 @@
+pub mod Leaves
+pub mod Nodes
+pub mod PointerRuns
+pub mod RowsWritten
+pub mod NodesHeld
+pub mod Resolving
+pub mod InOrder
+pub mod EntriesWritten
+pub mod NodesWritten
+pub mod TreesWritten
+pub mod Imaged
+pub mod Alike
+pub mod TreesKept
+pub mod Untold

@@ -1,0 +1,5 @@
+pub mod Image
+pub mod Entries
+pub mod Written
+pub mod Begun
+pub mod mirror

@@ -1,0 +1,329 @@
+//! Values written in place by visits, by seals and by their keys.
+ghost use Rattle.std.specs.Prelude.{IsTrue};
+ghost use Rattle.rkyv_btree_base.specs.Scalars.{u32_kind, i32_kind};
+ghost use Rattle.rkyv_btree_base.specs.Views.{stands};
+ghost use Rattle.rkyv_btree.specs.Alone.{StandsAlone};
+
+use crate::numbers::{archive, tens};
+use crate::texts::{archive_texts, archived_text, with_texts};
+use rkyv_btree::map::{MapSeal, access, access_mut};
+use rkyv_btree::seal::{LentKey, Seal};
+use rkyv_btree::view::{Shows, View};
+use rkyv_btree_base::check::Portable;
+use rkyv_btree_base::layout;
+use rkyv_btree_base::map::ArchivedBTreeMap;
+use rkyv_btree_base::numbers::ArchivedU32;
+use rkyv_btree_base::place::VecWriter;
+use rkyv_btree_base::signed::ArchivedI32;
+use rkyv_btree_base::text::ArchivedText;
+use std::alloc::Global;
+use std::cmp::Ordering;
+use std::ops::{Bound, ControlFlow};
+use std::process::Abort;
+use std::test::Fail;
+
+type Texts = ArchivedBTreeMap<ArchivedText, ArchivedI32, 5>;
+
+const FOUR: [(&str, i32); 4] = [("bar", 20), ("bat", 80), ("baz", 40), ("foo", 10)];
+
+/// The map of numbers at a position, to be written.
+pub(crate) fn opened<'a, const E: usize>(
+    rt: &impl Abort,
+    bytes: &'a mut [u8],
+    pos: u32,
+) -> MapSeal<'a, ArchivedBTreeMap<ArchivedU32, ArchivedU32, E>> {
+    assert!(rt; layout::fits::<ArchivedU32, ArchivedU32, E>());
+    access_mut::<ArchivedU32, ArchivedU32, E>(bytes, pos).expect(rt, "a map")
+}
+
+/// The map of texts at byte 80, to be written.
+fn opened_texts<'a>(rt: &impl Abort, bytes: &'a mut [u8]) -> MapSeal<'a, Texts> {
+    assert!(rt; layout::fits::<ArchivedText, ArchivedI32, 5>());
+    access_mut::<ArchivedText, ArchivedI32, 5>(bytes, 80).expect(rt, "a map")
+}
+
+/// The archive of numbers, and where the map stands.
+pub(crate) fn archived<const E: usize>(
+    rt: &impl Abort,
+    alloc: Global,
+    entries: &[(u32, u32)],
+) -> Result<(Vec<u8>, u32), Fail> {
+    let mut writer = VecWriter::new(alloc);
+    let pos = archive::<E>(rt, alloc, entries.len(), entries, &mut writer)?;
+    Ok((writer.into_vec(), pos))
+}
+
+/// In the empty map no call is made and nothing is lent, however often it is asked.
+fn lends_nothing<const E: usize>(rt: &impl Abort, root: [u8; 8]) {
+    let mut bytes = root;
+    let mut map = opened::<E>(rt, &mut bytes, 0);
+    let called = map.visit_seal(|_: LentKey<ArchivedU32>, _: &mut Seal<ArchivedU32>| {
+        ControlFlow::Break(())
+    });
+    assert_eq!(rt; called, None);
+    assert!(rt; !map.set_by(0, 1));
+    let mut entries = opened::<E>(rt, &mut bytes, 0).iter_seal();
+    for _ in 0..3 {
+        assert!(rt; !entries.next());
+        assert_eq!(rt; entries.size_hint(), (0, Some(0)));
+    }
+    let mut values = opened::<E>(rt, &mut bytes, 0).values_seal();
+    for _ in 0..3 {
+        assert!(rt; !values.next());
+        assert_eq!(rt; values.size_hint(), (0, Some(0)));
+    }
+    let from = Bound::Included(0u32);
+    let mut range = opened::<E>(rt, &mut bytes, 0).range_seal_by(from, Bound::Unbounded);
+    for _ in 0..3 {
+        assert!(rt; !range.next());
+        assert_eq!(rt; range.size_hint(), (0, None));
+    }
+    assert_eq!(rt; bytes, root);
+}
+
+#[test]
+fn an_empty_map_lends_nothing(rt: HostRuntime) {
+    for root in [[1, 0, 0, 0, 0, 0, 0, 0], [255, 255, 255, 255, 0, 0, 0, 0]] {
+        lends_nothing::<1>(&rt, root);
+        lends_nothing::<2>(&rt, root);
+        lends_nothing::<5>(&rt, root);
+    }
+}
+
+/// How a text compares with the one that a view reads.
+fn compare(query: &&str, key: View<ArchivedText>) -> Ordering {
+    (*query).cmp(key.as_str())
+}
+
+/// The archive of the four texts. The map stands at byte 80, and its values from byte 56 on.
+fn four_texts(rt: &impl Abort, alloc: Global) -> Result<Vec<u8>, Fail> {
+    let mut writer = VecWriter::new(alloc);
+    let entries = with_texts(alloc, &FOUR)?;
+    let root = archive_texts::<i32, ArchivedI32, 5>(rt, alloc, &entries, &mut writer)?;
+    assert_eq!(rt; root, 80);
+    assert_eq!(rt; writer.bytes().len(), 88);
+    Ok(writer.into_vec())
+}
+
+/// Asserts that a map of texts has these entries, in these own bytes of its values, with all other bytes as they were.
+fn has_texts(rt: &impl Abort, bytes: &[u8], before: &[u8], want: &[(&str, i32)], own: [u8; 16]) {
+    assert!(rt; layout::fits::<ArchivedText, ArchivedI32, 5>());
+    let map = access::<ArchivedText, ArchivedI32, 5>(bytes, 80).expect(rt, "a map");
+    let mut met = map.iter();
+    for entry in want {
+        let next = met.next().map(|(k, v)| (k.as_str(), v.to_native()));
+        assert_eq!(rt; next, Some(*entry));
+    }
+    assert!(rt; met.next().is_none());
+    has_own_bytes(rt, bytes, before, own);
+}
+
+/// Asserts that these are the own bytes of the four values, and that all other bytes are as they were.
+fn has_own_bytes(rt: &impl Abort, bytes: &[u8], before: &[u8], own: [u8; 16]) {
+    assert_eq!(rt; bytes.len(), before.len());
+    assert_eq!(rt; bytes.get(..56), before.get(..56));
+    assert_eq!(rt; bytes.get(56..72), Some(own.as_slice()));
+    assert_eq!(rt; bytes.get(72..), before.get(72..));
+}
+
+#[test]
+fn values_of_texts_are_edited(rt: HostRuntime) -> Result<(), Fail> {
+    let before = four_texts(&rt, rt.alloc())?;
+    let mut bytes = before.as_slice().to_vec(rt.alloc())?;
+    let own = [20, 0, 0, 0, 80, 0, 0, 0, 40, 0, 0, 0, 10, 0, 0, 0];
+    has_texts(&rt, &bytes, &before, &FOUR, own);
+    let mut map = opened_texts(&rt, &mut bytes);
+    let broken = map.visit_seal(
+        |_: LentKey<ArchivedText>, value: &mut Seal<ArchivedI32>|
+            requires { StandsAlone i32_kind value.old.buf.now value.old.pos }
+        {
+            value.write(value.read().wrapping_add(10));
+            ControlFlow::<(), ()>::Continue(())
+        },
+    );
+    assert_eq!(rt; broken, None);
+    let want = [("bar", 30), ("bat", 90), ("baz", 50), ("foo", 20)];
+    let own = [30, 0, 0, 0, 90, 0, 0, 0, 50, 0, 0, 0, 20, 0, 0, 0];
+    has_texts(&rt, &bytes, &before, &want, own);
+    for (text, value) in [("foo", 123), ("bat", 456)] {
+        let map = opened_texts(&rt, &mut bytes);
+        let place = map.find_with(&text, compare).expect(&rt, "an entry");
+        assert_eq!(rt; map.find_by(text), Some(place));
+        let MapSeal { buf, pos, of: _ } = map;
+        let mut seal = MapSeal::<Texts>::seal_at(buf, pos, place);
+        seal.write(value);
+        assert_eq!(rt; seal.read(), value);
+    }
+    let want = [("bar", 30), ("bat", 456), ("baz", 50), ("foo", 123)];
+    let own = [30, 0, 0, 0, 0xC8, 1, 0, 0, 50, 0, 0, 0, 123, 0, 0, 0];
+    has_texts(&rt, &bytes, &before, &want, own);
+    Ok(())
+}
+
+#[test]
+fn the_value_of_a_text_is_set(rt: HostRuntime) -> Result<(), Fail> {
+    let before = four_texts(&rt, rt.alloc())?;
+    let rows = [
+        ("", None),
+        ("ba", None),
+        ("bar", Some(56)),
+        ("bas", None),
+        ("bat", Some(60)),
+        ("bats", None),
+        ("baz", Some(64)),
+        ("foo", Some(68)),
+        ("fop", None),
+    ];
+    for (text, at) in rows {
+        let mut want = before.as_slice().to_vec(rt.alloc())?;
+        assert_eq!(rt; want.len(), 88);
+        if let Some(at) = at {
+            want[at] = 0xFE;
+            want[at + 1] = 0xFF;
+            want[at + 2] = 0xFF;
+            want[at + 3] = 0xFF;
+        }
+        let mut bytes = before.as_slice().to_vec(rt.alloc())?;
+        let mut map = opened_texts(&rt, &mut bytes);
+        assert_eq!(rt; map.set_by(text, -2), at.is_some(), "{text}");
+        assert_eq!(rt; bytes.as_slice(), want.as_slice(), "{text}");
+        let (key, pos) = archived_text(&rt, rt.alloc(), text.as_bytes())?;
+        assert!(rt; ArchivedText::fits());
+        let view = View::<ArchivedText>::check(&key, pos).expect(&rt, "a text");
+        let mut bytes = before.as_slice().to_vec(rt.alloc())?;
+        let mut map = opened_texts(&rt, &mut bytes);
+        assert_eq!(rt; map.set(view, -2), at.is_some(), "{text}");
+        assert_eq!(rt; bytes.as_slice(), want.as_slice(), "{text}");
+    }
+    Ok(())
+}
+
+/// The entries with this value in place of that of a key.
+fn with_value(
+    entries: &[(u32, u32)],
+    alloc: Global,
+    key: u32,
+    value: u32,
+) -> Result<Vec<(u32, u32)>, Fail> {
+    let mut changed = entries.to_vec(alloc)?;
+    for entry in changed.as_mut_slice() {
+        if entry.0 == key {
+            entry.1 = value;
+        }
+    }
+    Ok(changed)
+}
+
+/// In a map of so many numbers each value is set by its key, in each of the ways there are, and no other is.
+fn keys_set_their_values<const E: usize>(
+    rt: &impl Abort,
+    alloc: Global,
+    count: u32,
+) -> Result<(), Fail> {
+    let entries = tens(alloc, count)?;
+    let (before, pos) = archived::<E>(rt, alloc, &entries)?;
+    for key in 0..=count.wrapping_add(1) {
+        let is_there = (1..=count).contains(&key);
+        let changed = with_value(&entries, alloc, key, 7)?;
+        let (want, _) = archived::<E>(rt, alloc, &changed)?;
+        let query = u32::to_le_bytes(key);
+        let view = View::<ArchivedU32>::at(&query, 0);
+        let mut bytes = before.as_slice().to_vec(alloc)?;
+        assert_eq!(rt; opened::<E>(rt, &mut bytes, pos).set(view, 7), is_there);
+        assert_eq!(rt; bytes.as_slice(), want.as_slice(), "{key} of {count}");
+        let mut bytes = before.as_slice().to_vec(alloc)?;
+        assert_eq!(rt; opened::<E>(rt, &mut bytes, pos).set_by(key, 7), is_there);
+        assert_eq!(rt; bytes.as_slice(), want.as_slice(), "{key} of {count}");
+        let mut bytes = before.as_slice().to_vec(alloc)?;
+        let write = |lent: LentKey<ArchivedU32>, value: &mut Seal<ArchivedU32>|
+            requires key { IsTrue (stands u32_kind lent.buf.now lent.pos) }
+            requires value { StandsAlone u32_kind value.old.buf.now value.old.pos }
+        {
+            let old = value.read();
+            value.write(7);
+            (lent.view().to_native(), old)
+        };
+        let met = opened::<E>(rt, &mut bytes, pos).with_seal_by(key, write);
+        assert_eq!(rt; met, is_there.then_some((key, key.wrapping_mul(10))));
+        assert_eq!(rt; bytes.as_slice(), want.as_slice(), "{key} of {count}");
+    }
+    Ok(())
+}
+
+#[test]
+fn values_of_numbers_are_set(rt: HostRuntime) -> Result<(), Fail> {
+    for count in [1, 2, 3, 7, 9, 36] {
+        keys_set_their_values::<1>(&rt, rt.alloc(), count)?;
+        keys_set_their_values::<2>(&rt, rt.alloc(), count)?;
+        keys_set_their_values::<5>(&rt, rt.alloc(), count)?;
+    }
+    Ok(())
+}
+
+/// A visit that breaks at the third key has written the two values before it, and answers what the break gives.
+fn a_visit_breaks<const E: usize>(rt: &impl Abort, alloc: Global) -> Result<(), Fail> {
+    let entries = tens(alloc, 9)?;
+    let (mut bytes, pos) = archived::<E>(rt, alloc, &entries)?;
+    let changed = with_value(&entries, alloc, 1, 11)?;
+    let changed = with_value(&changed, alloc, 2, 21)?;
+    let (want, _) = archived::<E>(rt, alloc, &changed)?;
+    let mut map = opened::<E>(rt, &mut bytes, pos);
+    let broken = map.visit_seal(
+        |lent: LentKey<ArchivedU32>, value: &mut Seal<ArchivedU32>|
+            requires key { IsTrue (stands u32_kind lent.buf.now lent.pos) }
+            requires value { StandsAlone u32_kind value.old.buf.now value.old.pos }
+        {
+            let old = value.read();
+            if lent.view().to_native() == 3 {
+                return ControlFlow::Break(old);
+            }
+            value.write(old.wrapping_add(1));
+            ControlFlow::Continue(())
+        },
+    );
+    assert_eq!(rt; broken, Some(30));
+    assert_eq!(rt; bytes.as_slice(), want.as_slice());
+    Ok(())
+}
+
+#[test]
+fn a_visit_that_breaks_writes_no_more(rt: HostRuntime) -> Result<(), Fail> {
+    a_visit_breaks::<1>(&rt, rt.alloc())?;
+    a_visit_breaks::<2>(&rt, rt.alloc())?;
+    a_visit_breaks::<5>(&rt, rt.alloc())
+}
+
+/// Asserts that `access_mut` refuses the bytes as `access` does, or takes them as it does, and leaves them alone.
+fn is_taken_alike(rt: &impl Abort, alloc: Global, bytes: &mut [u8], pos: u32) -> Result<(), Fail> {
+    assert!(rt; layout::fits::<ArchivedU32, ArchivedU32, 2>());
+    let before = bytes.to_vec(alloc)?;
+    let viewed = access::<ArchivedU32, ArchivedU32, 2>(bytes, pos).err();
+    let written = access_mut::<ArchivedU32, ArchivedU32, 2>(bytes, pos).err();
+    assert_eq!(rt; written, viewed);
+    assert_eq!(rt; &*bytes, before.as_slice());
+    Ok(())
+}
+
+#[test]
+fn what_is_refused_to_be_read_is_refused_to_be_written(rt: HostRuntime) -> Result<(), Fail> {
+    for count in [0, 1, 9] {
+        let entries = tens(rt.alloc(), count)?;
+        let (mut archive, pos) = archived::<2>(&rt, rt.alloc(), &entries)?;
+        let bytes = archive.as_mut_slice();
+        for other in 0..=pos.wrapping_add(9) {
+            is_taken_alike(&rt, rt.alloc(), bytes, other)?;
+        }
+        for end in 0..bytes.len() {
+            is_taken_alike(&rt, rt.alloc(), &mut bytes[..end], pos)?;
+        }
+        for at in 0..bytes.len() {
+            let own = bytes[at];
+            for other in 0..=255 {
+                bytes[at] = other;
+                is_taken_alike(&rt, rt.alloc(), bytes, pos)?;
+            }
+            bytes[at] = own;
+        }
+    }
+    Ok(())
+}
