@@ -1,11 +1,13 @@
 //! Times maps in memory, of so many entries as its one argument says: a map of texts to numbers, in nanoseconds an entry
-//! for building, checking and walking it, and look-ups in a map of numbers. Without an argument it does nothing.
+//! for building, checking and walking it, look-ups in a map of numbers, and std's maps to bytes and back. Without an argument it does nothing.
 #![tactic(auto)]
 
 mod numbers;
 mod report;
+mod std_maps;
 mod writes;
 
+use crate::report::Report;
 use anyhow::{Context, ensure};
 use rkyv_btree::map::access;
 use rkyv_btree::view::View;
@@ -77,7 +79,9 @@ fn main(rt: HostRuntime) -> anyhow::Result<()> {
         Some(count) => {
             let count = count.parse().context("no number of entries")?;
             measure(&rt, count)?;
-            numbers::measure(&rt, count)
+            numbers::measure(&rt, count)?;
+            let report = Report { rt: &rt, count };
+            std_maps::measure(&report, rt.alloc())
         }
         None => Ok(()),
     }

@@ -28,7 +28,7 @@ use Rattle.rkyv_btree_base.specs.Fault.{Fault}
 use Rattle.rkyv_btree_base.specs.Fault.TheVariants.{Length, LengthOverflow, PositionOverflow, OffsetOverflow, Writer, Memory, Entry}
 use Rattle.rkyv_btree_base.proofs.Accepting.{accepted_archive, archive_length}
 use Rattle.rkyv_btree_base.proofs.WriteRuns.{appended-append, stopped_past, stopped_stray}
-use Rattle.btreearc.specs.Archive.{own, five, tree_writes, root_writes, archive_of, IsUnbuilt}
+use Rattle.btreearc.specs.Archive.{own, five, tree_writes, root_writes, archive_of, HasArchive, IsUnbuilt}
 use Rattle.btreearc.specs.Grammar.{IsLines}
 use Rattle.btreearc.specs.Opening.{IsArchive, root_of}
 
@@ -89,6 +89,18 @@ archive_written entries root s t built wrote =
     let tree : s.contents ≡ appended (tree_writes entries) = built.wrote.done.contents in
     wrote.done.contents ∙ (ap (λ z. z ++ appended (root_image (position s) root (length entries))) tree
     ∙ (ap (λ ws. appended (tree_writes entries) ++ appended ws) (roots_are entries root s built) ∙ sym (appended-append (tree_writes entries) (root_writes entries))))
+
+reach_both : (xs ys : List Write) → AllReach xs → AllReach ys → AllReach (xs ++ ys)
+reach_both [] ys h k = k
+reach_both (x ∷ xs) ys h k = (h.0, reach_both xs ys h.1 k)
+
+-- so the entries have one
+pub has_archive : (entries : List (ℕ × ℕ)) (root : ℕ) (s t : Writing) → TreeIs entries root s → length entries ≤ last_end → Wrote s (root_image (position s) root (length entries)) t → position t ≤ last_end → HasArchive entries
+has_archive entries root s t built few wrote end = record {
+  count = few;
+  end = omega (arith, ap length (archive_written entries root s t built wrote), wrote.done.base, built.wrote.done.base);
+  reach = reach_both (tree_writes entries) (root_writes entries) built.wrote.reach (subst AllReach (roots_are entries root s built) wrote.reach);
+}
 
 alone_shape : {A : Type 0} (xs : List A) → ChildHasShape 5 (planned_alone 5 xs)
 alone_shape [] = tt
@@ -201,12 +213,13 @@ archive_accepted entries items root from s t start zero are few spelled wrote en
     subst (λ (p : ℕ). (left : ℕ) × Accepted u32_kind u32_kind 5 t.contents 0 p p left entries) at accepted
 
 -- what was written of an input that is known
-pub output_built : (input old new : Option (List ℕ)) (text archive : List ℕ) (entries : List (ℕ × ℕ)) → IfSome input (λ bytes. text ≡ bytes) → IsLines text entries → IsArchive archive entries → archive ≡ archive_of entries → Appends old new archive →
-    IfSome input (λ bytes. (xs : List (ℕ × ℕ)) × IsLines bytes xs × IsArchive (archive_of xs) xs × Appends old new (archive_of xs))
-output_built None old new text archive entries is few accepted made written = tt
-output_built (Some bytes) old new text archive entries is few accepted made written = (
+pub output_built : (input old new : Option (List ℕ)) (text archive : List ℕ) (entries : List (ℕ × ℕ)) → IfSome input (λ bytes. text ≡ bytes) → IsLines text entries → HasArchive entries → IsArchive archive entries → archive ≡ archive_of entries → Appends old new archive →
+    IfSome input (λ bytes. (xs : List (ℕ × ℕ)) × IsLines bytes xs × HasArchive xs × IsArchive (archive_of xs) xs × Appends old new (archive_of xs))
+output_built None old new text archive entries is few fits accepted made written = tt
+output_built (Some bytes) old new text archive entries is few fits accepted made written = (
   entries,
   subst (λ (z : List ℕ). IsLines z entries) is few,
+  fits,
   subst (λ (z : List ℕ). IsArchive z entries) made accepted,
   subst (λ (z : List ℕ). Appends old new z) made written,
 )

@@ -20,10 +20,10 @@ use Rattle.btreearc.specs.Opening.{IsArchive, root_of}
 use Rattle.btreearc.specs.Setting.{IsSet, SetsValue, value_start}
 
 -- numbers that compare as equal are equal
-equal_is : (n m : ℕ) → nat_cmp n m ≡ Equal → m ≡ n
+pub equal_is : (n m : ℕ) → nat_cmp n m ≡ Equal → m ≡ n
 equal_is n m h = grind (arith, nat_tests)
 
-is_equal : (n m : ℕ) → m ≡ n → nat_cmp n m ≡ Equal
+pub is_equal : (n m : ℕ) → m ≡ n → nat_cmp n m ≡ Equal
 is_equal n m h = grind (arith, nat_tests)
 
 -- a list stays as long where four of its bytes are replaced by four others
@@ -36,7 +36,7 @@ same_length b own at four room =
     omega arith
 
 -- some entry compares as equal exactly where the key is one of the keys
-hit_is_key : (key : ℕ) (entries : List (ℕ × ℕ)) → AnyHit (λ e. nat_cmp key e.0) entries ↔ Contains (map (λ e. e.0) entries) key
+pub hit_is_key : (key : ℕ) (entries : List (ℕ × ℕ)) → AnyHit (λ e. nat_cmp key e.0) entries ↔ Contains (map (λ e. e.0) entries) key
 hit_is_key key entries = (
   λ hit. (
     hit.0,

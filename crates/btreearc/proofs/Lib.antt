@@ -1,3 +1,4 @@
+pub mod Again
 pub mod Between
 pub mod Built
 pub mod Digits
@@ -5,7 +6,9 @@ pub mod Edited
 pub mod Found
 pub mod Listed
 pub mod Once
+pub mod Replaced
 pub mod SetOut
 pub mod Spelling
 pub mod Splitting
+pub mod Told
 pub mod Written

@@ -151,7 +151,7 @@ entries-snoc [] (y ∷ ys) line x h is = absurd h
 entries-snoc (l ∷ ls) [] line x h is = absurd h
 entries-snoc (l ∷ ls) (y ∷ ys) line x h is = (h.0, entries-snoc ls ys line x h.1 is)
 
-entries-length : (ls : List (List ℕ)) (xs : List (ℕ × ℕ)) → AreEntries ls xs → length ls ≡ length xs
+pub entries-length : (ls : List (List ℕ)) (xs : List (ℕ × ℕ)) → AreEntries ls xs → length ls ≡ length xs
 entries-length [] [] h = refl
 entries-length [] (y ∷ ys) h = absurd h
 entries-length (l ∷ ls) [] h = absurd h

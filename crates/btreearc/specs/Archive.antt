@@ -1,5 +1,5 @@
 -- The archive of entries: their tree from position 0 on, and behind it the map.
-use Rattle.std.specs.Prelude.{ℕ, ◌<◌, List, ◌++◌, length, map, unwrap_or}
+use Rattle.std.specs.Prelude.{ℕ, ◌<◌, ◌≤◌, List, ◌++◌, length, map, unwrap_or}
 use Rattle.std.specs.Int.{w32, to_le_bytes}
 use Rattle.rkyv_btree_base.specs.Image.{child_image, child_root, root_image}
 use Rattle.rkyv_btree_base.specs.InPlace.{OwnBytes}
@@ -27,6 +27,12 @@ root_writes entries = root_image (length (appended (tree_writes entries))) (unwr
 
 abbrev pub archive_of : List (ℕ × ℕ) → List ℕ
 archive_of entries = appended (tree_writes entries ++ root_writes entries)
+
+-- entries have an archive: they are not too many, it ends at the last position at most, and each pointer in it reaches
+pub record HasArchive (entries : List (ℕ × ℕ)) : Type 0 where
+  pub count : length entries ≤ last_end
+  pub end : length (archive_of entries) ≤ last_end
+  pub reach : AllReach (tree_writes entries ++ root_writes entries)
 
 -- why entries have no archive: they are too many, or it ends past the last position, or a pointer in it would not reach; or a growth is refused
 abbrev pub IsUnbuilt : {X : Type 0} → List (ℕ × ℕ) → Fault X → Type 0

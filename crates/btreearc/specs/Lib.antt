@@ -4,5 +4,6 @@ pub mod Faults
 pub mod Grammar
 pub mod Opening
 pub mod Reading
+pub mod Sessions
 pub mod Setting
 pub mod Words

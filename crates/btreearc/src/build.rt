@@ -1,7 +1,7 @@
 //! Archives of entries.
-ghost use Rattle.std.specs.Prelude.{◌≡◌, IfOk, IfErr};
+ghost use Rattle.std.specs.Prelude.{◌≡◌, IfOk, OnOk, IfErr};
 ghost use Rattle.std.specs.Iterator.{YieldsFirstBy, item_count};
-ghost use Rattle.btreearc.specs.Archive.{archive_of};
+ghost use Rattle.btreearc.specs.Archive.{archive_of, HasArchive};
 ghost use Rattle.btreearc.specs.Faults.{IsBuildFault};
 ghost use Rattle.btreearc.specs.Opening.{IsArchive};
 
@@ -39,6 +39,7 @@ impl<'x> Iterator for Entries<'x> {
 #[tactic(auto, using(crate::proofs::Built::numbers_fit))]
 pub fn archive(alloc: Global, entries: &[(u32, u32)]) -> Result<Vec<u8>, ProgramFault>
     ensures ok { IfOk result (λ bytes. bytes.items ≡ archive_of entries.now) }
+    ensures fits { OnOk result (HasArchive entries.now) }
     ensures accepted { IfOk result (λ bytes. IsArchive bytes.items entries.now) }
     ensures err { IfErr result (IsBuildFault entries.now) }
 {

@@ -4,6 +4,7 @@
 mod build;
 mod command;
 mod fault;
+mod laws;
 mod lines;
 mod listing;
 mod opening;

@@ -1,6 +1,7 @@
 //! The commands over readers and writers in memory. The archives' bytes are those of the format's definition.
 
 use crate::fault::ProgramFault;
+use crate::laws::round_trip;
 use crate::program::run;
 use rkyv_btree_base::fault::{EntryFault, Fault, IteratorLengthMismatch};
 use std::alloc::{AllocError, Global};
@@ -410,6 +411,27 @@ fn archives_of_every_height_are_listed_and_counted(rt: HostRuntime) -> Result<()
         writes(&rt, alloc, &["list"], &archive, text.as_str().as_bytes())?;
         writes(&rt, alloc, &["check"], &archive, line.as_bytes())?;
     }
+    Ok(())
+}
+
+// What is listed is built again as the same bytes, also where a value was set in place.
+#[test]
+fn a_session_loses_nothing(rt: HostRuntime) -> Result<(), Fail> {
+    let alloc = rt.alloc();
+    let spelled = "0001 10\n2 0020\n3 30";
+    let text = b"1 10\n2 20\n3 30\n";
+    let archive = built(&rt, alloc, spelled)?;
+    writes(&rt, alloc, &["list"], &archive, text)?;
+    writes(&rt, alloc, &["build"], text, &archive)?;
+    writes(&rt, alloc, &["check"], &archive, b"ok 3 entries\n")?;
+    gets(&rt, alloc, &archive, "2", b"20\n", 0)?;
+    writes(&rt, alloc, &["range", "2", "9"], &archive, b"2 20\n3 30\n")?;
+    let edited = set_in(&rt, alloc, &archive, "2", "99")?;
+    let edited_text = b"1 10\n2 99\n3 30\n";
+    writes(&rt, alloc, &["list"], &edited, edited_text)?;
+    writes(&rt, alloc, &["build"], edited_text, &edited)?;
+    let listed = round_trip(alloc, spelled.as_bytes())?;
+    assert_eq!(rt; listed.as_slice(), text.as_slice());
     Ok(())
 }
 

@@ -2,3 +2,6 @@
 pub mod Numbers
 pub mod Adding
 pub mod Calling
+pub mod RoundTrip
+pub mod LookedUp
+pub mod Owned

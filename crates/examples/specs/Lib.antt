@@ -1,2 +1,4 @@
 pub mod Editing
+pub mod RoundTrip
 pub mod Version
+pub mod Whole

@@ -13,6 +13,7 @@ use rkyv_btree::base::check::{CheckBytes, Portable, Window, check_place};
 use rkyv_btree::base::fault::{EntryFault, Fault, ResolveFault};
 use rkyv_btree::base::place::{Place, Writer};
 use rkyv_btree::base::refusal::Refusal;
+use rkyv_btree::deserialize::DeserializeNative;
 use rkyv_btree::native::ToNative;
 use rkyv_btree::query::CompareWith;
 use rkyv_btree::view::View;
@@ -143,6 +144,8 @@ impl ToNative for ArchivedVersion {
 
     ghost reads = { as_itself version_kind };
 }
+
+impl DeserializeNative for ArchivedVersion {}
 
 // A version is looked up by another one, as `ToNative` has it, and by its three numbers.
 impl CompareWith<(u8, u8, u8)> for ArchivedVersion {

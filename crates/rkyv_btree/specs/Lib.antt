@@ -1,4 +1,11 @@
 -- What contracts and specs of callers may name of the crates below.
+pub use Rattle.rkyv_btree_convert.specs.Deserializing
+pub use Rattle.rkyv_btree_convert.specs.Maps
+pub use Rattle.rkyv_btree_convert.specs.RoundTrip
+pub use Rattle.rkyv_btree_convert.specs.Sets
+pub use Rattle.rkyv_btree_convert.specs.Whole
+pub use Rattle.rkyv_btree_convert.specs.declared.deserialize.DeserializeFault
+pub use Rattle.rkyv_btree_convert.specs.declared.whole.ArchiveFault
 pub use Rattle.rkyv_btree_seal.specs.Alone
 pub use Rattle.rkyv_btree_seal.specs.Along
 pub use Rattle.rkyv_btree_seal.specs.Apart
@@ -10,7 +17,6 @@ pub use Rattle.rkyv_btree_seal.specs.Put
 pub use Rattle.rkyv_btree_seal.specs.Visits
 pub use Rattle.rkyv_btree_seal.specs.declared.lent.LentKey
 pub use Rattle.rkyv_btree_seal.specs.declared.seal.Seal
-pub use Rattle.rkyv_btree_view.specs.Deserializing
 pub use Rattle.rkyv_btree_view.specs.Items
 pub use Rattle.rkyv_btree_view.specs.Iter
 pub use Rattle.rkyv_btree_view.specs.Keys
@@ -19,8 +25,9 @@ pub use Rattle.rkyv_btree_view.specs.Map
 pub use Rattle.rkyv_btree_view.specs.Native
 pub use Rattle.rkyv_btree_view.specs.Query
 pub use Rattle.rkyv_btree_view.specs.Range
+pub use Rattle.rkyv_btree_view.specs.Set
+pub use Rattle.rkyv_btree_view.specs.SameAs
 pub use Rattle.rkyv_btree_view.specs.View
-pub use Rattle.rkyv_btree_view.specs.declared.deserialize.DeserializeFault
 pub use Rattle.rkyv_btree_walk.specs.Bounds
 pub use Rattle.rkyv_btree_walk.specs.Search
 pub use Rattle.rkyv_btree_walk.specs.Visit

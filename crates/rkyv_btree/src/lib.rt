@@ -23,7 +23,15 @@ pub mod debug {
 
 /// Native values from views.
 pub mod deserialize {
-    pub use rkyv_btree_view::deserialize::{Deserialize, DeserializeFault};
+    pub use rkyv_btree_convert::deserialize::{Deserialize, DeserializeFault};
+    pub use rkyv_btree_convert::key::DeserializeKey;
+    pub use rkyv_btree_convert::map::{last_values_count, maps_are_given_by_entries};
+    pub use rkyv_btree_convert::native::DeserializeNative;
+}
+
+/// The archived types that keys and values of maps have.
+pub mod entry_type {
+    pub use rkyv_btree_convert::entry_type::EntryType;
 }
 
 /// Iterators over the entries of a map.
@@ -44,7 +52,7 @@ pub mod lookup {
 /// Archived maps, read in place, and with their values written there.
 pub mod map {
     pub use rkyv_btree_seal::map::{MapSeal, access_mut};
-    pub use rkyv_btree_view::map::{access, access_valid};
+    pub use rkyv_btree_view::map::{ShowsEntries, access, access_valid};
     pub use rkyv_btree_walk::map::ArchivedMap;
 }
 
@@ -59,9 +67,22 @@ pub mod query {
     pub use rkyv_btree_walk::search::Compared;
 }
 
-/// Ranges of the entries of a map.
+/// Ranges of the entries of a map, and of its keys.
 pub mod range {
     pub use rkyv_btree_view::range::Range;
+    pub use rkyv_btree_view::range_keys::RangeKeys;
+}
+
+/// What is known of values that are archived and made native again.
+pub mod round_trip {
+    pub use rkyv_btree_convert::round_trip::{
+        maps_are_given_back, natives_are_given_back, pairs_are_given_back, texts_are_given_back,
+    };
+}
+
+/// Tests of archived values with native ones, for equality.
+pub mod same_as {
+    pub use rkyv_btree_view::same_as::SameAs;
 }
 
 /// Values that are written in place.
@@ -72,8 +93,45 @@ pub mod seal {
     pub use rkyv_btree_seal::seal::Seal;
 }
 
+/// Archived sets, read in place.
+pub mod set {
+    pub use rkyv_btree_view::set::{Iter, Range, access, access_valid};
+}
+
 /// Values in a buffer.
 pub mod view {
     pub use rkyv_btree_view::view::View;
     pub use rkyv_btree_walk::shows::Shows;
+}
+
+/// Whole archives, opened and made native again.
+pub mod whole {
+    pub use rkyv_btree_convert::whole::{ArchiveFault, from_archive, open};
+}
+
+/// What most programs name.
+pub mod prelude {
+    pub use rkyv_btree_base::archive::{Archive, Serialize};
+    pub use rkyv_btree_base::check::{CheckBytes, Portable};
+    pub use rkyv_btree_base::fault::Fault;
+    pub use rkyv_btree_base::map::ArchivedBTreeMap;
+    pub use rkyv_btree_base::numbers::{ArchivedU16, ArchivedU32, ArchivedU64};
+    pub use rkyv_btree_base::place::VecWriter;
+    pub use rkyv_btree_base::refusal::Refusal;
+    pub use rkyv_btree_base::scalars::{ArchivedChar, ArchivedNonZeroU32};
+    pub use rkyv_btree_base::set::ArchivedBTreeSet;
+    pub use rkyv_btree_base::signed::{ArchivedI16, ArchivedI32, ArchivedI64};
+    pub use rkyv_btree_base::text::ArchivedText;
+    pub use rkyv_btree_base::util::Entry;
+    pub use rkyv_btree_base::whole::to_archive;
+    pub use rkyv_btree_convert::deserialize::{Deserialize, DeserializeFault};
+    pub use rkyv_btree_convert::entry_type::EntryType;
+    pub use rkyv_btree_convert::whole::{ArchiveFault, from_archive, open};
+    pub use rkyv_btree_seal::map::{MapSeal, access_mut};
+    pub use rkyv_btree_view::compare::{ViewEq, ViewHash, ViewOrd};
+    pub use rkyv_btree_view::map::access;
+    pub use rkyv_btree_view::native::ToNative;
+    pub use rkyv_btree_view::query::CompareWith;
+    pub use rkyv_btree_view::same_as::SameAs;
+    pub use rkyv_btree_view::view::View;
 }

@@ -1,4 +1,3 @@
-pub mod Kept
 mod TextsWritten
 pub mod Both
 pub mod OneArchival

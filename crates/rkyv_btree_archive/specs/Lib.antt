@@ -1,4 +1,3 @@
-pub mod Kept
-pub mod Determined
 pub mod EntryArchival
 pub mod laws
+pub mod mirror

@@ -1,7 +1,7 @@
 //! Values that can be archived.
 ghost use Rattle.std.specs.Prelude.{◌≡◌, ◌+◌, ◌≤◌, length, IsTrue, OnOk, OnErr, IfOk, IfErr};
-ghost use Rattle.rkyv_btree_archive.specs.Determined.{IsDetermined};
-ghost use Rattle.rkyv_btree_archive.specs.Kept.{OnlyAppended};
+ghost use Rattle.rkyv_btree_image.specs.Determined.{IsDetermined};
+ghost use Rattle.rkyv_btree_image.specs.Kept.{OnlyAppended};
 ghost use Rattle.rkyv_btree_portable.specs.Kind.{IsLawful};
 ghost use Rattle.rkyv_btree_portable.specs.Plain.{plain_kind};
 ghost use Rattle.rkyv_btree_portable.specs.Scalars.{u8_kind, u16_kind, u32_kind, u64_kind, i8_kind, i16_kind, i32_kind, i64_kind, bool_kind, unit_kind, char_kind, non_zero_kind};
@@ -57,6 +57,7 @@ pub trait Archive {
 pub trait Serialize<W: Writer, A>: Archive {
     /// Makes the writes that come before its own bytes. After an error the writer's contents begin with the old ones.
     fn serialize(&self, alloc: A, writer: &mut W) -> Result<Self::Resolver, Fault<W::Error>>
+        requires fitting { IsTrue Self.Archived.kind.is_fitting }
         ensures ok { IfOk result
             (Serialises Self.archival self.now (W.state writer.old) (W.state writer.new)) }
         ensures err { IfErr result (λ fault.

@@ -2,7 +2,7 @@
 ghost use Rattle.std.specs.Prelude.{◌≡◌, ℕ, ◌+◌, ◌≤◌, ◌<◌, length, string_bytes, IfSome, IfNone, OnOk, IfErr, IsErrOf, ◌↔◌};
 ghost use Rattle.std.specs.declared.alloc.Global.{Global};
 ghost use Rattle.rkyv_btree_writer.specs.Archiving.{IsUnresolved, itself};
-ghost use Rattle.rkyv_btree_archive.specs.Determined.{IsDetermined};
+ghost use Rattle.rkyv_btree_image.specs.Determined.{IsDetermined};
 ghost use Rattle.rkyv_btree_writer.specs.Pointers.{FitsOffset};
 ghost use Rattle.rkyv_btree_portable.specs.Refusing.{RefusesWhole};
 ghost use Rattle.rkyv_btree_portable.specs.Text.{IsTextRange, text_kind};

@@ -1,8 +1,8 @@
 //! A key with its value, archived as an `Entry`.
 ghost use Rattle.std.specs.Prelude.{◌≡◌, ◌+◌, ◌≤◌, ◌<◌, ◌^◌, length, IsTrue, OnOk, IfErr};
 ghost use Rattle.rkyv_btree_writer.specs.Archiving.{IsUnresolved};
-ghost use Rattle.rkyv_btree_archive.specs.Determined.{IsDetermined};
-ghost use Rattle.rkyv_btree_archive.specs.EntryArchival.{EntryResolves, entry_archival};
+ghost use Rattle.rkyv_btree_image.specs.Determined.{IsDetermined};
+ghost use Rattle.rkyv_btree_archive.specs.EntryArchival.{EntryResolves, both_now, entry_archival};
 ghost use Rattle.rkyv_btree_portable.specs.Entry.{value_offset, entry_size, entry_kind, RefusesEntry};
 ghost use Rattle.rkyv_btree_portable.specs.laws.EntryLaws.{entry_laws};
 ghost use Rattle.rkyv_btree_archive.specs.laws.EntryArchived.{same_entry, entry_archived};
@@ -43,7 +43,7 @@ impl<'r, KU: Archive, VU: Archive> Archive for EntryAdapter<'r, KU, VU> {
 
     type Resolver = EntryResolver<KU::Resolver, VU::Resolver>;
 
-    ghost archival = { entry_archival KU.archival VU.archival };
+    ghost archival = { entry_archival KU.archival VU.archival both_now };
 
     /// Resolves the key, and then the value. The bytes between and behind them become zero.
     fn resolve(
@@ -55,10 +55,10 @@ impl<'r, KU: Archive, VU: Archive> Archive for EntryAdapter<'r, KU, VU> {
         requires size { length out.bytes.now ≡ entry_size KU.Archived.kind VU.Archived.kind }
         requires end { out.pos + entry_size KU.Archived.kind VU.Archived.kind ≤ 4294967295 }
         ensures ok { OnOk result
-            (EntryResolves KU.archival VU.archival self.now resolver out.entry.pos
+            (EntryResolves KU.archival VU.archival (both_now self.now) resolver out.entry.pos
             out.exit.1.0.now) }
         ensures err { IfErr result
-            (IsUnresolved (entry_archival KU.archival VU.archival) self.now resolver
+            (IsUnresolved (entry_archival KU.archival VU.archival both_now) self.now resolver
             out.entry.pos) }
     {
         let Place { pos, bytes, of: _ } = out;
@@ -76,9 +76,9 @@ impl<'r, KU: Archive, VU: Archive> Archive for EntryAdapter<'r, KU, VU> {
 
     ghost lawful = { entry_laws KU.archival.kind VU.archival.kind KU.lawful VU.lawful };
 
-    ghost archived = { entry_archived KU.archival VU.archival KU.lawful VU.lawful KU.archived VU.archived };
+    ghost archived = { entry_archived KU.archival VU.archival both_now KU.lawful VU.lawful KU.archived VU.archived };
 
-    ghost causes = { entry_causes KU.archival VU.archival KU.causes VU.causes KU.lawful VU.lawful KU.archived VU.archived };
+    ghost causes = { entry_causes KU.archival VU.archival both_now KU.causes VU.causes KU.lawful VU.lawful KU.archived VU.archived };
 }
 
 impl<'r, W: Writer, A: Copy, KU: Serialize<W, A>, VU: Serialize<W, A>> Serialize<W, A>
@@ -98,5 +98,5 @@ impl<'r, W: Writer, A: Copy, KU: Serialize<W, A>, VU: Serialize<W, A>> Serialize
 /// Where what a key means, and what a value means, determine how each is archived, so do both for the pair.
 pub fn entries_are_determined<KU: Archive, VU: Archive>()
     ensures { IsDetermined KU.archival → IsDetermined VU.archival →
-        IsDetermined (entry_archival KU.archival VU.archival) }
+        IsDetermined (entry_archival KU.archival VU.archival both_now) }
 {}

@@ -2,8 +2,7 @@
 //! names that writes archives. It has no code of its own.
 #![tactic(auto)]
 
-pub use rkyv_btree_archive::{text, util};
-pub use rkyv_btree_build::{build, map};
+pub use rkyv_btree_archive::{build, map, set, std_types, text, util, whole};
 pub use rkyv_btree_portable::{numbers, refusal, scalars, signed};
 pub use rkyv_btree_writer::fault;
 

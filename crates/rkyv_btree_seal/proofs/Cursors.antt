@@ -41,7 +41,8 @@ told e (x ∷ xs) = elim (cases_Bool (is_stop (Some x) e)) [
 ]
 
 module _ {X : Type 0} where
-  at_seam : (before : List X) (x : X) (rest : List X) → slice_get (before ++ x ∷ rest) (length before) ≡ Some x
+  -- what stands between two parts of a list
+  pub at_seam : (before : List X) (x : X) (rest : List X) → slice_get (before ++ x ∷ rest) (length before) ≡ Some x
   at_seam [] x rest = refl
   at_seam (y ∷ before) x rest = at_seam before x rest
 

@@ -10,6 +10,7 @@ use Rattle.rkyv_btree_base.specs.Layout.{layout_of}
 use Rattle.rkyv_btree_base.specs.Map.{map_kind}
 use Rattle.rkyv_btree_base.specs.Read.{map_tree, read_map}
 use Rattle.rkyv_btree_base.specs.Views.{stands}
+use Rattle.rkyv_btree_seal.proofs.Cursors.{at_seam}
 use Rattle.rkyv_btree_seal.proofs.Entered.{entry_means}
 use Rattle.rkyv_btree_seal.specs.Calls.{CallsEntry, MayCallAt}
 use Rattle.rkyv_btree_seal.specs.Places.{IsNumber}
@@ -17,10 +18,6 @@ use Rattle.rkyv_btree_seal.specs.Put.{entry_places, key_place, value_place, put_
 use Rattle.rkyv_btree_seal.specs.Visits.{Visits, MayVisit, Goes}
 use Rattle.rkyv_btree_seal.specs.declared.lent.LentKey.{LentKey}
 use Rattle.rkyv_btree_seal.specs.declared.seal.Seal.{Seal}
-
-at_seam : {X : Type 0} (before : List X) (x : X) (rest : List X) → slice_get (before ++ x ∷ rest) (length before) ≡ Some x
-at_seam [] x rest = refl
-at_seam (y ∷ before) x rest = at_seam before x rest
 
 get_drop : {X : Type 0} (xs : List X) (i : ℕ) → slice_get (drop i xs) 0 ≡ slice_get xs i
 get_drop [] zero = refl

@@ -9,8 +9,8 @@ ghost use Rattle.rkyv_btree_base.specs.Refusals.{RefusesMap};
 ghost use Rattle.rkyv_btree_base.specs.Views.{stands};
 ghost use Rattle.rkyv_btree_seal.specs.Alone.{StandsAlone};
 ghost use Rattle.rkyv_btree_seal.specs.Calls.{MayCallEach, CallsEntry, CallsFound};
-ghost use Rattle.rkyv_btree_seal.specs.Places.{place_of, IsEntry, FindsPlace, PutsEntry, SetsFound};
-ghost use Rattle.rkyv_btree_seal.specs.Put.{put_bytes};
+ghost use Rattle.rkyv_btree_seal.specs.Places.{place_of, IsEntry, ShowsEntry, FindsPlace, PutsEntry, SetsFound};
+ghost use Rattle.rkyv_btree_seal.specs.Put.{put_bytes, value_place};
 ghost use Rattle.rkyv_btree_view.specs.Lookup.{ByComparison, ByNative};
 ghost use Rattle.rkyv_btree_view.specs.Map.{IsMap};
 ghost use Rattle.rkyv_btree_view.specs.View.{reads};
@@ -111,13 +111,16 @@ fn found_place(found: Option<(u32, u32)>) -> Option<EntryPlace>
 
 impl<'a, K: Portable, V: InPlace, M: ArchivedMap<Key = K, Mapped = V>> MapSeal<'a, M> {
     /// The seal of the value of an entry of the map at position `pos` of `buf`. The caller owes that a map is there, and
-    /// that `place` is one of its entries, which each look-up for a place tells. Nothing is looked at.
+    /// that `place` is one of its entries, which each look-up for a place tells. What the seal reads is the entry's value.
+    /// Nothing is looked at.
     pub fn seal_at(buf: &'a mut [u8], pos: u32, place: EntryPlace) -> Seal<'a, V>
         requires stands { IsTrue (stands M.kind buf.old pos) }
         requires entry { IsEntry K.kind V.kind M.E buf.old pos (place_of place) }
         ensures same_reference { result.buf.ghost_name ≡ buf.entry.ghost_name }
         ensures buffer { result.buf.now ≡ buf.entry.now }
+        ensures position { result.pos ≡ value_place K.kind V.kind M.E (place_of place) }
         ensures stands { StandsAlone V.kind result.buf.now result.pos }
+        ensures shows { ShowsEntry K.kind V.kind M.E buf.entry.now pos (place_of place) }
         ensures puts { (own : List ℕ) → IsOwn V.kind own
             → PutsEntry K.kind V.kind M.E buf.entry.now pos (place_of place) own
             (put_bytes buf.entry.now result.pos own) }

@@ -2,3 +2,4 @@
 pub mod Bounds
 pub mod Drained
 pub mod Lookups
+pub mod Sets

@@ -1,5 +1,4 @@
 -- The definitions over which views are stated.
-pub mod Deserializing
 pub mod Items
 pub mod Iter
 pub mod Keys
@@ -8,5 +7,7 @@ pub mod Map
 pub mod Native
 pub mod Query
 pub mod Range
+pub mod Set
+pub mod SameAs
 pub mod View
 pub mod laws

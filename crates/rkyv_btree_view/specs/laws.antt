@@ -2,3 +2,4 @@
 pub mod Comparing
 pub mod Cuts
 pub mod Increasing
+pub mod SameAs

@@ -5,6 +5,7 @@ use crate::view::View;
 use rkyv_btree_base::check::Portable;
 use rkyv_btree_base::map::ArchivedBTreeMap;
 use rkyv_btree_base::scalars::ArchivedNonZeroU32;
+use rkyv_btree_base::set::ArchivedBTreeSet;
 use rkyv_btree_base::text::ArchivedText;
 use rkyv_btree_base::util::Entry;
 use std::fmt;
@@ -55,6 +56,15 @@ impl<K: ViewDebug, V: ViewDebug, const E: usize> ViewDebug for ArchivedBTreeMap<
         f: &mut fmt::Formatter<W>,
     ) -> fmt::Result {
         f.debug_map().entries(view.iter()).finish()
+    }
+}
+
+impl<K: ViewDebug, const E: usize> ViewDebug for ArchivedBTreeSet<K, E> {
+    fn show<W: fmt::Write>(
+        view: &View<'_, ArchivedBTreeSet<K, E>>,
+        f: &mut fmt::Formatter<W>,
+    ) -> fmt::Result {
+        f.debug_set().entries(view.iter()).finish()
     }
 }
 

@@ -8,10 +8,11 @@ ghost use Rattle.rkyv_btree_walk.specs.mirror.Node.{RunStands};
 ghost use Rattle.rkyv_btree_walk.specs.mirror.Path.{walk_rest, IsPath};
 ghost use Rattle.rkyv_btree_view.specs.View.{reads_both, entries_of};
 
+use crate::map::ShowsEntries;
 use crate::view::View;
 use arrayvec::ArrayVec;
 use rkyv_btree_base::check::Portable;
-use rkyv_btree_walk::map::ArchivedMap;
+use rkyv_btree_walk::map::{ArchivedMap, map_len};
 use rkyv_btree_walk::node::{key_pos, value_pos};
 use rkyv_btree_walk::path::{Path, advance, begin};
 use rkyv_btree_walk::shows::Shows;
@@ -107,17 +108,22 @@ impl<'a, K: Portable, V: Portable, M: ArchivedMap<Key = K, Mapped = V>> ExactSiz
 impl<'a, K: Portable, V: Portable, M: ArchivedMap<Key = K, Mapped = V>> FusedIterator
     for Iter<'a, M> {}
 
-impl<'a, K: Portable, V: Portable, M: ArchivedMap<Key = K, Mapped = V>> View<'a, M> {
+impl<'a, K: Portable, V: Portable, M: ArchivedMap<Key = K, Mapped = V> + ShowsEntries> View<'a, M> {
     ghost use Rattle.rkyv_btree_view.specs.Iter.{entries_left};
 
     /// The entries, in order. Neither this call nor the iterator takes memory.
     pub fn iter(self) -> Iter<'a, M>
         ensures all { ShowsAll ⟦<Iter<'a, M> as Iterator>⟧.next_gives reads_both result
             (entries_of K.kind V.kind M.E self.entry) }
+        ensures left { entries_left result ≡ entries_of K.kind V.kind M.E self.entry }
         ensures ends { IsFinite (⟦<Iter<'a, M> as Iterator>⟧.remaining result) }
     {
         self.walk()
     }
+}
+
+impl<'a, K: Portable, V: Portable, M: ArchivedMap<Key = K, Mapped = V>> View<'a, M> {
+    ghost use Rattle.rkyv_btree_view.specs.Iter.{entries_left};
 
     /// The iterator at the first entry: all entries of the map are left of its walk.
     pub(crate) fn walk(self) -> Iter<'a, M>
@@ -132,7 +138,7 @@ impl<'a, K: Portable, V: Portable, M: ArchivedMap<Key = K, Mapped = V>> View<'a,
             node: leaf.node,
             next: 0,
             end: leaf.count,
-            behind: self.len() - leaf.count,
+            behind: map_len::<K, V, M>(self.buf, self.pos) - leaf.count,
             of: PhantomData,
         }
     }

@@ -3,7 +3,6 @@
 
 pub mod compare;
 pub mod debug;
-pub mod deserialize;
 pub mod entry;
 pub mod iter;
 pub mod keys;
@@ -12,6 +11,9 @@ pub mod map;
 pub mod native;
 pub mod query;
 pub mod range;
+pub mod range_keys;
 mod same;
+pub mod same_as;
+pub mod set;
 pub mod view;
 mod visit;

@@ -11,6 +11,7 @@ ghost use Rattle.rkyv_btree_walk.specs.Search.{shown};
 
 use crate::compare::ViewOrd;
 use crate::iter::entry;
+use crate::map::ShowsEntries;
 use crate::query::CompareWith;
 use crate::view::View;
 use rkyv_btree_base::check::Portable;
@@ -79,7 +80,7 @@ impl<'a, K: Portable, V: Portable, M: ArchivedMap<Key = K, Mapped = V>> View<'a,
     }
 }
 
-impl<'a, K: ViewOrd, V: Portable, M: ArchivedMap<Key = K, Mapped = V>> View<'a, M> {
+impl<'a, K: ViewOrd, V: Portable, M: ArchivedMap<Key = K, Mapped = V> + ShowsEntries> View<'a, M> {
     /// The entry whose key is equal to `key`.
     pub fn get_key_value(self, key: View<'_, K>) -> Option<(View<'a, K>, View<'a, V>)>
         ensures found { option_map reads_both result
@@ -128,7 +129,7 @@ impl<'a, K: ViewOrd, V: Portable, M: ArchivedMap<Key = K, Mapped = V>> View<'a, 
     }
 }
 
-impl<'a, K: Portable, V: Portable, M: ArchivedMap<Key = K, Mapped = V>> View<'a, M> {
+impl<'a, K: Portable, V: Portable, M: ArchivedMap<Key = K, Mapped = V> + ShowsEntries> View<'a, M> {
     /// The entry whose key is equal to a native value: a number, a `&str`, a pair of such, or what else keys compare with.
     pub fn get_key_value_by<T: Drop>(self, key: T) -> Option<(View<'a, K>, View<'a, V>)>
     where

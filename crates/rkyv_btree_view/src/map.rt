@@ -14,6 +14,12 @@ use rkyv_btree_base::refusal::Refusal;
 use rkyv_btree_walk::map::{ArchivedMap, map_len};
 use std::marker::PhantomData;
 
+/// A type of maps whose views show entries. A set is a map too, but its views show its keys alone, by calls of the same
+/// names.
+pub trait ShowsEntries {}
+
+impl<K, V, const E: usize> ShowsEntries for ArchivedBTreeMap<K, V, E> {}
+
 /// The view of the map at position `pos` of `buf`, whoever wrote it, if the bytes mean some list of entries in the window
 /// of all that stands before it. The list that the view reads is that one.
 pub fn access<'a, K: CheckBytes, V: CheckBytes, const E: usize>(
@@ -53,7 +59,7 @@ pub fn access_valid<'a, K: Portable, V: Portable, const E: usize>(
     }
 }
 
-impl<'a, K: Portable, V: Portable, M: ArchivedMap<Key = K, Mapped = V>> View<'a, M> {
+impl<'a, K: Portable, V: Portable, M: ArchivedMap<Key = K, Mapped = V> + ShowsEntries> View<'a, M> {
     /// The number of entries, as the map's own bytes say it: the tree isn't walked.
     pub fn len(self) -> u32
         ensures { result ≡ length (entries_of K.kind V.kind M.E self.entry) }

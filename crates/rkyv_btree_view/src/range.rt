@@ -13,6 +13,7 @@ ghost use Rattle.rkyv_btree_walk.specs.Search.{shown};
 
 use crate::compare::ViewOrd;
 use crate::iter::entry;
+use crate::map::ShowsEntries;
 use crate::query::CompareWith;
 use crate::view::View;
 use arrayvec::ArrayVec;
@@ -124,7 +125,7 @@ impl<'a, K: Portable, V: Portable, M: ArchivedMap<Key = K, Mapped = V>> View<'a,
     }
 }
 
-impl<'a, K: ViewOrd, V: Portable, M: ArchivedMap<Key = K, Mapped = V>> View<'a, M> {
+impl<'a, K: ViewOrd, V: Portable, M: ArchivedMap<Key = K, Mapped = V> + ShowsEntries> View<'a, M> {
     ghost use Rattle.rkyv_btree_view.specs.Range.{range_left};
 
     /// The entries whose keys are between the bounds, in order.
@@ -153,7 +154,7 @@ impl<'a, K: ViewOrd, V: Portable, M: ArchivedMap<Key = K, Mapped = V>> View<'a, 
     }
 }
 
-impl<'a, K: Portable, V: Portable, M: ArchivedMap<Key = K, Mapped = V>> View<'a, M> {
+impl<'a, K: Portable, V: Portable, M: ArchivedMap<Key = K, Mapped = V> + ShowsEntries> View<'a, M> {
     ghost use Rattle.rkyv_btree_view.specs.Range.{range_left, ByNativeBounds};
 
     /// The entries whose keys are between bounds of native values, in order: numbers, `&str`, pairs of such, or what else

@@ -1,16 +1,20 @@
-//! Comparisons and hashes of maps: those of the lists of their entries, whatever the trees are.
+//! Comparisons and hashes of maps and of sets: those of the lists of their entries, whatever the trees are.
 ghost use Rattle.std.specs.Prelude.{◌≡◌};
+ghost use Rattle.std.proofs.Common.{refl};
 ghost use Rattle.std.specs.Cmp.{on_equiv, and_equiv};
 ghost use Rattle.std.specs.Cmp.Lexicographic.{pointwise, lists_equiv};
 ghost use Rattle.rkyv_btree_base.specs.Entry.{entry_kind};
+ghost use Rattle.rkyv_btree_base.specs.Scalars.{unit_kind};
 ghost use Rattle.rkyv_btree_view.specs.Iter.{entries_left};
 ghost use Rattle.rkyv_btree_view.specs.View.{entries_of};
-ghost use Rattle.rkyv_btree_view.specs.laws.Comparing.{map_respects};
+ghost use Rattle.rkyv_btree_view.specs.laws.Comparing.{map_respects, unit_equivalence};
 
 use crate::compare::{ViewEq, ViewHash};
 use crate::iter::Iter;
+use crate::map::ShowsEntries;
 use crate::view::View;
 use rkyv_btree_base::map::ArchivedBTreeMap;
+use rkyv_btree_base::set::ArchivedBTreeSet;
 use rkyv_btree_walk::map::ArchivedMap;
 use std::hash::Hasher;
 
@@ -35,10 +39,13 @@ fn rest_is_same<
     right.next().is_none()
 }
 
-impl<'a, K: ViewEq, V: ViewEq, M: ArchivedMap<Key = K, Mapped = V>> View<'a, M> {
+impl<'a, K: ViewEq, V: ViewEq, M: ArchivedMap<Key = K, Mapped = V> + ShowsEntries> View<'a, M> {
     /// Whether the lists of both maps are as long and agree entry by entry. Their `E` may differ, while `==` takes maps of
     /// one type.
-    pub fn eq_entries<N: ArchivedMap<Key = K, Mapped = V>>(self, other: View<'_, N>) -> bool
+    pub fn eq_entries<N: ArchivedMap<Key = K, Mapped = V> + ShowsEntries>(
+        self,
+        other: View<'_, N>,
+    ) -> bool
         ensures { result ≡ pointwise (entry_kind K.kind V.kind).same
             (entries_of K.kind V.kind M.E self.entry) (entries_of K.kind V.kind N.E other.entry) }
     {
@@ -69,4 +76,21 @@ impl<K: ViewHash, V: ViewHash, const E: usize> ViewHash for ArchivedBTreeMap<K, 
     }
 
     ghost respects_same = { map_respects K.kind V.kind K.respects_same V.respects_same };
+}
+
+impl<K: ViewEq, const E: usize> ViewEq for ArchivedBTreeSet<K, E> {
+    fn is_same(a: &View<'_, ArchivedBTreeSet<K, E>>, b: &View<'_, ArchivedBTreeSet<K, E>>) -> bool {
+        a.as_map().eq_entries(b.as_map())
+    }
+
+    ghost equivalence = { lists_equiv (and_equiv (on_equiv (λ e. e.0) K.equivalence)
+        (on_equiv (λ e. e.1) unit_equivalence)) };
+}
+
+impl<K: ViewHash, const E: usize> ViewHash for ArchivedBTreeSet<K, E> {
+    fn hash_view<H: Hasher>(view: &View<'_, ArchivedBTreeSet<K, E>>, state: &mut H) {
+        ArchivedBTreeMap::<K, (), E>::hash_view(&view.as_map(), state);
+    }
+
+    ghost respects_same = { map_respects K.kind unit_kind K.respects_same (λ x y same. refl) };
 }

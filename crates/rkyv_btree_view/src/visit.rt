@@ -2,6 +2,7 @@
 ghost use Rattle.rkyv_btree_walk.specs.Visit.{Visited, shown_both};
 ghost use Rattle.rkyv_btree_view.specs.View.{entries_of};
 
+use crate::map::ShowsEntries;
 use crate::view::View;
 use arrayvec::ArrayVec;
 use rkyv_btree_base::check::Portable;
@@ -11,7 +12,7 @@ use rkyv_btree_walk::shows::Shows;
 use rkyv_btree_walk::visit::visit_rest;
 use std::ops::ControlFlow;
 
-impl<'a, K: Portable, V: Portable, M: ArchivedMap<Key = K, Mapped = V>> View<'a, M> {
+impl<'a, K: Portable, V: Portable, M: ArchivedMap<Key = K, Mapped = V> + ShowsEntries> View<'a, M> {
     /// Calls `visit` with the key and the value of each entry, in order, up to the first call that breaks, whose value
     /// it answers. Where no call breaks, the answer is `None`. The walk takes no memory.
     pub fn visit<W: Shows<'a, K>, X: Shows<'a, V>, T, F: FnMut(W, X) -> ControlFlow<T, ()>>(

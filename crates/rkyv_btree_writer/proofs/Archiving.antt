@@ -14,7 +14,7 @@ use Rattle.rkyv_btree_writer.specs.declared.fault.EntryFault.{EntryFault}
 pub archived_where : {X : Type 0} (kind : Kind) (meaning : X → kind.Value) (IsIn : X → Type 0) (own : X → List ℕ) (Refuses : X → ℕ → EntryFault → Type 0) → ((x : X) → IsIn x → IsOwn kind (own x)) → ((x : X) → IsIn x → value_of kind (own x) ≡ meaning x) → IsArchived (own_archival kind meaning IsIn own Refuses)
 archived_where kind meaning IsIn own Refuses is_own meant x from at writes r bytes is_in wrote is = (
   ap length is ∙ (is_own x is_in).size,
-  λ b short aligned before inside held there.
+  λ fits b reach short aligned before inside held there.
       let told = is_own x is_in in
       let none : length (appended writes) ≡ 0 = ap (λ ws. length (appended ws)) wrote in
       let same : bytes_at b at kind.size ≡ own x = ap (bytes_at b at) (sym ((ap length is) ∙ told.size)) ∙ (there ∙ is) in
@@ -31,6 +31,8 @@ own_causes kind meaning IsIn own Refuses = record {
   fits = λ x r at. (λ resolved. tt, λ all. (own x, refl));
   inside = λ x r at. tt;
   held = λ b x from at writes r bytes is_in wrote resolved there. tt;
+  long = λ x r at none. none;
+  short = λ fits x from at writes r bytes wrote resolved none. none;
   goes = λ x from. inl ([], tt, refl);
   begun = λ x from writes none. inl ([], tt, ap (λ (ws : List Write). ws ++ []) none);
 }

@@ -1,8 +1,9 @@
 -- Fields one behind another.
-use Rattle.std.specs.Prelude.{ℕ, ◌+◌, ◌≤◌, List, [], ◌∷◌, ◌++◌}
+use Rattle.std.specs.Prelude.{ℕ, ◌+◌, ◌≤◌, ◌⊎◌, List, [], ◌∷◌, ◌++◌}
 use Rattle.std.proofs.Common.{inl, inr, arith}
-use Rattle.rkyv_btree_writer.specs.Fields.{Field, AllFit, FirstUnfit, HasLongField, AllInside, AllHeld}
+use Rattle.rkyv_btree_writer.specs.Fields.{Field, a_length, a_pointer, AllFit, FirstUnfit, HasLong, lengths_of, AllInside, AllHeld}
 use Rattle.rkyv_btree_writer.specs.declared.fault.ResolveFault.{ResolveFault}
+use Rattle.rkyv_btree_writer.specs.declared.fault.ResolveFault.TheVariants.{LengthOverflow}
 
 pub fit_both : (fs gs : List Field) → AllFit fs → AllFit gs → AllFit (fs ++ gs)
 fit_both [] gs a b = b
@@ -21,14 +22,41 @@ pub unfit_behind : (fs gs : List Field) (fault : ResolveFault) → AllFit fs →
 unfit_behind [] gs fault a h = h
 unfit_behind (f ∷ fs) gs fault a h = inr (a.0, unfit_behind fs gs fault a.1 h)
 
-pub long_front : (fs gs : List Field) → HasLongField fs → HasLongField (fs ++ gs)
-long_front [] gs h = absurd h
-long_front (f ∷ fs) gs (inl h) = inl h
-long_front (f ∷ fs) gs (inr h) = inr (long_front fs gs h)
+pub long_front : (ms ns : List ℕ) → HasLong ms → HasLong (ms ++ ns)
+long_front [] ns h = absurd h
+long_front (m ∷ ms) ns (inl h) = inl h
+long_front (m ∷ ms) ns (inr h) = inr (long_front ms ns h)
 
-pub long_behind : (fs gs : List Field) → HasLongField gs → HasLongField (fs ++ gs)
-long_behind [] gs h = h
-long_behind (f ∷ fs) gs h = inr (long_behind fs gs h)
+pub long_behind : (ms ns : List ℕ) → HasLong ns → HasLong (ms ++ ns)
+long_behind [] ns h = h
+long_behind (m ∷ ms) ns h = inr (long_behind ms ns h)
+
+pub long_parts : (ms ns : List ℕ) → HasLong (ms ++ ns) → HasLong ms ⊎ HasLong ns
+long_parts [] ns h = inr h
+long_parts (m ∷ ms) ns (inl h) = inl (inl h)
+long_parts (m ∷ ms) ns (inr h) = long_rest m ms ns (long_parts ms ns h)
+  where
+    long_rest : (m : ℕ) (ms ns : List ℕ) → HasLong ms ⊎ HasLong ns → HasLong (m ∷ ms) ⊎ HasLong ns
+    long_rest m ms ns (inl h) = inl (inr h)
+    long_rest m ms ns (inr h) = inr h
+
+-- a first field that doesn't fit by its length is a length past 32 bits
+pub unfit_long : (fs : List Field) → FirstUnfit fs LengthOverflow → HasLong (lengths_of fs)
+unfit_long [] h = absurd h
+unfit_long (a_length place len ∷ fs) (inl h) = inl h
+unfit_long (a_length place len ∷ fs) (inr h) = inr (unfit_long fs h.1)
+unfit_long (a_pointer place target ∷ fs) (inl h) = absurd h
+unfit_long (a_pointer place target ∷ fs) (inr h) = unfit_long fs h.1
+
+pub lengths_both : (fs gs : List Field) → HasLong (lengths_of (fs ++ gs)) → HasLong (lengths_of fs) ⊎ HasLong (lengths_of gs)
+lengths_both [] gs h = inr h
+lengths_both (a_length place len ∷ fs) gs (inl h) = inl (inl h)
+lengths_both (a_length place len ∷ fs) gs (inr h) = more len fs gs (lengths_both fs gs h)
+  where
+    more : (len : ℕ) (fs gs : List Field) → HasLong (lengths_of fs) ⊎ HasLong (lengths_of gs) → HasLong (len ∷ lengths_of fs) ⊎ HasLong (lengths_of gs)
+    more len fs gs (inl h) = inl (inr h)
+    more len fs gs (inr h) = inr h
+lengths_both (a_pointer place target ∷ fs) gs h = lengths_both fs gs h
 
 -- fields among some bytes are among more
 pub inside_more : (at size from len : ℕ) (fs : List Field) → from ≤ at → at + size ≤ from + len → AllInside at size fs → AllInside from len fs

@@ -1,10 +1,11 @@
 -- Texts are archived by their bytes.
-use Rattle.std.specs.Prelude.{◌≡◌, ℕ, ◌+◌, ◌≤◌, List, [], ◌++◌, length, pos}
+use Rattle.std.specs.Prelude.{◌≡◌, ℕ, ◌+◌, ◌≤◌, List, [], ◌∷◌, ◌++◌, length, pos}
 use Rattle.std.specs.Int.{w32, to_le_bytes}
-use Rattle.std.proofs.Common.{ap, sym, subst, refl, inl, arith, ◌∙◌}
+use Rattle.std.proofs.Common.{ap, sym, subst, refl, inl, inr, arith, ◌∙◌}
 use Rattle.std.proofs.lemmas.List.{append-nil}
 use Rattle.rkyv_btree_writer.specs.Archiving.{IsArchived}
 use Rattle.rkyv_btree_writer.specs.Causes.{HasCauses}
+use Rattle.rkyv_btree_writer.specs.Fields.{HasLong}
 use Rattle.rkyv_btree_portable.specs.Bytes.{bytes_at, Holds, place_at}
 use Rattle.rkyv_btree_writer.specs.Pointers.{pointer}
 use Rattle.rkyv_btree_portable.specs.Text.{text_len}
@@ -27,7 +28,7 @@ module _ (b : List ℕ) (at start len : ℕ) (fits : FitsText at start len) (sho
 pub text_archived : {X : Type 0} (text : X → List ℕ) → IsArchived (text_archival text)
 text_archived text x from at writes start own utf8 wrote is = (
   ap length is.1,
-  λ b short aligned behind inside held there.
+  λ fits b reach short aligned behind inside held there.
       let v = text x in
       let len = length v in
       let before : appended writes ≡ v = ap appended wrote.1 ∙ appended_text v in
@@ -48,6 +49,10 @@ text_archived text x from at writes start own utf8 wrote is = (
       ),
 )
 
+not_long : (len : ℕ) → len ≤ 4294967295 → HasLong (len ∷ []) → ⊥
+not_long len few (inl long) = absurd (omega (arith, few, long))
+not_long len few (inr none) = none
+
 -- they tell their length and where they start, and their write is one
 pub text_causes : {X : Type 0} (text : X → List ℕ) → HasCauses (text_archival text)
 text_causes text = record {
@@ -57,6 +62,8 @@ text_causes text = record {
       let len = length (text x) in
       let own_at : Holds b at (text_own at start len) = subst (λ bytes. Holds b at bytes) is.1 there in
       (Holds-back b at (pointer at start) (to_le_bytes w32 len) own_at, (Holds-front b at (pointer at start) (to_le_bytes w32 len) own_at, tt));
+  long = λ x start at h. h;
+  short = λ fits x from at writes start own wrote is. not_long (length (text x)) is.0.1;
   goes = λ x from. inl (text_writes (text x), from, (refl, refl));
   begun = λ x from writes is. inl ([], from, (refl, ap (λ (ws : List Write). ws ++ []) is.0));
 }

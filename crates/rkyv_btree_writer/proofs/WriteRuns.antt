@@ -18,6 +18,11 @@ AllReach-both : (xs ys : List Write) → AllReach xs → AllReach ys → AllReac
 AllReach-both [] ys g h = h
 AllReach-both (x ∷ xs) ys g h = (g.0, AllReach-both xs ys g.1 h)
 
+-- what all of two lists' writes reach
+pub reach_split : (xs ys : List Write) → AllReach (xs ++ ys) → AllReach xs × AllReach ys
+reach_split [] ys h = (tt, h)
+reach_split (x ∷ xs) ys h = let more = reach_split xs ys h.1 in ((h.0, more.0), more.1)
+
 pub appended-position : (s : Writing) (bytes : List ℕ) (t : Writing) → Appended s bytes t → position t ≡ position s + length bytes
 appended-position s bytes t a = omega (arith, a.base, ap length a.contents, length-append s.contents bytes)
 

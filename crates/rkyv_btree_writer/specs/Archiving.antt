@@ -1,13 +1,13 @@
 -- What it takes to archive a value: the writes before its own bytes, and the own bytes.
-use Rattle.std.specs.Prelude.{◌≡◌, ℕ, ◌+◌, ◌≤◌, List, [], ◌++◌, length}
+use Rattle.std.specs.Prelude.{◌≡◌, ℕ, ◌+◌, ◌≤◌, IsTrue, List, [], ◌++◌, length}
 use Rattle.std.proofs.Common.{refl}
 use Rattle.rkyv_btree_portable.specs.Bytes.{Holds}
 use Rattle.rkyv_btree_portable.specs.InPlace.{NativeForm}
 use Rattle.rkyv_btree_portable.specs.Kind.{Kind}
 use Rattle.rkyv_btree_portable.specs.Plain.{plain_kind}
 use Rattle.rkyv_btree_portable.specs.Standing.{IsAligned}
-use Rattle.rkyv_btree_writer.specs.Fields.{Field, FirstUnfit, HasLongField}
-use Rattle.rkyv_btree_writer.specs.Writing.{Writing, position, Write, appended, Stopped, Wrote, EndInReach}
+use Rattle.rkyv_btree_writer.specs.Fields.{Field, FirstUnfit, HasLong}
+use Rattle.rkyv_btree_writer.specs.Writing.{Writing, position, Write, AllReach, appended, Stopped, Wrote, EndInReach}
 use Rattle.rkyv_btree_writer.specs.declared.fault.EntryFault.{EntryFault}
 use Rattle.rkyv_btree_writer.specs.declared.fault.Fault.{Fault}
 use Rattle.rkyv_btree_writer.specs.declared.fault.Fault.TheVariants.{Length, LengthOverflow, PositionOverflow, OffsetOverflow, Writer, Memory, Entry}
@@ -37,21 +37,23 @@ pub record Archival (X R : Type 0) : Type 1 where
   -- the own bytes that resolving writes at a position; and what they tell of what lies elsewhere, in resolving's order
   pub Resolves : X → R → ℕ → List ℕ → Type 0
   pub fields : X → R → ℕ → List Field
+  -- the lengths of what is written: its own, and those of all that it leads to
+  pub lengths : X → List ℕ
   -- memory is asked for; the value refuses itself from a position on
   pub Grows : X → Type 0
   pub Refuses : X → ℕ → EntryFault → Type 0
 
--- a value that was serialised from a position on, and resolved at an aligned place behind that, means itself in the
--- window of what was written, in every buffer that holds these bytes
+-- a value that was serialised from a position on, each pointer of its writes in reach, and resolved at an aligned place
+-- behind that, means itself in the window of what was written, in every buffer that holds these bytes, where the type fits
 abbrev pub IsArchived : {X R : Type 0} → Archival X R → Type 0
 IsArchived {X} {R} T =
     (x : X) (from at : ℕ) (writes : List Write) (r : R) (own : List ℕ) → T.IsIn x → T.Writes x from writes r → T.Resolves x r at own → (length own ≡ T.kind.size)
-    × ((b : List ℕ) → length b ≤ 4294967295 → IsAligned T.kind.align at → from + length (appended writes) ≤ at → at + T.kind.size ≤ length b → Holds b from (appended writes) → Holds b at own →
+    × (IsTrue T.kind.is_fitting → (b : List ℕ) → AllReach writes → length b ≤ 4294967295 → IsAligned T.kind.align at → from + length (appended writes) ≤ at → at + T.kind.size ≤ length b → Holds b from (appended writes) → Holds b at own →
     (left : ℕ) × T.kind.Means b from (from + length (appended writes)) at left (T.meaning x))
 
--- whatever serialising would tell, and wherever it would be resolved, a length in the own bytes is past 32 bits
+-- one of the lengths is past 32 bits
 abbrev pub IsTooLong : {X R : Type 0} → Archival X R → X → Type 0
-IsTooLong {X} {R} T x = (r : R) (at : ℕ) → HasLongField (T.fields x r at)
+IsTooLong T x = HasLong (T.lengths x)
 
 -- why a value's own bytes aren't written at a position
 abbrev pub IsUnresolved : {X R : Type 0} → Archival X R → X → R → ℕ → ResolveFault → Type 0
@@ -89,6 +91,7 @@ own_archival kind meaning IsIn own Refuses = record {
   Begins = λ x from writes. writes ≡ [];
   Resolves = λ x r at bytes. bytes ≡ own x;
   fields = λ x r at. [];
+  lengths = λ x. [];
   Grows = λ x. ⊥;
   Refuses = Refuses;
 }

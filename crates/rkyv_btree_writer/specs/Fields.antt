@@ -41,10 +41,16 @@ abbrev pub FirstUnfit : List Field → ResolveFault → Type 0
 FirstUnfit [] fault = ⊥
 FirstUnfit (f ∷ fs) fault = IsUnfit f fault ⊎ (Fits f × FirstUnfit fs fault)
 
--- one of the lengths is past 32 bits
-abbrev pub HasLongField : List Field → Type 0
-HasLongField [] = ⊥
-HasLongField (f ∷ fs) = IsUnfit f LengthOverflow ⊎ HasLongField fs
+-- one of these lengths is past 32 bits
+abbrev pub HasLong : List ℕ → Type 0
+HasLong [] = ⊥
+HasLong (len ∷ lens) = (last_end < len) ⊎ HasLong lens
+
+-- the lengths among fields
+abbrev pub lengths_of : List Field → List ℕ
+lengths_of [] = []
+lengths_of (a_length place len ∷ fs) = len ∷ lengths_of fs
+lengths_of (a_pointer place target ∷ fs) = lengths_of fs
 
 -- each field's bytes are among so many from a position on
 abbrev pub AllInside : ℕ → ℕ → List Field → Type 0

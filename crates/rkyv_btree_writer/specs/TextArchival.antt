@@ -30,6 +30,7 @@ text_archival text = record {
   Begins = λ x from writes. (writes ≡ text_writes (text x)) × (text x ≡ [] → last_end < from);
   Resolves = λ x start at own. FitsText at start (length (text x)) × (own ≡ text_own at start (length (text x)));
   fields = λ x start at. a_length (at + 4) (length (text x)) ∷ a_pointer at start ∷ [];
+  lengths = λ x. length (text x) ∷ [];
   Grows = λ x. ⊥;
   Refuses = λ x from fault. ⊥;
 }

@@ -1,2 +1,3 @@
 -- What contracts of tests name.
+pub mod Coded
 pub mod Lookups

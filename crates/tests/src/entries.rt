@@ -161,12 +161,12 @@ fn parts_of_entries_have_names(rt: HostRuntime) -> Result<(), Fail> {
 fn an_entry_is_its_key_then_its_value(rt: HostRuntime) -> Result<(), Fail> {
     let (key, value) = (1u8, 513u16);
     let entry = EntryAdapter::new(&key, &value);
+    assert!(rt; Entry::<u8, ArchivedU16>::fits());
     let mut writer = VecWriter::new(rt.alloc());
     let resolver = entry
         .serialize(rt.alloc(), &mut writer)
         .expect(&rt, "numbers are always serialised");
     assert!(rt; writer.bytes().is_empty());
-    assert!(rt; Entry::<u8, ArchivedU16>::fits());
     assert_eq!(rt; Entry::<u8, ArchivedU16>::size(), 4);
     let mut bytes = [0xFF; 4];
     let out = Place {
@@ -186,11 +186,11 @@ fn an_entry_of_an_entry_is_padded_behind_both(rt: HostRuntime) -> Result<(), Fai
     let (key, value, flag) = (1u8, 513u16, true);
     let inner = EntryAdapter::new(&key, &value);
     let entry = EntryAdapter::new(&inner, &flag);
+    assert!(rt; Nested::fits());
     let mut writer = VecWriter::new(rt.alloc());
     let resolver = entry
         .serialize(rt.alloc(), &mut writer)
         .expect(&rt, "numbers are always serialised");
-    assert!(rt; Nested::fits());
     assert_eq!(rt; Nested::size(), 6);
     let mut bytes = [0xFF; 6];
     let out = Place {

@@ -1,7 +1,7 @@
 //! Lists that mean the same are written as the same bytes. `write_both` shows how a caller learns that.
 ghost use Rattle.std.specs.Prelude.{◌≡◌, map, string_bytes, IfOk, OnOk};
 ghost use Rattle.std.specs.Iterator.{YieldsFirstBy, item_count};
-ghost use Rattle.rkyv_btree_base.specs.Determined.{AppendAlike};
+ghost use Rattle.rkyv_btree_base.specs.Alike.{AppendAlike};
 ghost use Rattle.rkyv_btree_base.specs.Writing.{position};
 
 use rkyv_btree_base::archive::natives_are_determined;

@@ -1,48 +1,32 @@
 //! The first example of the README.
 
-use rkyv_btree::map::access;
-use rkyv_btree::view::View;
-use rkyv_btree_base::layout;
-use rkyv_btree_base::map::ArchivedBTreeMap;
-use rkyv_btree_base::numbers::ArchivedU32;
-use rkyv_btree_base::place::VecWriter;
-use rkyv_btree_base::refusal::Refusal;
-use rkyv_btree_base::text::ArchivedText;
+use rkyv_btree::prelude::*;
+use std::collections::BTreeMap;
 use std::test::Fail;
 
 type Prices = ArchivedBTreeMap<ArchivedText, ArchivedU32, 5>;
 
 #[test]
-fn prices_are_looked_up(rt: HostRuntime) -> Result<(), Fail> {
+fn prices_are_looked_up_and_changed(rt: HostRuntime) -> Result<(), Fail> {
     let alloc = rt.alloc();
-    assert!(rt; layout::fits::<ArchivedText, ArchivedU32, 5>());
-    let prices = [
-        (String::from_str(alloc, "apple")?, 3),
-        (String::from_str(alloc, "pear")?, 5),
-    ];
-    let items = prices
-        .iter()
-        .map(|price: &(String, u32)| (&price.0, &price.1));
-    let mut writer = VecWriter::new(alloc);
-    let tree = Prices::serialize_from_ordered_iter(alloc, 2, items, &mut writer)?;
-    let root = Prices::write_root(2, tree, &mut writer)?;
+    assert!(rt; Prices::fits());
+    let mut prices: BTreeMap<String, u32> = BTreeMap::new(alloc);
+    prices.insert(String::from_str(alloc, "apple")?, 3)?;
+    prices.insert(String::from_str(alloc, "pear")?, 5)?;
 
-    let bytes = writer.bytes();
-    let map = access::<ArchivedText, ArchivedU32, 5>(bytes, root)?;
+    let mut bytes = to_archive(alloc, &prices)?;
+    let map = open::<Prices>(bytes.as_slice())?;
     let pear = map
         .get_by("pear")
         .map(|price: View<ArchivedU32>| price.to_native());
     assert_eq!(rt; pear, Some(5));
     assert!(rt; !map.contains_by("plum"));
 
-    // Without its last byte it is no map, and the answer says why.
-    let cut = &bytes[..bytes.len().saturating_sub(1)];
-    let refused = access::<ArchivedText, ArchivedU32, 5>(cut, root).err();
-    assert_eq!(rt;
-        refused,
-        Some(Refusal::OutOfRange {
-            pos: i64::from(root)
-        })
-    );
+    let pos = map.pos;
+    let mut map = access_mut::<ArchivedText, ArchivedU32, 5>(bytes.as_mut_slice(), pos)?;
+    assert!(rt; map.set_by("pear", 6));
+
+    let changed: BTreeMap<String, u32> = from_archive(alloc, bytes.as_slice())?;
+    assert_eq!(rt; changed.get("pear").copied(), Some(6));
     Ok(())
 }

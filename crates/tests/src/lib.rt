@@ -2,6 +2,12 @@
 #![tactic(auto)]
 
 #[cfg(test)]
+mod by_hand;
+#[cfg(test)]
+mod coded;
+#[cfg(test)]
+mod convert;
+#[cfg(test)]
 mod cursors;
 #[cfg(test)]
 mod damage;
@@ -30,6 +36,8 @@ mod lookups_learnt;
 #[cfg(test)]
 mod lookups_types;
 #[cfg(test)]
+mod native_maps;
+#[cfg(test)]
 mod natives;
 #[cfg(test)]
 mod numbers;
@@ -38,9 +46,13 @@ mod opening;
 #[cfg(test)]
 mod pairs;
 #[cfg(test)]
+mod prelude;
+#[cfg(test)]
 mod ranges;
 #[cfg(test)]
 mod seals;
+#[cfg(test)]
+mod sets;
 #[cfg(test)]
 mod texts;
 #[cfg(test)]
@@ -51,3 +63,5 @@ mod values;
 mod views;
 #[cfg(test)]
 mod walks;
+#[cfg(test)]
+mod whole;

@@ -67,11 +67,11 @@ fn entries_of_entries_are_viewed(rt: HostRuntime) -> Result<(), Fail> {
 fn an_archived_entry_is_viewed(rt: HostRuntime) {
     let (key, value) = (1u8, 513u16);
     let entry = EntryAdapter::new(&key, &value);
+    assert!(rt; Entry::<u8, ArchivedU16>::fits());
     let mut writer = VecWriter::new(rt.alloc());
     let resolver = entry
         .serialize(rt.alloc(), &mut writer)
         .expect(&rt, "numbers are always serialised");
-    assert!(rt; Entry::<u8, ArchivedU16>::fits());
     assert_eq!(rt; Entry::<u8, ArchivedU16>::size(), 4);
     let mut bytes = [0; 4];
     assert!(rt; entry.resolve(resolver, Place::new(0, &mut bytes)).is_ok());

@@ -9,6 +9,7 @@ use Rattle.std.specs.declared.cmp.Ordering.{Ordering}
 use Rattle.std.proofs.Common.{refl, sym, ap, subst, ◌∙◌}
 use Rattle.rkyv_btree_base.specs.Entry.{entry_kind}
 use Rattle.rkyv_btree_base.specs.Kind.{Kind}
+use Rattle.rkyv_btree_base.specs.Scalars.{unit_kind}
 use Rattle.rkyv_btree_view.specs.Native.{ReadAs}
 
 module _ {N : Type 0} {kind : Kind} {read_native : List ℕ → ℕ → N} {native_same : N → N → Bool} {native_order : N → N → Ordering} {native_input : N → List (List ℕ)} (r : ReadAs kind read_native native_same native_order native_input) where
@@ -27,6 +28,10 @@ module _ {N : Type 0} {kind : Kind} {read_native : List ℕ → ℕ → N} {nati
 -- views of a kind with a total order
 pub views_order : (kind : Kind) → IsTotalOrder kind.order → ((x y : kind.Value) → kind.same x y ≡ is_eq (kind.order x y)) → IsPartialOrder kind.same (λ x y. Some (kind.order x y))
 views_order kind total matches = partial_order_from_agreeing_total kind.order total (λ x y. refl) matches
+
+-- all values of a set's entries are equal
+pub unit_equivalence : IsEquivalence unit_kind.same
+unit_equivalence = record { refl = λ x. refl; symm = λ x y. refl; congr = λ x y z same. refl }
 
 -- maps whose lists agree entry by entry are hashed alike, where keys and values are
 pub map_respects : (K V : Kind) → ((x y : K.Value) → IsTrue (K.same x y) → K.hash_input x ≡ K.hash_input y) → ((x y : V.Value) → IsTrue (V.same x y) → V.hash_input x ≡ V.hash_input y)

@@ -2,7 +2,7 @@ use Rattle.std.proofs.Common.{◌≡◌, List, ℕ, ◌∙◌, map, refl, sym, a
 use Rattle.rkyv_btree_base.specs.Archiving.{itself}
 use Rattle.rkyv_btree_base.specs.Scalars.{u32_kind}
 use Rattle.btreearc.specs.Opening.{IsArchive}
-use Rattle.btreearc.proofs.Built.{pair, drained_pairs, tree_is, archive_written, archive_accepted, unbuilt, unbuilt_root}
+use Rattle.btreearc.proofs.Built.{pair, drained_pairs, tree_is, archive_written, archive_accepted, has_archive, unbuilt, unbuilt_root}
 use Rattle.btreearc.proofs.build.archive.Goals as goal
 
 pub returns-in-Ok-write_root : goal.returns-in-Ok-write_root
@@ -15,6 +15,7 @@ returns-in-Ok-write_root c =
     let tree = tree_is entries made.items c.in-Ok.root _ s c.new-writer.ensures are made.built in
     record {
       ok = c.into_vec.ensures ∙ archive_written entries c.in-Ok.root s t tree c.in-Ok-write_root.ensures.ok;
+      fits = has_archive entries c.in-Ok.root s t tree c.in-Ok-write_root.ensures.len c.in-Ok-write_root.ensures.ok c.in-Ok-write_root.ensures.last;
       accepted = subst (λ (bytes : List ℕ). IsArchive bytes entries) (sym c.into_vec.ensures)
           (archive_accepted entries made.items c.in-Ok.root _ s t (ap (λ w. w.base) c.new-writer.ensures) tree.wrote.done.base are (omega (arith, made.count, c.in-Ok-write_root.ensures.len))
           (λ some. made.spelled (omega (arith, made.count)) (itself u32_kind) (itself u32_kind)) c.in-Ok-write_root.ensures.ok c.in-Ok-write_root.ensures.last);

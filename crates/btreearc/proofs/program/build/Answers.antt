@@ -1,6 +1,6 @@
 use Rattle.std.proofs.Common.{ℕ, List, ◌∙◌, refl, ap, subst}
 use Rattle.std.specs.Io.KnownBytes.{Appends}
-use Rattle.btreearc.specs.Archive.{archive_of}
+use Rattle.btreearc.specs.Archive.{archive_of, HasArchive}
 use Rattle.btreearc.specs.Grammar.{IsLines}
 use Rattle.btreearc.specs.Opening.{IsArchive}
 use Rattle.btreearc.proofs.Built.{output_built}
@@ -16,6 +16,7 @@ returns-clause-done g c =
       refl,
       output_built (g.R.Read.remaining c.args.input.now) (g.W.Write.contents c.args.output.now) (g.W.Write.contents c.write_all.new.output) c.in_ok-text.text.items archive entries c.in_ok-text.ensures.all
           lines
+          (subst HasArchive same c.in_ok-archive.ensures.fits)
           (subst (IsArchive archive) same accepted) (c.in_ok-archive.ensures.ok ∙ ap archive_of same)
           (subst (λ (bytes : List ℕ). Appends (g.W.Write.contents c.args.output.now) (g.W.Write.contents c.write_all.new.output) bytes) c.deref-3.ensures.value c.in_ok-write_all.ensures.all),
     )

@@ -1,5 +1,5 @@
 use Rattle.std.proofs.Common.{◌∙◌, map, string_bytes, sym, ap}
-use Rattle.rkyv_btree_base.specs.Determined.{entry_meaning}
+use Rattle.rkyv_btree_base.specs.Alike.{entry_meaning}
 use Rattle.rkyv_btree_base.specs.Entries.{now_of}
 use Rattle.rkyv_btree_base.specs.Archiving.{native_archival}
 use Rattle.rkyv_btree_base.specs.Natives.{u32_form}

@@ -6,7 +6,7 @@ use Rattle.std.proofs.lemmas.Result.{err_from_is_err_and}
 use Rattle.rkyv_btree_writer.specs.declared.fault.Fault.TheVariants.{PositionOverflow}
 use Rattle.rkyv_btree_writer.specs.TextArchival.{text_writes}
 use Rattle.rkyv_btree_writer.specs.Writing.{Appended, Refused, position, last_end}
-use Rattle.rkyv_btree_archive.proofs.Kept.{refused_begins}
+use Rattle.rkyv_btree_image.proofs.Kept.{refused_begins}
 use Rattle.rkyv_btree_archive.proofs.TextsWritten.{text_wrote, text_refused}
 use Rattle.rkyv_btree_archive.proofs.text.StringSerialize.serialize.Goals as goal
 

@@ -6,6 +6,7 @@ use Rattle.rkyv_btree_writer.proofs.FieldRuns.{unfit_front, unfit_behind}
 use Rattle.rkyv_btree_archive.specs.laws.EntryArchived.{same_offset, same_size}
 use Rattle.rkyv_btree_portable.specs.Entry.{value_offset}
 use Rattle.rkyv_btree_portable.specs.laws.EntryLaws.{key_inside}
+use Rattle.rkyv_btree_archive.specs.EntryArchival.{both_now}
 use Rattle.rkyv_btree_archive.proofs.Both.{both_resolved}
 use Rattle.rkyv_btree_archive.proofs.util.EntryAdapterArchive.resolve.Goals as goal
 
@@ -47,7 +48,7 @@ returns-clause-ok g c =
     let key_len : length c.resolve_into.new.bytes ≡ c.size.result = omega (arith, c.resolve_into.auto.bytes, front_len, room, c.size.ensures, place.value, cut.front_len) in
     let value_len : length c.resolve_into-2.new.bytes ≡ c.size-2.result = omega (arith, c.resolve_into-2.auto.bytes, back_len, c.size-2.ensures, place.inside, cut.back_len, c.fill.ensures.len, c.requires.size) in
     on_ok_weaker c.resolve_into-2.result (λ done.
-    both_resolved g.KU.Archive.archival g.VU.Archive.archival c.args.self.now c.args.resolver c.args.out.pos c.resolve_into.new.bytes c.resolve_into-2.new.bytes c.fill.new.self c.split_at_mut-front.result.0.now c.split_at_mut-front.result.1.now c.size.result c.size-2.result c.value_offset-offset.result size
+    both_resolved g.KU.Archive.archival g.VU.Archive.archival (both_now c.args.self.now) c.args.resolver c.args.out.pos c.resolve_into.new.bytes c.resolve_into-2.new.bytes c.fill.new.self c.split_at_mut-front.result.0.now c.split_at_mut-front.result.1.now c.size.result c.size-2.result c.value_offset-offset.result size
     offset_is size_is key_len value_len (omega (arith, room, c.size.ensures, place.value)) (omega (arith, c.size-2.ensures, place.inside, c.requires.size)) clear cut.front cut.back c.in_ok-resolve_into.ensures.ok done) c.resolve_into-2.ensures.ok
 
 pub returns-in_err-resolve_into-clause-err : goal.returns-in_err-resolve_into-clause-err

@@ -1,0 +1,21 @@
+-- Each entry that is made comes behind those before it.
+use Rattle.std.proofs.Common.{◌≡◌, ◌∙◌, ap, rules, sym, true}
+use Rattle.std.specs.Prelude.{is_ok}
+use Rattle.rkyv_btree.specs.Maps.{told_both}
+use Rattle.examples.specs.Whole.{entries_given}
+use Rattle.examples.proofs.Owned.{all_made, one_made}
+use Rattle.examples.proofs.whole.owned_entries.Goals as goal
+
+pub loop-key-preserved : goal.loop-key-preserved
+loop-key-preserved g c key value =
+    let pushed : is_ok c.push.result ≡ true = search rules in
+    rw (c.push.ensures.items, pushed) (
+    one_made key value g.K.Deserialize.told g.V.Deserialize.told c.loop-key.owned.items _ _ c.in-Some.key.buf.now c.in-Some.value.buf.now c.in-Some.key.pos c.in-Some.value.pos c.in_ok-key.key c.in_ok-value.value c.in-Some.ensures.steps c.in_ok-key.ensures.ok c.in_ok-value.ensures.ok
+    ∙ c.loop-key.invariant key value
+    )
+
+pub returns-clause-ok : goal.returns-clause-ok
+returns-clause-ok g c key value =
+    let told = told_both g.K.Deserialize.told g.V.Deserialize.told in
+    ap (entries_given key value) (sym c.iter-entries.ensures.left)
+    ∙ all_made key value (told c.new-owned.result.items) (told c.loop-key.owned.items) _ _ (ap told c.new-owned.ensures.items) c.in_default.ensures.steps.0 (c.loop-key.invariant key value)

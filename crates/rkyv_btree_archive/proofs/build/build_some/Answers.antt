@@ -1,0 +1,87 @@
+use Rattle.std.proofs.Common.{◌≡◌, ◌∙◌, length, map, sym, subst, ap, arith}
+use Rattle.std.proofs.lemmas.List.{length-map}
+use Rattle.std.proofs.lemmas.Result.{err_from_is_err_and}
+use Rattle.std.specs.Iterator.{Yields}
+use Rattle.rkyv_btree_format.specs.Layout.{layout_of}
+use Rattle.rkyv_btree_image.specs.Serialising.{meaning_of, Built}
+use Rattle.rkyv_btree_image.specs.Entries.{now_of}
+use Rattle.rkyv_btree_shape.specs.Plan.{planned_alone}
+use Rattle.rkyv_btree_image.proofs.Untold.{unasked}
+use Rattle.rkyv_btree_image.proofs.TreesKept.{stops_begin, child_begins, child_went}
+use Rattle.rkyv_btree_image.proofs.Building.{short_of, drained, miscounted_of, refused_of, meaning_is, spelled_of}
+use Rattle.rkyv_btree_archive.proofs.build.build_some.Goals as goal
+
+pub returns-then-not-take_items-clause-err : goal.returns-then-not-take_items-clause-err
+returns-then-not-take_items-clause-err g c =
+    short_of g.K.Portable.kind g.V.Portable.kind g.row.E g.KU.Archive.archival g.VU.Archive.archival g.I.Iterator.next_gives c.args.iter c.args.len c.len.result (g.W.Writer.state c.args.writer.now) c.take_items.new.items.items
+    (c.take_items.ensures.few c.if-not-take_items.true) (omega arith) (c.take_items.ensures.short c.if-not-take_items.true)
+
+pub returns-in_err-root-clause-err : goal.returns-in_err-root-clause-err
+returns-in_err-root-clause-err g c =
+    let steps = g.I.Iterator.next_gives in
+    let took = c.if-not-take_items.false in
+    let p = err_from_is_err_and c.from_residual.result c.from_residual.ensures.1 in
+    rw (p.1, p.2) (refused_of g.K.Portable.kind g.V.Portable.kind g.row.E g.KU.Archive.archival g.VU.Archive.archival steps c.args.iter c.args.len _ c.in_err-root.field-0.0 _ c.deref.result.now c.take_items.new.iter
+    (subst (λ zs. Yields steps c.args.iter zs c.take_items.new.iter) (sym c.deref.ensures.value) (c.take_items.ensures.all took))
+    (ap length c.deref.ensures.value ∙ c.take_items.ensures.len took)
+    c.in_err-root.ensures.err)
+
+pub returns-then-more-ne0-clause-err : goal.returns-then-more-ne0-clause-err
+returns-then-more-ne0-clause-err g c =
+    let steps = g.I.Iterator.next_gives in
+    let took = c.if-not-take_items.false in
+    let ran = c.count-more.ensures.ran in
+    miscounted_of g.K.Portable.kind g.V.Portable.kind g.row.E g.KU.Archive.archival g.VU.Archive.archival steps c.args.iter c.args.len c.count-more.result _ _ c.deref.result.now c.take_items.new.iter ran.0 c.in_ok-root.root
+    (subst (λ zs. Yields steps c.args.iter zs c.take_items.new.iter) (sym c.deref.ensures.value) (c.take_items.ensures.all took))
+    ran.1 ran.2 c.if-more-ne0.true
+    (ap length c.deref.ensures.value ∙ c.take_items.ensures.len took)
+    c.in_ok-root.ensures.ok
+
+pub returns-clause-ok : goal.returns-clause-ok
+returns-clause-ok g c =
+    let K = g.K.Portable.kind in
+    let V = g.V.Portable.kind in
+    let E = g.row.E in
+    let from = g.W.Writer.state c.args.writer.now in
+    let to = g.W.Writer.state c.write_child.new.writer in
+    let steps = g.I.Iterator.next_gives in
+    let took = c.if-not-take_items.false in
+    let ran = c.count-more.ensures.ran in
+    let items = c.deref.result.now in
+    let count : length items ≡ c.args.len = ap length c.deref.ensures.value ∙ c.take_items.ensures.len took in
+    let n = length-map items (now_of {M = g.row.KU.Denot} {N = g.row.VU.Denot}) in
+    let wrote = c.in_ok-root.ensures in
+    let built : Built (layout_of K V E) g.KU.Archive.archival g.VU.Archive.archival from (map now_of items) c.unwrap_or.result to = record {
+      place = c.in_ok-root.root;
+      written = wrote.ok;
+      root_is = c.unwrap_or.ensures;
+      ends = λ some. wrote.last (omega (arith, n, some));
+    } in
+    record {
+      items = items;
+      all = drained steps c.args.iter items c.take_items.new.iter ran.0 c.count-more.result
+          (subst (λ zs. Yields steps c.args.iter zs c.take_items.new.iter) (sym c.deref.ensures.value) (c.take_items.ensures.all took)) ran.1 ran.2 c.if-more-ne0.false;
+      count = count;
+      built = built;
+      spelled = λ some key value. spelled_of K V E g.met.K.Portable.laws g.met.V.Portable.laws c.requires.fitting g.KU.Archive.archival g.VU.Archive.archival key value g.met.KU.Archive.archived g.met.VU.Archive.archived from (map now_of items) (map (meaning_of K V g.KU.Archive.archival g.VU.Archive.archival key value) items) c.unwrap_or.result to
+          (meaning_is K V E g.met.K.Portable.laws g.met.V.Portable.laws c.requires.fitting g.KU.Archive.archival g.VU.Archive.archival key value g.met.KU.Archive.archived g.met.VU.Archive.archived items)
+          (omega (arith, n, count, some)) (omega (arith, n, count, c.requires.small)) built;
+    }
+
+pub returns-in_err-root-clause-kept : goal.returns-in_err-root-clause-kept
+returns-in_err-root-clause-kept g c =
+    let p = err_from_is_err_and c.from_residual.result c.from_residual.ensures.1 in
+    rw p.1 (stops_begin (layout_of g.K.Portable.kind g.V.Portable.kind g.row.E) g.KU.Archive.archival g.VU.Archive.archival (g.W.Writer.state c.args.writer.now) (planned_alone g.row.E (map now_of c.deref.result.now)) c.in_err-root.field-0.0 (g.W.Writer.state c.write_child.new.writer) c.in_err-root.ensures.err)
+
+pub returns-then-more-ne0-clause-kept : goal.returns-then-more-ne0-clause-kept
+returns-then-more-ne0-clause-kept g c =
+    child_begins (layout_of g.K.Portable.kind g.V.Portable.kind g.row.E) g.KU.Archive.archival g.VU.Archive.archival (g.W.Writer.state c.args.writer.now) (planned_alone g.row.E (map now_of c.deref.result.now)) c.in_ok-root.root (g.W.Writer.state c.write_child.new.writer) c.in_ok-root.ensures.ok
+
+pub returns-clause-went : goal.returns-clause-went
+returns-clause-went g c =
+    child_went (layout_of g.K.Portable.kind g.V.Portable.kind g.row.E) g.KU.Archive.archival g.VU.Archive.archival (g.W.Writer.state c.args.writer.now) (planned_alone g.row.E (map now_of c.deref.result.now)) c.in_ok-root.root (g.W.Writer.state c.write_child.new.writer) c.in_ok-root.ensures.ok
+
+pub returns-in_err-root-clause-memory : goal.returns-in_err-root-clause-memory
+returns-in_err-root-clause-memory g c =
+    let p = err_from_is_err_and c.from_residual.result c.from_residual.ensures.1 in
+    λ keys values memory. unasked g.row.W-Error.Denot (layout_of g.K.Portable.kind g.V.Portable.kind g.row.E) g.KU.Archive.archival g.VU.Archive.archival (g.W.Writer.state c.args.writer.now) (planned_alone g.row.E (map now_of c.deref.result.now)) (g.W.Writer.state c.write_child.new.writer) c.in_err-root.field-0.0 (cc (p.1, p.2, memory)) keys values c.in_err-root.ensures.err

@@ -1,0 +1,11 @@
+use Rattle.std.proofs.Common.{rules, length, ◌∙◌, sym}
+use Prim.{search}
+use Rattle.rkyv_btree_image.proofs.TreeCauses.{root_is}
+use Rattle.rkyv_btree_image.proofs.TreeSerialised.{units_count}
+use Rattle.rkyv_btree_image.specs.Sets.{with_units}
+use Rattle.rkyv_btree_archive.proofs.std_types.BTreeSetArchive.resolve.Goals as goal
+
+pub returns-clause-ok : goal.returns-clause-ok
+returns-clause-ok g c =
+    let count = c.len-keys.ensures.len ∙ sym (units_count c.args.self.now.keys) in
+    root_is c.args.out.pos c.args.resolver (length (with_units c.args.self.now.keys)) _ c.fill_root.result (rw (← count) (search rules)) (rw (← count) (search rules))

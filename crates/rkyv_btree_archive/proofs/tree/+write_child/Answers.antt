@@ -1,0 +1,334 @@
+use Rattle.std.proofs.Common.{◌≡◌, ◌+◌, ◌*◌, ◌-◌, ◌≤◌, ◌<◌, ◌∙◌, [], ◌∷◌, ◌++◌, length, map, drop, take, arith, Some, ap, sym, subst, refl}
+use Rattle.std.proofs.lemmas.List.{length-take, length-drop, map_push, take_rest}
+use Rattle.std.proofs.lemmas.Result.{err_from_is_err_and}
+use mathlib.Core.List.{not-mem-nil}
+use Rattle.rkyv_btree_format.specs.Layout.{layout_of}
+use Rattle.rkyv_btree_shape.specs.Plan.{planned_alone}
+use Rattle.rkyv_btree_image.specs.Entries.{now_of}
+use Rattle.rkyv_btree_image.specs.Written.{ChildWritten, ChildStopped}
+use Rattle.rkyv_btree_format.proofs.Sizes.{room_of}
+use Rattle.rkyv_btree_shape.proofs.Alone.{alone_leaf, alone_inner, waiting}
+use Rattle.rkyv_btree_shape.proofs.Rows.{turn-inside, turn-rest, drop-push, take-push, length-pushed, not-empty, child_small, less_on_last, some_item, last_rest, last_fits}
+use Rattle.rkyv_btree_image.proofs.RowsWritten.{row-more, row-stopped, last-stopped, inner-stopped, inner-written, turn-so-far, last-so-far, so-far-as}
+use Rattle.rkyv_btree_archive.proofs.tree.+write_child.Goals as goal
+
+pub child_base-base-requires-clause-some : goal.child_base-base-requires-clause-some
+child_base-base-requires-clause-some g t c =
+    let room = room_of _ _ g.row.E g.met.K.Portable.laws g.met.V.Portable.laws c.requires.fitting in
+    room.some
+
+pub child_base-base-requires-clause-small : goal.child_base-base-requires-clause-small
+child_base-base-requires-clause-small g t c =
+    let room = room_of _ _ g.row.E g.met.K.Portable.laws g.met.V.Portable.laws c.requires.fitting in
+    room.entries
+
+pub returns-in_err-root-clause-err : goal.returns-in_err-root-clause-err
+returns-in_err-root-clause-err g t c =
+    let s = g.W.Writer.state c.args.writer.now in
+    let E = g.row.E in
+    let nodes = layout_of g.K.Portable.kind g.V.Portable.kind E in
+    let own = now_of {M = g.row.KU.Denot} {N = g.row.VU.Denot} in
+    let items = c.args.items.now in
+    let room = room_of _ _ g.row.E g.met.K.Portable.laws g.met.V.Portable.laws c.requires.fitting in
+    let leaf_is = alone_leaf E own items room.some (not-empty (length items) c.if-is_empty.ensures) (omega arith) in
+    let p = err_from_is_err_and c.from_residual.result c.from_residual.ensures.1 in
+    rw (p.1, p.2) (subst (λ z. ChildStopped nodes g.KU.Archive.archival g.VU.Archive.archival s z c.in_err-root.field-0.0 (g.W.Writer.state c.write_leaf.new.writer)) (sym leaf_is) c.in_err-root.ensures.err)
+
+pub returns-then-items-clause-ok : goal.returns-then-items-clause-ok
+returns-then-items-clause-ok g t c =
+    let s = g.W.Writer.state c.args.writer.now in
+    let E = g.row.E in
+    let nodes = layout_of g.K.Portable.kind g.V.Portable.kind E in
+    let own = now_of {M = g.row.KU.Denot} {N = g.row.VU.Denot} in
+    let items = c.args.items.now in
+    let room = room_of _ _ g.row.E g.met.K.Portable.laws g.met.V.Portable.laws c.requires.fitting in
+    let leaf_is = alone_leaf E own items room.some (not-empty (length items) c.if-is_empty.ensures) (omega arith) in
+    subst (λ z. ChildWritten nodes g.KU.Archive.archival g.VU.Archive.archival s z (Some c.in_ok-root.root) (g.W.Writer.state c.write_leaf.new.writer)) (sym leaf_is)
+    (c.in_ok-root.root, c.in_ok-root.ensures.ok, refl)
+
+pub returns-in_err-child-clause-err : goal.returns-in_err-child-clause-err
+returns-in_err-child-clause-err g t c =
+    let s = g.W.Writer.state c.args.writer.now in
+    let E = g.row.E in
+    let nodes = layout_of g.K.Portable.kind g.V.Portable.kind E in
+    let own = now_of {M = g.row.KU.Denot} {N = g.row.VU.Denot} in
+    let items = c.args.items.now in
+    let room = room_of _ _ g.row.E g.met.K.Portable.laws g.met.V.Portable.laws c.requires.fitting in
+    let base = c.child_base-base.result in
+    let start = c.loop-left.start in
+    let before = c.loop-left.invariant in
+    let inner_is = alone_inner E base own items room.some c.if-items.false c.child_base-base.ensures.value in
+    let took = c.min-taken.result in
+    let end = start + (base - 1 + took) in
+    let size = end - start in
+    let few : took ≤ c.loop-left.on_last = omega (arith, c.min-taken.ensures) in
+    let inside : end < length items = turn-inside (length items) start c.loop-left.left base c.loop-left.on_last took before.rest c.loop-left-test.true c.child_base-base.ensures.positive few in
+    let size_is : size ≡ (base - 1) + took = omega arith in
+    let p = err_from_is_err_and c.from_residual-in_err-child.result c.from_residual-in_err-child.ensures.1 in
+    rw (p.1, p.2) (subst (λ z. ChildStopped nodes g.KU.Archive.archival g.VU.Archive.archival s z c.in_err-child.field-0.0 (g.W.Writer.state c.write_child.new.writer)) (sym inner_is)
+    (row-stopped nodes g.KU.Archive.archival g.VU.Archive.archival
+    (turn-so-far nodes g.KU.Archive.archival g.VU.Archive.archival own (planned_alone E) base (E * base) c.loop-left.on_last c.loop-left.left start size took end items (some_item items (omega arith)) c.loop-left-test.true c.min-taken.ensures size_is (omega arith) inside before.row)
+    c.in_err-child.ensures.err))
+
+pub loop-left-preserved : goal.loop-left-preserved
+loop-left-preserved g t c =
+    let E = g.row.E in
+    let nodes = layout_of g.K.Portable.kind g.V.Portable.kind E in
+    let own = now_of {M = g.row.KU.Denot} {N = g.row.VU.Denot} in
+    let items = c.args.items.now in
+    let base = c.child_base-base.result in
+    let start = c.loop-left.start in
+    let before = c.loop-left.invariant in
+    let took = c.min-taken.result in
+    let end = start + (base - 1 + took) in
+    let size = end - start in
+    let few : took ≤ c.loop-left.on_last = omega (arith, c.min-taken.ensures) in
+    let inside : end < length items = turn-inside (length items) start c.loop-left.left base c.loop-left.on_last took before.rest c.loop-left-test.true c.child_base-base.ensures.positive few in
+    let size_is : size ≡ (base - 1) + took = omega arith in
+    let waiting_low : c.len-first.result ≤ length c.loop-left.waiting.items = omega (arith, before.waiting_count, before.left) in
+    let children_low : c.len-first_child.result ≤ length c.loop-left.children.items = omega (arith, before.child_count, before.left) in
+    let waiting_more : length c.push-in-loop-left.new.values.items ≡ length c.loop-left.waiting.items + 1 = length-pushed c.loop-left.waiting.items _ _ _ c.in_ok-child.ensures.kept.0 c.push-in-loop-left.ensures.items in
+    let children_more : length c.push.new.values.items ≡ length c.loop-left.children.items + 1 = length-pushed c.loop-left.children.items _ _ _ c.in_ok-child.ensures.kept.1 c.push.ensures.items in
+    record {
+      row =
+          let more = row-more nodes g.KU.Archive.archival g.VU.Archive.archival c.in_ok-child.child
+          (turn-so-far nodes g.KU.Archive.archival g.VU.Archive.archival own (planned_alone E) base (E * base) c.loop-left.on_last c.loop-left.left start size took end items _ c.loop-left-test.true c.min-taken.ensures size_is (omega arith) inside before.row)
+          c.in_ok-child.ensures.ok in
+          so-far-as nodes g.KU.Archive.archival g.VU.Archive.archival more
+          (ap (map own) (drop-push c.len-first.result c.loop-left.waiting.items c.push-in-loop-left.new.values.items _ _ waiting_low c.in_ok-child.ensures.kept.0 c.push-in-loop-left.ensures.items) ∙ map_push own _ _ ∙ ap (λ x. map own (drop c.len-first.result c.loop-left.waiting.items) ++ own x ∷ []) c.index-items-end.is)
+          (drop-push c.len-first_child.result c.loop-left.children.items c.push.new.values.items _ _ children_low c.in_ok-child.ensures.kept.1 c.push.ensures.items);
+      left = omega arith;
+      rest = turn-rest (length items) start c.loop-left.left base c.loop-left.on_last took before.rest c.loop-left-test.true c.child_base-base.ensures.positive few;
+      on_last = less_on_last c.loop-left.left c.loop-left.on_last (E * base) took c.min-taken.ensures c.loop-left-test.true before.on_last;
+      passed = omega (arith, before.passed, c.loop-left-test.true);
+      waiting = take-push c.len-first.result c.loop-left.waiting.items c.push-in-loop-left.new.values.items _ _ _ waiting_low c.in_ok-child.ensures.kept.0 c.push-in-loop-left.ensures.items before.waiting;
+      children = take-push c.len-first_child.result c.loop-left.children.items c.push.new.values.items _ _ _ children_low c.in_ok-child.ensures.kept.1 c.push.ensures.items before.children;
+      waiting_count = omega (arith, waiting_more, before.waiting_count);
+      child_count = omega (arith, children_more, before.child_count);
+      free = c.in_ok-child.ensures.free;
+      waiting_room = omega (arith, before.waiting_room, c.in_ok-child.ensures.room.0, c.push-in-loop-left.ensures.capacity);
+      child_room = omega (arith, before.child_room, c.in_ok-child.ensures.room.1, c.push.ensures.capacity);
+    }
+
+pub returns-in_err-last-clause-err : goal.returns-in_err-last-clause-err
+returns-in_err-last-clause-err g t c =
+    let s = g.W.Writer.state c.args.writer.now in
+    let E = g.row.E in
+    let nodes = layout_of g.K.Portable.kind g.V.Portable.kind E in
+    let own = now_of {M = g.row.KU.Denot} {N = g.row.VU.Denot} in
+    let items = c.args.items.now in
+    let room = room_of _ _ g.row.E g.met.K.Portable.laws g.met.V.Portable.laws c.requires.fitting in
+    let base = c.child_base-base.result in
+    let start = c.loop-left.start in
+    let before = c.loop-left.invariant in
+    let inner_is = alone_inner E base own items room.some c.if-items.false c.child_base-base.ensures.value in
+    let so_far = last-so-far nodes g.KU.Archive.archival g.VU.Archive.archival own (planned_alone E) base (E * base) c.loop-left.on_last c.loop-left.left start items c.loop-left-test.false before.row in
+    let p = err_from_is_err_and c.from_residual-in_err-last.result c.from_residual-in_err-last.ensures.1 in
+    rw (p.1, p.2) (subst (λ z. ChildStopped nodes g.KU.Archive.archival g.VU.Archive.archival s z c.in_err-last.field-0.0 (g.W.Writer.state c.write_child-2.new.writer)) (sym inner_is)
+    (last-stopped nodes g.KU.Archive.archival g.VU.Archive.archival so_far c.in_err-last.ensures.err))
+
+pub returns-in_err-root-2-clause-err : goal.returns-in_err-root-2-clause-err
+returns-in_err-root-2-clause-err g t c =
+    let s = g.W.Writer.state c.args.writer.now in
+    let E = g.row.E in
+    let nodes = layout_of g.K.Portable.kind g.V.Portable.kind E in
+    let own = now_of {M = g.row.KU.Denot} {N = g.row.VU.Denot} in
+    let items = c.args.items.now in
+    let room = room_of _ _ g.row.E g.met.K.Portable.laws g.met.V.Portable.laws c.requires.fitting in
+    let base = c.child_base-base.result in
+    let start = c.loop-left.start in
+    let before = c.loop-left.invariant in
+    let inner_is = alone_inner E base own items room.some c.if-items.false c.child_base-base.ensures.value in
+    let so_far = last-so-far nodes g.KU.Archive.archival g.VU.Archive.archival own (planned_alone E) base (E * base) c.loop-left.on_last c.loop-left.left start items c.loop-left-test.false before.row in
+    let here = so-far-as nodes g.KU.Archive.archival g.VU.Archive.archival so_far
+    (ap (map own) (take_rest c.deref.result.now c.len-first.result ∙ ap (drop c.len-first.result) (c.deref.ensures.value ∙ c.in_ok-last.ensures.kept.0)))
+    (take_rest c.deref-2.result.now c.len-first_child.result ∙ ap (drop c.len-first_child.result) (c.deref-2.ensures.value ∙ c.in_ok-last.ensures.kept.1)) in
+    let p = err_from_is_err_and c.from_residual-in_err-root-2.result c.from_residual-in_err-root-2.ensures.1 in
+    rw (p.1, p.2) (subst (λ z. ChildStopped nodes g.KU.Archive.archival g.VU.Archive.archival s z c.in_err-root-2.field-0.0 (g.W.Writer.state c.write_inner.new.writer)) (sym inner_is)
+    (inner-stopped nodes g.KU.Archive.archival g.VU.Archive.archival c.in_ok-last.last here c.in_ok-last.ensures.ok c.in_err-root-2.ensures.err))
+
+pub returns-clause-ok : goal.returns-clause-ok
+returns-clause-ok g t c =
+    let s = g.W.Writer.state c.args.writer.now in
+    let E = g.row.E in
+    let nodes = layout_of g.K.Portable.kind g.V.Portable.kind E in
+    let own = now_of {M = g.row.KU.Denot} {N = g.row.VU.Denot} in
+    let items = c.args.items.now in
+    let room = room_of _ _ g.row.E g.met.K.Portable.laws g.met.V.Portable.laws c.requires.fitting in
+    let base = c.child_base-base.result in
+    let start = c.loop-left.start in
+    let before = c.loop-left.invariant in
+    let inner_is = alone_inner E base own items room.some c.if-items.false c.child_base-base.ensures.value in
+    let so_far = last-so-far nodes g.KU.Archive.archival g.VU.Archive.archival own (planned_alone E) base (E * base) c.loop-left.on_last c.loop-left.left start items c.loop-left-test.false before.row in
+    let here = so-far-as nodes g.KU.Archive.archival g.VU.Archive.archival so_far
+    (ap (map own) (take_rest c.deref.result.now c.len-first.result ∙ ap (drop c.len-first.result) (c.deref.ensures.value ∙ c.in_ok-last.ensures.kept.0)))
+    (take_rest c.deref-2.result.now c.len-first_child.result ∙ ap (drop c.len-first_child.result) (c.deref-2.ensures.value ∙ c.in_ok-last.ensures.kept.1)) in
+    subst (λ z. ChildWritten nodes g.KU.Archive.archival g.VU.Archive.archival s z (Some c.in_ok-root-2.root) (g.W.Writer.state c.write_inner.new.writer)) (sym inner_is)
+    (inner-written nodes g.KU.Archive.archival g.VU.Archive.archival c.in_ok-last.last c.in_ok-root-2.root here c.in_ok-last.ensures.ok c.in_ok-root-2.ensures.ok)
+
+pub push-requires : goal.push-requires
+push-requires g t c =
+    let E = g.row.E in
+    let items = c.args.items.now in
+    let room = room_of _ _ g.row.E g.met.K.Portable.laws g.met.V.Portable.laws c.requires.fitting in
+    let base = c.child_base-base.result in
+    let start = c.loop-left.start in
+    let before = c.loop-left.invariant in
+    let took = c.min-taken.result in
+    let end = start + (base - 1 + took) in
+    let size = end - start in
+    let size_is : size ≡ (base - 1) + took = omega arith in
+    let wait = waiting E (length items) size base room.some c.if-items.false c.child_base-base.ensures.value (subst (λ n. n < base * (E + 1)) (sym size_is) (child_small base E c.loop-left.on_last took c.min-taken.ensures c.child_base-base.ensures.positive)) in
+    omega (arith, wait, before.child_count, before.left, before.child_room, c.requires.child_room, ap length c.in_ok-child.ensures.kept.1, c.in_ok-child.ensures.room.1, c.loop-left-test.true)
+
+pub bounds-items-end : goal.bounds-items-end
+bounds-items-end g t c =
+    let items = c.args.items.now in
+    let base = c.child_base-base.result in
+    let start = c.loop-left.start in
+    let before = c.loop-left.invariant in
+    let took = c.min-taken.result in
+    let end = start + (base - 1 + took) in
+    let few : took ≤ c.loop-left.on_last = omega (arith, c.min-taken.ensures) in
+    let inside : end < length items = turn-inside (length items) start c.loop-left.left base c.loop-left.on_last took before.rest c.loop-left-test.true c.child_base-base.ensures.positive few in
+    inside
+
+pub push-requires-in-loop-left : goal.push-requires-in-loop-left
+push-requires-in-loop-left g t c =
+    let E = g.row.E in
+    let items = c.args.items.now in
+    let room = room_of _ _ g.row.E g.met.K.Portable.laws g.met.V.Portable.laws c.requires.fitting in
+    let base = c.child_base-base.result in
+    let start = c.loop-left.start in
+    let before = c.loop-left.invariant in
+    let took = c.min-taken.result in
+    let end = start + (base - 1 + took) in
+    let size = end - start in
+    let size_is : size ≡ (base - 1) + took = omega arith in
+    let wait = waiting E (length items) size base room.some c.if-items.false c.child_base-base.ensures.value (subst (λ n. n < base * (E + 1)) (sym size_is) (child_small base E c.loop-left.on_last took c.min-taken.ensures c.child_base-base.ensures.positive)) in
+    omega (arith, wait, before.waiting_count, before.left, before.waiting_room, c.requires.waiting_room, ap length c.in_ok-child.ensures.kept.0, c.in_ok-child.ensures.room.0, c.loop-left-test.true)
+
+pub write_child-requires : goal.write_child-requires
+write_child-requires g t c κs within =
+    let E = g.row.E in
+    let items = c.args.items.now in
+    let room = room_of _ _ g.row.E g.met.K.Portable.laws g.met.V.Portable.laws c.requires.fitting in
+    let base = c.child_base-base.result in
+    let start = c.loop-left.start in
+    let before = c.loop-left.invariant in
+    let took = c.min-taken.result in
+    let end = start + (base - 1 + took) in
+    let size = end - start in
+    let few : took ≤ c.loop-left.on_last = omega (arith, c.min-taken.ensures) in
+    let inside : end < length items = turn-inside (length items) start c.loop-left.left base c.loop-left.on_last took before.rest c.loop-left-test.true c.child_base-base.ensures.positive few in
+    let size_is : size ≡ (base - 1) + took = omega arith in
+    let part = take size (drop start items) in
+    let len : length part ≡ (base - 1) + took = omega (arith, length-take size (drop start items), length-drop start items, inside, size_is) in
+    let small : length part < base * (E + 1) = subst (λ n. n < base * (E + 1)) (sym len) (child_small base E c.loop-left.on_last took c.min-taken.ensures c.child_base-base.ensures.positive) in
+    let wait = waiting E (length items) (length part) base room.some c.if-items.false c.child_base-base.ensures.value small in (
+      omega (arith, len, inside),
+      (
+        within.0,
+        (
+          within.1.0,
+          (
+            within.1.1.0,
+            (
+              within.1.1.1.0,
+              (
+                within.1.1.1.1.0,
+                (
+                  within.1.1.1.1.1.0,
+                  (
+                    λ a m. absurd (not-mem-nil m),
+                    (
+                      within.1.1.1.1.1.1.0,
+                      (
+                        within.1.1.1.1.1.1.1.0,
+                        (
+                          within.1.1.1.1.1.1.1.1,
+                          (
+                            c.requires.fitting,
+                            (
+                              omega (arith, len, inside, c.requires.count),
+                              (
+                                before.free,
+                                (
+                                  omega (arith, wait, before.waiting_count, before.waiting_room, c.requires.waiting_room, c.loop-left-test.true),
+                                  omega (arith, wait, before.child_count, before.child_room, c.requires.child_room, c.loop-left-test.true),
+                                ),
+                              ),
+                            ),
+                          ),
+                        ),
+                      ),
+                    ),
+                  ),
+                ),
+              ),
+            ),
+          ),
+        ),
+      ),
+    )
+
+pub write_child-requires-2 : goal.write_child-requires-2
+write_child-requires-2 g t c κs within =
+    let E = g.row.E in
+    let items = c.args.items.now in
+    let room = room_of _ _ g.row.E g.met.K.Portable.laws g.met.V.Portable.laws c.requires.fitting in
+    let base = c.child_base-base.result in
+    let start = c.loop-left.start in
+    let before = c.loop-left.invariant in
+    let part = take (length items - start) (drop start items) in
+    let rest : length items + 1 ≡ start + ((0 + 1) * base + c.loop-left.on_last) = last_rest c.loop-left.left start (length items) base c.loop-left.on_last c.loop-left-test.false before.rest in
+    let fits : c.loop-left.on_last ≤ E * base = last_fits c.loop-left.left c.loop-left.on_last (E * base) c.loop-left-test.false before.on_last in
+    let len : length part ≡ length items - start = omega (arith, length-take (length items - start) (drop start items), length-drop start items) in
+    let passed : 0 < start = omega (arith, before.passed, c.loop-left-test.false, room.some) in
+    let small : length part < base * (E + 1) = omega (arith, len, rest, fits, c.child_base-base.ensures.positive) in
+    let wait = waiting E (length items) (length part) base room.some c.if-items.false c.child_base-base.ensures.value small in (
+      omega (arith, len, passed),
+      (
+        within.0,
+        (
+          within.1.0,
+          (
+            within.1.1.0,
+            (
+              within.1.1.1.0,
+              (
+                within.1.1.1.1.0,
+                (
+                  within.1.1.1.1.1.0,
+                  (
+                    λ a m. absurd (not-mem-nil m),
+                    (
+                      within.1.1.1.1.1.1.0,
+                      (
+                        within.1.1.1.1.1.1.1.0,
+                        (
+                          within.1.1.1.1.1.1.1.1,
+                          (
+                            c.requires.fitting,
+                            (
+                              omega (arith, len, passed, c.requires.count),
+                              (
+                                before.free,
+                                (
+                                  omega (arith, wait, before.waiting_count, before.waiting_room, c.requires.waiting_room, c.loop-left-test.false),
+                                  omega (arith, wait, before.child_count, before.child_room, c.requires.child_room, c.loop-left-test.false),
+                                ),
+                              ),
+                            ),
+                          ),
+                        ),
+                      ),
+                    ),
+                  ),
+                ),
+              ),
+            ),
+          ),
+        ),
+      ),
+    )

@@ -1,0 +1,42 @@
+use Rattle.std.proofs.Common.{◌∙◌, ◌+◌, ◌<◌, ℕ, map, refl, ap, sym, subst, arith}
+use Rattle.std.proofs.lemmas.Result.{err_from_is_err_and}
+use Rattle.rkyv_btree_writer.specs.Padding.{padding}
+use Rattle.rkyv_btree_format.proofs.Sizes.{room_of}
+use Rattle.rkyv_btree_format.specs.Layout.{layout_of}
+use Rattle.rkyv_btree_portable.specs.Rounding.{round_up}
+use Rattle.rkyv_btree_image.specs.Entries.{now_of}
+use Rattle.rkyv_btree_image.specs.Written.{IsPadded, in_padding, past_end}
+use Rattle.rkyv_btree_writer.specs.Writing.{Wrote, Stopped, position, last_end}
+use Rattle.rkyv_btree_archive.proofs.writes.begin_node.Goals as goal
+use Rattle.rkyv_btree_archive.proofs.writes.begin_node.Goals.{then-pos-gt-LAST_END-via-then-pos-gt-LAST_END, then-pos-gt-LAST_END-via-else-pos-gt-LAST_END+then-from-pos}
+
+pub returns-in_err-pos-clause-err : goal.returns-in_err-pos-clause-err
+returns-in_err-pos-clause-err g c =
+    let mid = g.W.Writer.state c.serialize_entries.new.writer in
+    let p = err_from_is_err_and c.from_residual-in_err-pos.result c.from_residual-in_err-pos.ensures.1 in
+    rw (p.1, p.2) (λ image. in_padding c.serialize_entries.new.keys.items c.serialize_entries.new.values.items mid c.in_ok-serialize_entries.ensures.ok (subst (λ (n : ℕ). Stopped mid (padding n (position mid)) c.in_err-pos.field-0.0 (g.W.Writer.state c.pad.new.writer)) c.align.ensures.value c.in_err-pos.ensures.err))
+
+pub returns-then-pos-gt-LAST_END-clause-err : goal.returns-then-pos-gt-LAST_END-clause-err
+returns-then-pos-gt-LAST_END-clause-err g c image =
+    let mid = g.W.Writer.state c.serialize_entries.new.writer in
+    let to = g.W.Writer.state c.pad.new.writer in
+    let keys = c.serialize_entries.new.keys.items in
+    let values = c.serialize_entries.new.values.items in
+    let padded : IsPadded (layout_of g.K.Portable.kind g.V.Portable.kind g.row.E) g.KU.Archive.archival g.VU.Archive.archival (g.W.Writer.state c.args.writer.now) (map now_of c.args.entries.now) keys values to = record {
+      mid = mid;
+      serialised = c.in_ok-serialize_entries.ensures.ok;
+      padded = subst (λ (n : ℕ). Wrote mid (padding n (position mid)) to) c.align.ensures.value c.in_ok-pos.ensures.ok;
+      place = sym c.in_ok-pos.ensures.end ∙ (c.in_ok-pos.ensures.pos ∙ ap (round_up (position mid)) c.align.ensures.value);
+    } in
+    let past : last_end < position to + c.args.size =
+    elim c.then-pos-gt-LAST_END.branch [
+      | then-pos-gt-LAST_END-via-then-pos-gt-LAST_END w ↦ omega (arith, c.in_ok-pos.ensures.end)
+      | then-pos-gt-LAST_END-via-else-pos-gt-LAST_END+then-from-pos w ↦ omega (arith, c.in_ok-pos.ensures.end)
+    ] in
+    past_end keys values padded refl past
+
+pub serialize_entries-requires-clause-fits_key : goal.serialize_entries-requires-clause-fits_key
+serialize_entries-requires-clause-fits_key g c = (room_of _ _ g.row.E g.met.K.Portable.laws g.met.V.Portable.laws c.requires.fitting).key
+
+pub serialize_entries-requires-clause-fits_value : goal.serialize_entries-requires-clause-fits_value
+serialize_entries-requires-clause-fits_value g c = (room_of _ _ g.row.E g.met.K.Portable.laws g.met.V.Portable.laws c.requires.fitting).value

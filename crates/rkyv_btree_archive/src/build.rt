@@ -1,0 +1,344 @@
+//! Building archived maps.
+ghost use Rattle.std.specs.Prelude.{◌≡◌, ℕ, ◌+◌, ◌*◌, ◌<◌, ◌≤◌, ◌↔◌, [], length, true, false, vec_capacity, alloc_error, IsOk, OnOk, OnErr, IfOk, IfErr, IsErrOf, IsTrue};
+ghost use Rattle.std.specs.Iterator.{Yields, Drains, IsFinite, UpTo, size};
+ghost use Rattle.rkyv_btree_writer.specs.Archiving.{BeginsWith};
+ghost use Rattle.rkyv_btree_image.specs.Archives.{SerialisedIsAccepted, EmptyIsAccepted};
+ghost use Rattle.rkyv_btree_image.specs.Alike.{TreesAreDetermined};
+ghost use Rattle.rkyv_btree_image.specs.Image.{root_bytes, root_reaches, root_image};
+ghost use Rattle.rkyv_btree_format.specs.Layout.{layout_of, are_fitting};
+ghost use Rattle.rkyv_btree_shape.specs.Logarithm.{ilog};
+ghost use Rattle.rkyv_btree_portable.specs.Rounding.{round_up};
+ghost use Rattle.rkyv_btree_archive.specs.mirror.Scratch.{IsFree, IsReserved};
+ghost use Rattle.rkyv_btree_image.specs.Kept.{NeverGrows, OnlyAppended};
+ghost use Rattle.rkyv_btree_image.specs.Miscounts.{IsMiscount};
+ghost use Rattle.rkyv_btree_image.specs.Serialising.{Serialised, BuildFault, BuildsTree, FailsToBuild, RootFault};
+ghost use Rattle.rkyv_btree_writer.specs.Writing.{position, Wrote, last_end};
+
+use crate::archive::{Archive, Serialize};
+use crate::map::ArchivedBTreeMap;
+use crate::tree::{push, write_child};
+use crate::writes::Scratch;
+use rkyv_btree_format::layout;
+use rkyv_btree_portable::check::Portable;
+use rkyv_btree_shape::height::entries_to_height;
+use rkyv_btree_writer::fault::{Fault, IteratorLengthMismatch, ResolveFault};
+use rkyv_btree_writer::place::{Place, Writer, write_offset};
+use rkyv_btree_writer::writes::{LAST_END, pad, put};
+use std::alloc::{AllocError, Allocator};
+use std::collections::VecDeque;
+use std::marker::Model;
+
+/// Where the root node of a serialised map stands. That of an empty map stands for position 0.
+#[derive(Drop)]
+pub struct BTreeMapResolver {
+    pub(crate) root: u32,
+}
+
+impl Model for BTreeMapResolver {
+    ghost Value = { ℕ };
+
+    ghost view = { λ r. r.root };
+}
+
+/// How many entries wait at most, on all levels together, until their nodes' children are written.
+fn waiting<K: Portable, V: Portable, const E: usize>(len: usize) -> usize
+    requires fitting { IsTrue (are_fitting K.kind V.kind E) }
+    requires some { 0 < len }
+    requires small { len ≤ 4294967295 }
+    ensures { result ≡ E * ilog (E + 1) len }
+{
+    E * (entries_to_height::<E>(len as u64) as usize - 1)
+}
+
+/// Takes items until there are `count`, and answers whether the iterator gave that many.
+fn take_items<'x, M, N, A: Allocator, I: Iterator<Item = (&'x M, &'x N)>>(
+    items: &mut Vec<(&'x M, &'x N), A>,
+    count: usize,
+    iter: &mut I,
+) -> bool
+    requires empty { items.old.items ≡ [] }
+    requires room { count ≤ vec_capacity items.old }
+    requires can { I.can_next iter.old }
+    requires ends { IsFinite (I.remaining iter.old) }
+    ensures all { result ≡ true → Yields I.next_gives iter.old items.new.items iter.new }
+    ensures few { result ≡ false → Drains I.next_gives iter.old items.new.items }
+    ensures len { result ≡ true → length items.new.items ≡ count }
+    ensures short { result ≡ false → length items.new.items < count }
+    ensures can { result ≡ true → I.can_next iter.new }
+    ensures ends { result ≡ true → IsFinite (I.remaining iter.new) }
+    ensures left { result ≡ true →
+        size (I.remaining iter.new) + count ≤ size (I.remaining iter.old) }
+{
+    while items.len() < count {
+        match iter.next() {
+            Some(item) => push(items, item),
+            None => return false,
+        }
+    }
+    true
+}
+
+/// What building takes: what writing a node takes, and lists of the entries and children that wait for their nodes, and of
+/// the items.
+#[derive(Drop)]
+struct Reserved<'x, KU: Archive, VU: Archive, A: Allocator> {
+    scratch: Scratch<KU::Resolver, VU::Resolver, A>,
+    waiting: Vec<(&'x KU, &'x VU), A>,
+    children: Vec<Option<u32>, A>,
+    items: Vec<(&'x KU, &'x VU), A>,
+}
+
+/// Reserves all memory that building takes of so many items, but for what their own serialising takes.
+fn reserve<'x, KU, VU, K, V, A, const E: usize>(
+    alloc: A,
+    len: usize,
+) -> Result<Reserved<'x, KU, VU, A>, AllocError>
+where
+    KU: Archive<Archived = K> + 'x,
+    VU: Archive<Archived = V> + 'x,
+    K: Portable,
+    V: Portable,
+    A: Allocator + Copy,
+    requires fitting { IsTrue (are_fitting K.kind V.kind E) }
+    requires some { 0 < len }
+    requires small { len ≤ 4294967295 }
+    ensures free { IfOk result (λ it. IsFree (layout_of K.kind V.kind E) it.scratch) }
+    ensures waiting { IfOk result (λ it. IsReserved it.waiting (E * ilog (E + 1) len)) }
+    ensures children { IfOk result (λ it. IsReserved it.children (E * ilog (E + 1) len)) }
+    ensures items { IfOk result (λ it. IsReserved it.items len) }
+{
+    let waiting = waiting::<K, V, E>(len);
+    Ok(Reserved {
+        scratch: Scratch {
+            node: Vec::with_capacity(alloc, layout::inner_size::<K, V, E>() as usize)?,
+            keys: VecDeque::with_capacity(alloc, E)?,
+            values: VecDeque::with_capacity(alloc, E)?,
+        },
+        waiting: Vec::with_capacity(alloc, waiting)?,
+        children: Vec::with_capacity(alloc, waiting)?,
+        items: Vec::with_capacity(alloc, len)?,
+    })
+}
+
+/// Writes the tree of an iterator's items, which are claimed to be `len`, and answers where its root node stands.
+fn build_some<'x, KU, VU, K, V, W, A, I, const E: usize>(
+    alloc: A,
+    len: usize,
+    mut iter: I,
+    writer: &mut W,
+) -> Result<BTreeMapResolver, Fault<W::Error>>
+where
+    KU: Archive<Archived = K> + Serialize<W, A> + 'x,
+    VU: Archive<Archived = V> + Serialize<W, A> + 'x,
+    K: Portable,
+    V: Portable,
+    W: Writer,
+    A: Allocator + Copy,
+    I: Iterator<Item = (&'x KU, &'x VU)>,
+    requires fitting { IsTrue (are_fitting K.kind V.kind E) }
+    requires some { 0 < len }
+    requires small { len ≤ 4294967295 }
+    requires can { I.can_next iter }
+    requires ends { UpTo (I.remaining iter) 18446744073709551615 }
+    ensures ok { IfOk result (λ resolver.
+        Serialised K.kind V.kind E KU.archival VU.archival I.next_gives iter len
+        (W.state writer.old) resolver (W.state writer.new)) }
+    ensures err { IfErr result (λ fault.
+        BuildFault K.kind V.kind E KU.archival VU.archival I.next_gives iter len
+        (W.state writer.old) fault (W.state writer.new)) }
+    ensures went { OnOk result (OnlyAppended (W.state writer.old) (W.state writer.new)) }
+    ensures memory { NeverGrows KU.archival → NeverGrows VU.archival →
+        IsErrOf result (Fault.Memory alloc_error) → W.state writer.new ≡ W.state writer.old }
+    ensures kept { OnErr result (BeginsWith (W.state writer.new) (W.state writer.old)) }
+    ensures end { OnOk result (position (W.state writer.new) ≤ last_end) }
+{
+    let Ok(lists) = reserve::<KU, VU, K, V, A, E>(alloc, len) else {
+        return Err(Fault::Memory(AllocError));
+    };
+    let Reserved {
+        mut scratch,
+        mut waiting,
+        mut children,
+        mut items,
+    } = lists;
+    if !take_items(&mut items, len, &mut iter) {
+        return Err(Fault::Length(IteratorLengthMismatch {
+            expected: len,
+            actual: items.len(),
+        }));
+    }
+    let root = write_child::<KU, VU, K, V, W, A, E>(
+        alloc,
+        &mut scratch,
+        &mut waiting,
+        &mut children,
+        &items,
+        writer,
+    )?;
+    let more = iter.count();
+    if more != 0 {
+        return Err(Fault::Length(IteratorLengthMismatch {
+            expected: len,
+            actual: len + more,
+        }));
+    }
+    Ok(BTreeMapResolver {
+        root: root.unwrap_or(0),
+    })
+}
+
+impl<K: Portable, V: Portable, const E: usize> ArchivedBTreeMap<K, V, E> {
+    /// Serialises the items of an iterator, in their order, as the tree of a map, and answers where its root node
+    /// stands. `len` is the claimed number of items. Before a node stands what its entries write, each key before its
+    /// value.
+    ///
+    /// A claim past 32 bits is refused before an item is taken. All memory is reserved before the first byte is
+    /// written. After an error the writer's contents begin with the old ones, and no resolver comes out; after a
+    /// refused growth they are unchanged, unless a key or value asked for it. Too many items are refused with all of
+    /// them counted. `next` isn't called again once it has answered `None`.
+    pub fn serialize_from_ordered_iter<'x, KU, VU, W, A, I>(
+        alloc: A,
+        len: usize,
+        iter: I,
+        writer: &mut W,
+    ) -> Result<BTreeMapResolver, Fault<W::Error>>
+    where
+        KU: Archive<Archived = K> + Serialize<W, A> + 'x,
+        VU: Archive<Archived = V> + Serialize<W, A> + 'x,
+        W: Writer,
+        A: Allocator + Copy,
+        I: Iterator<Item = (&'x KU, &'x VU)>,
+        requires fitting { IsTrue (are_fitting K.kind V.kind E) }
+        requires can { I.can_next iter }
+        requires ends { UpTo (I.remaining iter) 18446744073709551615 }
+        ensures ok { IfOk result
+            (BuildsTree K.kind V.kind E KU.archival VU.archival I.next_gives iter len
+            W.state writer.old writer.new) }
+        ensures err { IfErr result
+            (FailsToBuild K.kind V.kind E KU.archival VU.archival I.next_gives iter len
+            W.state writer.old writer.new) }
+        ensures end { OnOk result (0 < len → position (W.state writer.new) ≤ last_end) }
+        // On success no write failed, and nothing but bytes behind the old ones has changed.
+        ensures went { OnOk result (OnlyAppended (W.state writer.old) (W.state writer.new)) }
+        // Whatever refuses, what the writer held stays in front.
+        ensures kept { OnErr result (BeginsWith (W.state writer.new) (W.state writer.old)) }
+        // Where no entry asks for memory, a refused growth leaves the writer as it was.
+        ensures memory { NeverGrows KU.archival → NeverGrows VU.archival →
+            IsErrOf result (Fault.Memory alloc_error) → W.state writer.new ≡ W.state writer.old }
+        // A claim past 32 bits is refused as that, whatever else there is, and nothing is written.
+        ensures past { last_end < len → IsErrOf result Fault.LengthOverflow }
+        ensures past_kept { last_end < len → W.state writer.new ≡ W.state writer.old }
+        // A claim of nothing is refused for items that come, and for nothing else.
+        ensures none { len ≡ 0 → IfErr result IsMiscount }
+        ensures none_kept { len ≡ 0 → W.state writer.new ≡ W.state writer.old }
+    {
+        if len > LAST_END as usize {
+            return Err(Fault::LengthOverflow);
+        }
+        if len == 0 {
+            let actual = iter.count();
+            if actual != 0 {
+                return Err(Fault::Length(IteratorLengthMismatch {
+                    expected: 0,
+                    actual,
+                }));
+            }
+            return Ok(BTreeMapResolver { root: 0 });
+        }
+        build_some::<KU, VU, K, V, W, A, I, E>(alloc, len, iter, writer)
+    }
+}
+
+/// Writes a map's eight bytes at a position.
+pub(crate) fn fill_root(
+    pos: u32,
+    bytes: &mut [u8],
+    len: usize,
+    root: u32,
+) -> Result<(), ResolveFault>
+    requires { length bytes.old ≡ 8 }
+    ensures ok { OnOk result (bytes.new ≡ root_bytes pos root len) }
+    ensures err { OnErr result (bytes.new ≡ bytes.old) }
+    ensures fits { IsOk result ↔ ((len ≤ last_end) × (root_reaches pos root len ≡ true)) }
+    ensures length { IsErrOf result ResolveFault.LengthOverflow ↔ (last_end < len) }
+{
+    let Ok(count) = u32::try_from(len) else {
+        return Err(ResolveFault::LengthOverflow);
+    };
+    let mut pointer = [1, 0, 0, 0];
+    if len != 0 {
+        if write_offset(pos, root, &mut pointer).is_err() {
+            return Err(ResolveFault::OffsetOverflow);
+        }
+    }
+    let (front, back) = bytes.split_at_mut(4);
+    front.copy_from_slice(&pointer);
+    back.copy_from_slice(&count.to_le_bytes());
+    Ok(())
+}
+
+impl<K, V, const E: usize> ArchivedBTreeMap<K, V, E> {
+    /// Writes the map over a root node that was serialised for `len` entries. An `Err` leaves the place as it was.
+    pub fn resolve_from_len(
+        len: usize,
+        resolver: BTreeMapResolver,
+        out: Place<'_, ArchivedBTreeMap<K, V, E>>,
+    ) -> Result<(), ResolveFault>
+        requires { length out.bytes.now ≡ 8 }
+        ensures ok { OnOk result (out.exit.1.0.now ≡ root_bytes out.entry.pos resolver len) }
+        ensures err { OnErr result (out.exit.1.0.now ≡ out.entry.bytes.now) }
+        ensures fits { IsOk result
+            ↔ ((len ≤ last_end) × (root_reaches out.entry.pos resolver len ≡ true)) }
+        ensures length { IsErrOf result ResolveFault.LengthOverflow ↔ (last_end < len) }
+    {
+        let Place { pos, bytes, of: _ } = out;
+        fill_root(pos, bytes, len, resolver.root)
+    }
+
+    /// Writes the map behind zeros up to a multiple of 4, and answers its position. After an error what was written
+    /// stays.
+    pub fn write_root<W: Writer>(
+        len: usize,
+        resolver: BTreeMapResolver,
+        writer: &mut W,
+    ) -> Result<u32, Fault<W::Error>>
+        ensures pos { IfOk result (λ pos. pos ≡ round_up (position (W.state writer.old)) 4) }
+        ensures ok { OnOk result
+            (Wrote (W.state writer.old)
+            (root_image (position (W.state writer.old)) resolver len) (W.state writer.new)) }
+        ensures last { OnOk result (position (W.state writer.new) ≤ last_end) }
+        ensures len { OnOk result (len ≤ last_end) }
+        ensures went { OnOk result (OnlyAppended (W.state writer.old) (W.state writer.new)) }
+        ensures kept { OnErr result (BeginsWith (W.state writer.new) (W.state writer.old)) }
+        ensures err { IfErr result (λ fault.
+            RootFault resolver len (W.state writer.old) fault (W.state writer.new)) }
+    {
+        if len > 4294967295 {
+            return Err(Fault::LengthOverflow);
+        }
+        let pos = pad(writer, 4)?;
+        if pos > LAST_END - 8 {
+            return Err(Fault::PositionOverflow);
+        }
+        let mut own = [0; 8];
+        match fill_root(pos as u32, &mut own, len, resolver.root) {
+            Ok(()) => {}
+            Err(_) => return Err(Fault::OffsetOverflow),
+        }
+        put(writer, &own)?;
+        Ok(pos as u32)
+    }
+}
+
+/// A buffer that holds what was serialised, and behind it the map as `resolve_from_len` or `write_root` writes it, is
+/// accepted there, and means the list of the items.
+pub fn archives_are_accepted<K: Portable, V: Portable, const E: usize>()
+    ensures entries { SerialisedIsAccepted K.kind V.kind E }
+    ensures none { EmptyIsAccepted K.kind V.kind E }
+{}
+
+/// Where what keys and values mean determines, with positions, how they are archived, two builds from one position of
+/// lists that mean the same append the same bytes, whatever the writers, and have one root.
+pub fn trees_are_determined<KU: Archive, VU: Archive, const E: usize>()
+    ensures { TreesAreDetermined KU.Archived.kind VU.Archived.kind E KU.archival VU.archival }
+{}

@@ -1,0 +1,185 @@
+//! The archived set: the map of its keys in which each value is `()`. Its calls are the map's.
+ghost use Rattle.std.specs.Prelude.{◌≡◌, ◌<◌, ◌≤◌, ◌↔◌, true, length, alloc_error, IsOk, OnOk, OnErr, IfOk, IfErr, IsErrOf, IsTrue, Ok, Err};
+ghost use Rattle.std.specs.Iterator.{UpTo};
+ghost use Rattle.std.specs.Option.{option_map};
+ghost use Rattle.rkyv_btree_writer.specs.Archiving.{BeginsWith};
+ghost use Rattle.rkyv_btree_image.specs.Kept.{NeverGrows, OnlyAppended};
+ghost use Rattle.rkyv_btree_image.specs.Miscounts.{IsMiscount};
+ghost use Rattle.rkyv_btree_image.specs.Serialising.{RootFault};
+ghost use Rattle.rkyv_btree_image.specs.Sets.{BuildsSet, FailsToBuildSet};
+ghost use Rattle.rkyv_btree_format.specs.Layout.{are_fitting};
+ghost use Rattle.rkyv_btree_portable.specs.Rounding.{round_up};
+ghost use Rattle.rkyv_btree_portable.specs.Scalars.{unit_kind};
+ghost use Rattle.rkyv_btree_portable.specs.declared.check.Window.{Window as Left};
+ghost use Rattle.rkyv_btree_portable.specs.declared.refusal.Refusal.{Refusal as Reason};
+ghost use Rattle.rkyv_btree_portable.specs.laws.Scalars.{unit_laws};
+ghost use Rattle.rkyv_btree_image.specs.Image.{root_bytes, root_reaches, root_image};
+ghost use Rattle.rkyv_btree_verify.specs.Map.{map_kind};
+ghost use Rattle.rkyv_btree_verify.specs.Opening.{IsMapIn, RefusesMapIn};
+ghost use Rattle.rkyv_btree_verify.specs.Refusals.{RefusesMap};
+ghost use Rattle.rkyv_btree_verify.proofs.MapLaws.{map_laws, map_refusals};
+ghost use Rattle.rkyv_btree_writer.specs.Writing.{position, Wrote, last_end};
+
+use crate::archive::{Archive, Serialize};
+use crate::build::BTreeMapResolver;
+use crate::map::ArchivedBTreeMap;
+use rkyv_btree_portable::check::{CheckBytes, Portable, Window};
+use rkyv_btree_portable::refusal::Refusal;
+use rkyv_btree_verify::verify::verify as verify_map;
+use rkyv_btree_writer::fault::{Fault, ResolveFault};
+use rkyv_btree_writer::place::{Place, Writer};
+use std::alloc::Allocator;
+use std::marker::PhantomData;
+
+/// A set in eight bytes: a relative pointer to its root node, and the number of its keys.
+pub struct ArchivedBTreeSet<K, const E: usize> {
+    map: ArchivedBTreeMap<K, (), E>,
+}
+
+/// Where the root node of a serialised set stands. That of an empty set stands for position 0.
+pub type BTreeSetResolver = BTreeMapResolver;
+
+impl<K: Portable, const E: usize> Portable for ArchivedBTreeSet<K, E> {
+    ghost kind = { map_kind K.kind unit_kind E };
+
+    fn size() -> u32 {
+        ArchivedBTreeMap::<K, (), E>::size()
+    }
+
+    fn align() -> u32 {
+        ArchivedBTreeMap::<K, (), E>::align()
+    }
+
+    fn fits() -> bool {
+        ArchivedBTreeMap::<K, (), E>::fits()
+    }
+
+    ghost laws = { map_laws K.kind unit_kind E K.laws unit_laws };
+}
+
+impl<K: CheckBytes, const E: usize> CheckBytes for ArchivedBTreeSet<K, E> {
+    ghost Refuses = { RefusesMap K.kind unit_kind E };
+
+    fn check(buf: &[u8], pos: u32, window: Window) -> Result<Window, Refusal> {
+        verify::<K, E>(buf, pos, window)
+    }
+
+    ghost refusals = { map_refusals K.kind unit_kind E K.laws unit_laws };
+}
+
+/// The check of foreign bytes for a set: the map's own, and in its order.
+pub fn verify<K: CheckBytes, const E: usize>(
+    buf: &[u8],
+    pos: u32,
+    window: Window,
+) -> Result<Window, Refusal>
+    requires fitting { IsTrue (are_fitting K.kind unit_kind E) }
+    requires ordered { window.lo ≤ window.hi }
+    requires before { window.hi ≤ pos }
+    ensures accepted { IfOk result (IsMapIn K.kind unit_kind E buf.now window pos) }
+    ensures all_accepted { (left : Left) → IsMapIn K.kind unit_kind E buf.now window pos left →
+        result ≡ Ok left }
+    ensures refused { IfErr result (RefusesMapIn K.kind unit_kind E buf.now window pos) }
+    ensures all_refused { (e : Reason) → RefusesMapIn K.kind unit_kind E buf.now window pos e →
+        result ≡ Err e }
+{
+    verify_map::<K, (), E>(buf, pos, window)
+}
+
+/// The entry of a key: the key with a `()`.
+fn with_unit<'x, M>(key: &'x M) -> (&'x M, &'x ())
+    ensures { result.0 ≡ key.entry }
+{
+    (key, &())
+}
+
+impl<K: Portable, const E: usize> ArchivedBTreeSet<K, E> {
+    /// Serialises the items of an iterator, in their order, as the tree of a set, and answers where its root node stands.
+    /// `len` is the claimed number of items. It is the map's call with a `()` beside each key, and refuses as that does.
+    pub fn serialize_from_ordered_iter<'x, KU, W, A, I>(
+        alloc: A,
+        len: usize,
+        iter: I,
+        writer: &mut W,
+    ) -> Result<BTreeSetResolver, Fault<W::Error>>
+    where
+        KU: Archive<Archived = K> + Serialize<W, A> + 'x,
+        W: Writer,
+        A: Allocator + Copy,
+        I: Iterator<Item = &'x KU>,
+        requires fitting { IsTrue (are_fitting K.kind unit_kind E) }
+        requires can { I.can_next iter }
+        requires ends { UpTo (I.remaining iter) 18446744073709551615 }
+        ensures ok { IfOk result
+            (BuildsSet K.kind E KU.archival I.next_gives iter len W.state writer.old writer.new) }
+        ensures err { IfErr result
+            (FailsToBuildSet K.kind E KU.archival I.next_gives iter len
+            W.state writer.old writer.new) }
+        ensures end { OnOk result (0 < len → position (W.state writer.new) ≤ last_end) }
+        // On success no write failed, and nothing but bytes behind the old ones has changed.
+        ensures went { OnOk result (OnlyAppended (W.state writer.old) (W.state writer.new)) }
+        // Whatever refuses, what the writer held stays in front.
+        ensures kept { OnErr result (BeginsWith (W.state writer.new) (W.state writer.old)) }
+        // Where no key asks for memory, a refused growth leaves the writer as it was.
+        ensures memory { NeverGrows KU.archival →
+            IsErrOf result (Fault.Memory alloc_error) → W.state writer.new ≡ W.state writer.old }
+        // A claim past 32 bits is refused as that, whatever else there is, and nothing is written.
+        ensures past { last_end < len → IsErrOf result Fault.LengthOverflow }
+        ensures past_kept { last_end < len → W.state writer.new ≡ W.state writer.old }
+        // A claim of nothing is refused for items that come, and for nothing else.
+        ensures none { len ≡ 0 → IfErr result IsMiscount }
+        ensures none_kept { len ≡ 0 → W.state writer.new ≡ W.state writer.old }
+    {
+        ArchivedBTreeMap::<K, (), E>::serialize_from_ordered_iter::<KU, (), W, A, _>(
+            alloc,
+            len,
+            iter.map(|key| with_unit(key)),
+            writer,
+        )
+    }
+}
+
+impl<K, const E: usize> ArchivedBTreeSet<K, E> {
+    /// Writes the set over a root node that was serialised for `len` keys. An `Err` leaves the place as it was.
+    pub fn resolve_from_len(
+        len: usize,
+        resolver: BTreeSetResolver,
+        out: Place<'_, ArchivedBTreeSet<K, E>>,
+    ) -> Result<(), ResolveFault>
+        requires { length out.bytes.now ≡ 8 }
+        ensures ok { OnOk result (out.exit.1.0.now ≡ root_bytes out.entry.pos resolver len) }
+        ensures err { OnErr result (out.exit.1.0.now ≡ out.entry.bytes.now) }
+        ensures fits { IsOk result
+            ↔ ((len ≤ last_end) × (root_reaches out.entry.pos resolver len ≡ true)) }
+        ensures length { IsErrOf result ResolveFault.LengthOverflow ↔ (last_end < len) }
+    {
+        let Place { pos, bytes, of: _ } = out;
+        let map = Place {
+            pos,
+            bytes,
+            of: PhantomData,
+        };
+        ArchivedBTreeMap::<K, (), E>::resolve_from_len(len, resolver, map)
+    }
+
+    /// Writes the set behind zeros up to a multiple of 4, and answers its position. After an error what was written
+    /// stays.
+    pub fn write_root<W: Writer>(
+        len: usize,
+        resolver: BTreeSetResolver,
+        writer: &mut W,
+    ) -> Result<u32, Fault<W::Error>>
+        ensures pos { IfOk result (λ pos. pos ≡ round_up (position (W.state writer.old)) 4) }
+        ensures ok { OnOk result
+            (Wrote (W.state writer.old)
+            (root_image (position (W.state writer.old)) resolver len) (W.state writer.new)) }
+        ensures last { OnOk result (position (W.state writer.new) ≤ last_end) }
+        ensures len { OnOk result (len ≤ last_end) }
+        ensures went { OnOk result (OnlyAppended (W.state writer.old) (W.state writer.new)) }
+        ensures kept { OnErr result (BeginsWith (W.state writer.new) (W.state writer.old)) }
+        ensures err { IfErr result (λ fault.
+            RootFault resolver len (W.state writer.old) fault (W.state writer.new)) }
+    {
+        ArchivedBTreeMap::<K, (), E>::write_root(len, resolver, writer)
+    }
+}

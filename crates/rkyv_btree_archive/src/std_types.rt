@@ -1,0 +1,126 @@
+//! Std's maps and sets, archived as trees with five entries in a node.
+ghost use Rattle.std.specs.Prelude.{◌≡◌, length, OnOk, IfErr};
+ghost use Rattle.rkyv_btree_image.specs.Determined.{IsDetermined};
+ghost use Rattle.rkyv_btree_image.specs.Sets.{unit_archival, with_units};
+ghost use Rattle.rkyv_btree_image.specs.TreeArchival.{IsRoot, tree_archival};
+ghost use Rattle.rkyv_btree_image.proofs.MapSame.{same_map};
+ghost use Rattle.rkyv_btree_image.proofs.TreeArchived.{tree_archived, tree_causes};
+ghost use Rattle.rkyv_btree_portable.specs.Natives.{unit_form};
+ghost use Rattle.rkyv_btree_portable.specs.Scalars.{unit_kind};
+ghost use Rattle.rkyv_btree_portable.specs.laws.Natives.{unit_faithful};
+ghost use Rattle.rkyv_btree_portable.specs.laws.Scalars.{unit_laws};
+ghost use Rattle.rkyv_btree_verify.proofs.MapLaws.{map_laws};
+ghost use Rattle.rkyv_btree_writer.specs.Archiving.{IsUnresolved, itself};
+ghost use Rattle.rkyv_btree_writer.proofs.Archiving.{native_archived, native_causes};
+
+use crate::archive::{Archive, Serialize};
+use crate::build::{BTreeMapResolver, fill_root};
+use crate::map::ArchivedBTreeMap;
+use crate::set::{ArchivedBTreeSet, BTreeSetResolver};
+use rkyv_btree_writer::fault::{Fault, ResolveFault};
+use rkyv_btree_writer::place::{Place, Writer};
+use std::alloc::Allocator;
+use std::collections::{BTreeMap, BTreeSet};
+
+/// How many entries an inner node of an archived std map or set has, and a leaf at most.
+pub const DEFAULT_ENTRIES_PER_NODE: usize = 5;
+
+impl<KU: Archive + Ord, VU: Archive> Archive for BTreeMap<KU, VU> {
+    type Archived = ArchivedBTreeMap<KU::Archived, VU::Archived, DEFAULT_ENTRIES_PER_NODE>;
+
+    type Resolver = BTreeMapResolver;
+
+    ghost archival = { tree_archival 5 KU.archival VU.archival (λ map. map.entries) };
+
+    /// Writes the map over its root node. After an error the place is as it was.
+    fn resolve(
+        &self,
+        resolver: BTreeMapResolver,
+        out: Place<'_, ArchivedBTreeMap<KU::Archived, VU::Archived, DEFAULT_ENTRIES_PER_NODE>>,
+    ) -> Result<(), ResolveFault>
+        requires { length out.bytes.now ≡ 8 }
+        ensures ok { OnOk result
+            (IsRoot out.entry.pos resolver (length self.now.entries) out.exit.1.0.now) }
+        ensures err { IfErr result
+            (IsUnresolved (tree_archival 5 KU.archival VU.archival (λ map. map.entries))
+            self.now resolver out.entry.pos) }
+    {
+        let entries = self.len();
+        let Place { pos, bytes, of: _ } = out;
+        fill_root(pos, bytes, entries, resolver.root)
+    }
+
+    ghost same_kind = { same_map KU.archival.kind VU.archival.kind KU.Archived.kind VU.Archived.kind 5 KU.same_kind VU.same_kind };
+
+    ghost lawful = { map_laws KU.archival.kind VU.archival.kind 5 KU.lawful VU.lawful };
+
+    ghost archived = { tree_archived 5 KU.archival VU.archival KU.lawful VU.lawful KU.archived VU.archived (λ map. map.entries) };
+
+    ghost causes = { tree_causes 5 KU.archival VU.archival KU.lawful VU.lawful KU.archived VU.archived (λ map. map.entries) KU.causes VU.causes };
+}
+
+impl<W: Writer, A: Allocator + Copy, KU: Serialize<W, A> + Ord, VU: Serialize<W, A>> Serialize<W, A>
+    for BTreeMap<KU, VU> {
+    /// Writes the tree of the entries, with what they write, and answers where its root node stands.
+    fn serialize(&self, alloc: A, writer: &mut W) -> Result<BTreeMapResolver, Fault<W::Error>> {
+        ArchivedBTreeMap::<
+            KU::Archived,
+            VU::Archived,
+            DEFAULT_ENTRIES_PER_NODE,
+        >::serialize_from_ordered_iter(alloc, self.len(), self.iter(), writer)
+    }
+}
+
+impl<KU: Archive + Ord> Archive for BTreeSet<KU> {
+    type Archived = ArchivedBTreeSet<KU::Archived, DEFAULT_ENTRIES_PER_NODE>;
+
+    type Resolver = BTreeSetResolver;
+
+    ghost archival = { tree_archival 5 KU.archival unit_archival (λ set. with_units set.keys) };
+
+    /// Writes the set over its root node. After an error the place is as it was.
+    fn resolve(
+        &self,
+        resolver: BTreeSetResolver,
+        out: Place<'_, ArchivedBTreeSet<KU::Archived, DEFAULT_ENTRIES_PER_NODE>>,
+    ) -> Result<(), ResolveFault>
+        requires { length out.bytes.now ≡ 8 }
+        ensures ok { OnOk result
+            (IsRoot out.entry.pos resolver (length (with_units self.now.keys)) out.exit.1.0.now) }
+        ensures err { IfErr result
+            (IsUnresolved (tree_archival 5 KU.archival unit_archival (λ set. with_units set.keys))
+            self.now resolver out.entry.pos) }
+    {
+        let keys = self.len();
+        let Place { pos, bytes, of: _ } = out;
+        fill_root(pos, bytes, keys, resolver.root)
+    }
+
+    ghost same_kind = { same_map KU.archival.kind unit_kind KU.Archived.kind unit_kind 5 KU.same_kind (itself unit_kind) };
+
+    ghost lawful = { map_laws KU.archival.kind unit_kind 5 KU.lawful unit_laws };
+
+    ghost archived = { tree_archived 5 KU.archival unit_archival KU.lawful unit_laws KU.archived (native_archived unit_form unit_faithful) (λ set. with_units set.keys) };
+
+    ghost causes = { tree_causes 5 KU.archival unit_archival KU.lawful unit_laws KU.archived (native_archived unit_form unit_faithful) (λ set. with_units set.keys) KU.causes (native_causes unit_form) };
+}
+
+impl<W: Writer, A: Allocator + Copy, KU: Serialize<W, A> + Ord> Serialize<W, A> for BTreeSet<KU> {
+    /// Writes the tree of the keys, with what they write, and answers where its root node stands.
+    fn serialize(&self, alloc: A, writer: &mut W) -> Result<BTreeSetResolver, Fault<W::Error>> {
+        ArchivedBTreeSet::<KU::Archived, DEFAULT_ENTRIES_PER_NODE>::serialize_from_ordered_iter(
+            alloc,
+            self.len(),
+            self.iter(),
+            writer,
+        )
+    }
+}
+
+/// Where what keys and values mean determines how they are archived, so it does for std's maps and sets of them: equal
+/// ones are archived alike, wherever their parts lie in memory.
+pub fn std_types_are_determined<KU: Archive + Ord, VU: Archive>()
+    ensures maps { IsDetermined KU.archival → IsDetermined VU.archival →
+        IsDetermined ⟦<BTreeMap<KU, VU> as Archive>⟧.archival }
+    ensures sets { IsDetermined KU.archival → IsDetermined ⟦<BTreeSet<KU> as Archive>⟧.archival }
+{}

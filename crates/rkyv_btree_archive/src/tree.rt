@@ -1,0 +1,118 @@
+//! Writing a tree by plain recursion over the sizes of its subtrees.
+ghost use Rattle.std.specs.Prelude.{◌≡◌, ◌+◌, ◌*◌, ◌-◌, ◌^◌, ◌≤◌, ◌<◌, [], ◌∷◌, ◌++◌, length, map, vec_len, vec_capacity, OnOk, IfOk, IfErr, IsTrue};
+ghost use Rattle.rkyv_btree_format.specs.Layout.{layout_of, are_fitting};
+ghost use Rattle.rkyv_btree_shape.specs.Logarithm.{ilog};
+ghost use Rattle.rkyv_btree_shape.specs.Plan.{planned_alone};
+ghost use Rattle.rkyv_btree_archive.specs.mirror.Scratch.{IsFree};
+ghost use Rattle.rkyv_btree_writer.specs.Writing.{position, last_end};
+ghost use Rattle.rkyv_btree_image.specs.Entries.{now_of};
+ghost use Rattle.rkyv_btree_image.specs.Written.{ChildWritten, ChildStopped};
+
+use crate::archive::{Archive, Serialize};
+use crate::writes::{Scratch, write_inner, write_leaf};
+use rkyv_btree_portable::check::Portable;
+use rkyv_btree_shape::height::child_base;
+use rkyv_btree_writer::fault::Fault;
+use rkyv_btree_writer::place::Writer;
+use std::alloc::Allocator;
+
+/// Appends a value for which there is room.
+pub(crate) fn push<T: Drop, A: Allocator>(values: &mut Vec<T, A>, value: T)
+    requires { vec_len values.old < vec_capacity values.old }
+    ensures items { values.new.items ≡ values.old.items ++ value ∷ [] }
+    ensures len { vec_len values.new ≡ vec_len values.old + 1 }
+    ensures capacity { vec_capacity values.old ≤ vec_capacity values.new }
+{
+    values.push(value).unwrap();
+}
+
+/// Writes the tree of these entries with what they write, and answers where its root node stands; nothing for no
+/// entries. `waiting` and `children` have room for what waits on each level until a node's children are written.
+pub(crate) fn write_child<'x, KU, VU, K, V, W, A, const E: usize>(
+    alloc: A,
+    scratch: &mut Scratch<KU::Resolver, VU::Resolver, A>,
+    waiting: &mut Vec<(&'x KU, &'x VU), A>,
+    children: &mut Vec<Option<u32>, A>,
+    items: &[(&'x KU, &'x VU)],
+    writer: &mut W,
+) -> Result<Option<u32>, Fault<W::Error>>
+where
+    KU: Archive<Archived = K> + Serialize<W, A> + 'x,
+    VU: Archive<Archived = V> + Serialize<W, A> + 'x,
+    K: Portable,
+    V: Portable,
+    W: Writer,
+    A: Allocator + Copy,
+    requires fitting { IsTrue (are_fitting K.kind V.kind E) }
+    requires count { length items.now ≤ 4294967295 }
+    requires free { IsFree (layout_of K.kind V.kind E) scratch.old }
+    requires waiting_room { vec_len waiting.old + E * ilog (E + 1) (length items.now)
+        ≤ vec_capacity waiting.old }
+    requires child_room { vec_len children.old + E * ilog (E + 1) (length items.now)
+        ≤ vec_capacity children.old }
+    ensures ok { IfOk result (λ root.
+        ChildWritten (layout_of K.kind V.kind E) KU.archival VU.archival (W.state writer.old)
+        (planned_alone E (map now_of items.now)) root (W.state writer.new)) }
+    ensures err { IfErr result (λ fault.
+        ChildStopped (layout_of K.kind V.kind E) KU.archival VU.archival (W.state writer.old)
+        (planned_alone E (map now_of items.now)) fault (W.state writer.new)) }
+    ensures last { OnOk result (0 < length items.now → position (W.state writer.new) ≤ last_end) }
+    ensures free { OnOk result (IsFree (layout_of K.kind V.kind E) scratch.new) }
+    ensures kept { OnOk result
+        ((waiting.new.items ≡ waiting.old.items) × (children.new.items ≡ children.old.items)) }
+    ensures room { (vec_capacity waiting.old ≤ vec_capacity waiting.new)
+        × (vec_capacity children.old ≤ vec_capacity children.new) }
+{
+    if items.is_empty() {
+        return Ok(None);
+    }
+    if items.len() <= E {
+        let root = write_leaf::<KU, VU, K, V, W, A, E>(alloc, scratch, items, writer)?;
+        return Ok(Some(root));
+    }
+    let first = waiting.len();
+    let first_child = children.len();
+    let base = child_base::<E>(items.len());
+    // Above the last level stand the root's `E` entries and `base - 1` of each of its `E + 1` children, which are one less
+    // than `base * (E + 1)` in all. The others are on the last level, which the children fill from the left: a full child
+    // has `E * base` of them.
+    let mut on_last = items.len() + 1 - base * (E + 1);
+    let mut start = 0;
+    let mut left = E;
+    while left > 0 {
+        let taken = on_last.min(E * base);
+        let end = start + (base - 1 + taken);
+        let child = write_child::<KU, VU, K, V, W, A, E>(
+            alloc,
+            scratch,
+            waiting,
+            children,
+            &items[start..end],
+            writer,
+        )?;
+        push(children, child);
+        push(waiting, items[end]);
+        start = end + 1;
+        on_last -= taken;
+        left -= 1;
+    }
+    let last = write_child::<KU, VU, K, V, W, A, E>(
+        alloc,
+        scratch,
+        waiting,
+        children,
+        &items[start..],
+        writer,
+    )?;
+    let root = write_inner::<KU, VU, K, V, W, A, E>(
+        alloc,
+        scratch,
+        &waiting[first..],
+        &children[first_child..],
+        last,
+        writer,
+    )?;
+    waiting.truncate(first);
+    children.truncate(first_child);
+    Ok(Some(root))
+}

@@ -1,0 +1,197 @@
+//! The writes of whole nodes.
+ghost use Rattle.std.specs.Prelude.{ℕ, List, ◌≡◌, ◌+◌, ◌<◌, ◌≤◌, [], ◌∷◌, ◌++◌, length, map, vec_capacity, OnOk, IfOk, IfErr, IsTrue};
+ghost use Rattle.std.specs.VecDeque.{deque_capacity};
+ghost use Rattle.rkyv_btree_writer.specs.Padding.{padding};
+ghost use Rattle.rkyv_btree_image.specs.Image.{leaf_image, inner_image};
+ghost use Rattle.rkyv_btree_portable.specs.InPlace.{OwnBytes};
+ghost use Rattle.rkyv_btree_format.specs.Layout.{layout_of, are_fitting, leaf_size, inner_size};
+ghost use Rattle.rkyv_btree_portable.specs.Rounding.{round_up};
+ghost use Rattle.rkyv_btree_archive.specs.mirror.Scratch.{IsFree};
+ghost use Rattle.rkyv_btree_writer.specs.Writing.{Write, position, Appended, Wrote, Refused, Stopped, last_end};
+ghost use Rattle.rkyv_btree_image.specs.Entries.{as_fault, now_of};
+ghost use Rattle.rkyv_btree_image.specs.Written.{IsPadded, NodeWritten, NodeStopped};
+
+use crate::archive::{Archive, Serialize};
+use crate::entries::serialize_entries;
+use crate::node::{fill_inner, fill_leaf};
+use rkyv_btree_format::layout;
+use rkyv_btree_portable::check::Portable;
+use rkyv_btree_writer::fault::{Fault, ResolveFault};
+use rkyv_btree_writer::place::Writer;
+use rkyv_btree_writer::writes::{LAST_END, pad, put};
+use std::alloc::Allocator;
+use std::collections::VecDeque;
+
+/// What writing a node takes: a list for its bytes, and lists of what resolving its keys and values needs.
+#[derive(Drop)]
+pub(crate) struct Scratch<R, S, A: Allocator> {
+    pub(crate) node: Vec<u8, A>,
+    pub(crate) keys: VecDeque<R, A>,
+    pub(crate) values: VecDeque<S, A>,
+}
+
+/// The fault of serialising that a fault of resolving is.
+pub(crate) fn fault_of<E>(fault: ResolveFault) -> Fault<E>
+    ensures { result ≡ as_fault fault }
+{
+    match fault {
+        ResolveFault::LengthOverflow => Fault::LengthOverflow,
+        ResolveFault::OffsetOverflow => Fault::OffsetOverflow,
+    }
+}
+
+/// Writes what the entries of a node of `size` bytes write, and the padding before the node, and answers the node's
+/// position, from which it ends at a position in 32 bits.
+fn begin_node<KU, VU, K, V, W, A, const E: usize>(
+    alloc: A,
+    size: u32,
+    entries: &[(&KU, &VU)],
+    keys: &mut VecDeque<KU::Resolver, A>,
+    values: &mut VecDeque<VU::Resolver, A>,
+    writer: &mut W,
+) -> Result<u32, Fault<W::Error>>
+where
+    KU: Archive<Archived = K> + Serialize<W, A>,
+    VU: Archive<Archived = V> + Serialize<W, A>,
+    K: Portable,
+    V: Portable,
+    W: Writer,
+    A: Allocator + Copy,
+    requires fitting { IsTrue (are_fitting K.kind V.kind E) }
+    requires no_keys { keys.old.items ≡ [] }
+    requires no_values { values.old.items ≡ [] }
+    requires key_room { length entries.now ≤ deque_capacity keys.old }
+    requires value_room { length entries.now ≤ deque_capacity values.old }
+    ensures ok { OnOk result
+        (IsPadded (layout_of K.kind V.kind E) KU.archival VU.archival (W.state writer.old)
+        (map now_of entries.now) keys.new.items values.new.items (W.state writer.new)) }
+    ensures place { IfOk result (λ root. root ≡ position (W.state writer.new)) }
+    ensures end { IfOk result (λ root. root + size ≤ last_end) }
+    ensures err { IfErr result (λ fault.
+        (image : ℕ → List OwnBytes → List Write) →
+        NodeStopped (layout_of K.kind V.kind E) KU.archival VU.archival image size
+        (W.state writer.old) (map now_of entries.now) fault (W.state writer.new)) }
+    ensures keys { OnOk result (length keys.new.items ≡ length entries.now) }
+    ensures values { OnOk result (length values.new.items ≡ length entries.now) }
+    ensures key_room { deque_capacity keys.old ≤ deque_capacity keys.new }
+    ensures value_room { deque_capacity values.old ≤ deque_capacity values.new }
+{
+    serialize_entries(alloc, entries, keys, values, writer)?;
+    let pos = pad(writer, layout::align::<K, V, E>())?;
+    if pos > LAST_END || u64::from(size) > LAST_END - pos {
+        return Err(Fault::PositionOverflow);
+    }
+    Ok(pos as u32)
+}
+
+/// Writes a leaf of these entries behind what they write, and answers its position.
+pub(crate) fn write_leaf<KU, VU, K, V, W, A, const E: usize>(
+    alloc: A,
+    scratch: &mut Scratch<KU::Resolver, VU::Resolver, A>,
+    entries: &[(&KU, &VU)],
+    writer: &mut W,
+) -> Result<u32, Fault<W::Error>>
+where
+    KU: Archive<Archived = K> + Serialize<W, A>,
+    VU: Archive<Archived = V> + Serialize<W, A>,
+    K: Portable,
+    V: Portable,
+    W: Writer,
+    A: Allocator + Copy,
+    requires fitting { IsTrue (are_fitting K.kind V.kind E) }
+    requires count { length entries.now ≤ E }
+    requires free { IsFree (layout_of K.kind V.kind E) scratch.old }
+    ensures ok { IfOk result (λ root.
+        NodeWritten (layout_of K.kind V.kind E) KU.archival VU.archival
+        (leaf_image (layout_of K.kind V.kind E)) (leaf_size (layout_of K.kind V.kind E))
+        (W.state writer.old) (map now_of entries.now) root (W.state writer.new)) }
+    ensures last { OnOk result (position (W.state writer.new) ≤ last_end) }
+    ensures err { IfErr result (λ fault.
+        NodeStopped (layout_of K.kind V.kind E) KU.archival VU.archival
+        (leaf_image (layout_of K.kind V.kind E)) (leaf_size (layout_of K.kind V.kind E))
+        (W.state writer.old) (map now_of entries.now) fault (W.state writer.new)) }
+    ensures free { OnOk result (IsFree (layout_of K.kind V.kind E) scratch.new) }
+{
+    let size = layout::leaf_size::<K, V, E>();
+    let root = begin_node::<KU, VU, K, V, W, A, E>(
+        alloc,
+        size,
+        entries,
+        &mut scratch.keys,
+        &mut scratch.values,
+        writer,
+    )?;
+    match fill_leaf::<KU, VU, K, V, A, E>(
+        &mut scratch.node,
+        root,
+        entries,
+        &mut scratch.keys,
+        &mut scratch.values,
+    ) {
+        Ok(()) => {}
+        Err(fault) => return Err(fault_of(fault)),
+    }
+    put(writer, scratch.node.as_slice())?;
+    Ok(root)
+}
+
+/// Writes an inner node of these entries over written children, behind what the entries write, and answers its
+/// position.
+pub(crate) fn write_inner<KU, VU, K, V, W, A, const E: usize>(
+    alloc: A,
+    scratch: &mut Scratch<KU::Resolver, VU::Resolver, A>,
+    entries: &[(&KU, &VU)],
+    children: &[Option<u32>],
+    last: Option<u32>,
+    writer: &mut W,
+) -> Result<u32, Fault<W::Error>>
+where
+    KU: Archive<Archived = K> + Serialize<W, A>,
+    VU: Archive<Archived = V> + Serialize<W, A>,
+    K: Portable,
+    V: Portable,
+    W: Writer,
+    A: Allocator + Copy,
+    requires fitting { IsTrue (are_fitting K.kind V.kind E) }
+    requires entries { length entries.now ≡ E }
+    requires children { length children.now ≡ E }
+    requires free { IsFree (layout_of K.kind V.kind E) scratch.old }
+    ensures ok { IfOk result (λ root.
+        NodeWritten (layout_of K.kind V.kind E) KU.archival VU.archival
+        (λ at owns.
+        inner_image (layout_of K.kind V.kind E) at owns (children.now ++ last ∷ []))
+        (inner_size (layout_of K.kind V.kind E)) (W.state writer.old)
+        (map now_of entries.now) root (W.state writer.new)) }
+    ensures last { OnOk result (position (W.state writer.new) ≤ last_end) }
+    ensures err { IfErr result (λ fault.
+        NodeStopped (layout_of K.kind V.kind E) KU.archival VU.archival
+        (λ at owns.
+        inner_image (layout_of K.kind V.kind E) at owns (children.now ++ last ∷ []))
+        (inner_size (layout_of K.kind V.kind E)) (W.state writer.old)
+        (map now_of entries.now) fault (W.state writer.new)) }
+    ensures free { OnOk result (IsFree (layout_of K.kind V.kind E) scratch.new) }
+{
+    let size = layout::inner_size::<K, V, E>();
+    let root = begin_node::<KU, VU, K, V, W, A, E>(
+        alloc,
+        size,
+        entries,
+        &mut scratch.keys,
+        &mut scratch.values,
+        writer,
+    )?;
+    match fill_inner::<KU, VU, K, V, A, E>(
+        &mut scratch.node,
+        root,
+        entries,
+        &mut scratch.keys,
+        &mut scratch.values,
+        children,
+        last,
+    ) {
+        Ok(()) => {}
+        Err(fault) => return Err(fault_of(fault)),
+    }
+    put(writer, scratch.node.as_slice())?;
+    Ok(root)
+}

@@ -1,5 +1,0 @@
-use Rattle.rkyv_btree_build.proofs.Determined.{builds_alike}
-use Rattle.rkyv_btree_build.proofs.build.trees_are_determined.Goals as goal
-
-pub returns : goal.returns
-returns g c = builds_alike _ _ _

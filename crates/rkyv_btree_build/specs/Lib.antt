@@ -1,4 +1,0 @@
-pub mod Miscounts
-pub mod Serialising
-pub mod Archives
-pub mod Determined

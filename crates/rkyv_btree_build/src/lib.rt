@@ -1,5 +1,0 @@
-//! Building archived maps.
-#![tactic(auto)]
-
-pub mod build;
-pub mod map;

@@ -1,0 +1,7 @@
+-- The lemmas of native values.
+pub mod Puts
+pub mod Made
+pub mod LastWins
+pub mod Opened
+pub mod Units
+pub mod RoundTrip

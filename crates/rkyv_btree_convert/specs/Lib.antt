@@ -1,0 +1,7 @@
+-- The definitions over which native values of archived ones are stated.
+pub mod Deserializing
+pub mod Maps
+pub mod RoundTrip
+pub mod Sets
+pub mod Whole
+pub mod laws

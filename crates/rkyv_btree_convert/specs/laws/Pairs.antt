@@ -1,0 +1,25 @@
+-- What native pairs owe, by what both parts owe.
+use Rattle.std.specs.Prelude.{◌≡◌, ℕ, ◌+◌, Bool, true, ◌&&◌, List, Result}
+use Rattle.std.specs.Ordering.{ordering_then}
+use Rattle.std.specs.declared.cmp.Ordering.{Ordering}
+use Rattle.std.proofs.Common.{refl, ap}
+use Rattle.rkyv_btree_base.specs.Entry.{entry_kind, value_offset}
+use Rattle.rkyv_btree_base.specs.EntryFault.{EntryFault}
+use Rattle.rkyv_btree_base.specs.Kind.{Kind}
+use Rattle.rkyv_btree_convert.specs.Deserializing.{IsByMeaning, both}
+
+pub pair_by_meaning : {K V : Kind} {A B : Type 0} {key : List ℕ → ℕ → Result A EntryFault} {value : List ℕ → ℕ → Result B EntryFault} → IsByMeaning K key → IsByMeaning V value
+    → IsByMeaning (entry_kind K V) (λ b at. both (key b at) (value b (at + value_offset K V)))
+pair_by_meaning {K} {V} k v = record {
+  of_value = λ e. both (k.of_value e.0) (v.of_value e.1);
+  reads = λ b at. rw (k.reads b at, v.reads b (at + value_offset K V)) refl;
+}
+
+-- pairs of which the same is told are equal
+pub pair_told_whole : {T U A B : Type 0} {key : T → A} {value : U → B} {same_key : T → T → Bool} {same_value : U → U → Bool} → ((x y : T) → key x ≡ key y → same_key x y ≡ true) → ((x y : U) → value x ≡ value y → same_value x y ≡ true)
+    → (p q : T × U) → ◌≡◌ {A = A × B} (key p.0, value p.1) (key q.0, value q.1) → (same_key p.0 q.0 && same_value p.1 q.1) ≡ true
+pair_told_whole keys values p q told = rw (keys p.0 q.0 (ap (λ e. e.0) told), values p.1 q.1 (ap (λ e. e.1) told)) refl
+
+-- pairs whose parts are ordered alike
+pub then_alike : {first told_first second told_second : Ordering} → first ≡ told_first → second ≡ told_second → ordering_then first second ≡ ordering_then told_first told_second
+then_alike keys values = cc

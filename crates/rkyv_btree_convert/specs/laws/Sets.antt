@@ -1,0 +1,33 @@
+-- What native sets owe, by what their keys owe.
+use Rattle.std.specs.Prelude.{◌≡◌, ℕ, Bool, true, List, [], ◌∷◌, map, Result}
+use Rattle.std.specs.Cmp.Lexicographic.{pointwise}
+use Rattle.std.specs.Map.{keys_of}
+use Rattle.std.specs.Result.{result_map_both}
+use Rattle.std.specs.declared.cmp.Ordering.{Ordering}
+use Rattle.std.proofs.Common.{refl, ap}
+use Rattle.rkyv_btree_base.specs.EntryFault.{EntryFault}
+use Rattle.rkyv_btree_base.specs.Kind.{Kind}
+use Rattle.rkyv_btree_base.specs.Map.{map_kind}
+use Rattle.rkyv_btree_base.specs.Scalars.{unit_kind}
+use Rattle.rkyv_btree_convert.specs.Deserializing.{IsByMeaning}
+use Rattle.rkyv_btree_convert.specs.Sets.{native_set, unit_given}
+use Rattle.rkyv_btree_convert.specs.laws.Maps.{map_by_meaning}
+
+-- a () gives itself
+abbrev pub unit_by_meaning : IsByMeaning unit_kind (λ b at. unit_given)
+unit_by_meaning = record { of_value = λ unit. unit_given; reads = λ b at. refl }
+
+pub set_by_meaning : {K : Kind} {A : Type 0} {key : List ℕ → ℕ → Result A EntryFault} → IsByMeaning K key → (E : ℕ) (order : A → A → Ordering) → IsByMeaning (map_kind K unit_kind E) (native_set K E key order)
+set_by_meaning {K} k E order =
+    let m = map_by_meaning k unit_by_meaning E order in
+    record { of_value = λ keys. result_map_both keys_of (λ fault. fault) (m.of_value keys); reads = λ b at. ap (result_map_both keys_of (λ fault. fault)) (m.reads b at) }
+
+-- sets of which the same is told are equal
+pub set_told_whole : {T A : Type 0} {same : T → T → Bool} {key : T → A} → ((x y : T) → key x ≡ key y → same x y ≡ true) → (xs ys : List T) → map key xs ≡ map key ys → pointwise same xs ys ≡ true
+set_told_whole keys [] [] told = refl
+set_told_whole keys [] (y ∷ ys) told = absurd (cc told)
+set_told_whole keys (x ∷ xs) [] told = absurd (cc told)
+set_told_whole keys (x ∷ xs) (y ∷ ys) told =
+    let first = keys x y (cc told) in
+    let rest = set_told_whole keys xs ys (cc told) in
+    rw first rest

@@ -1,0 +1,147 @@
+//! Native values from views.
+ghost use Rattle.std.specs.Prelude.{◌≡◌, ℕ, List, Some, true, Result, Ok, IsOk, IfOk, IfErr, string_bytes};
+ghost use Rattle.std.specs.Cmp.Lexicographic.{slice_cmp};
+ghost use Rattle.std.specs.Int.NonZero.{non_zero_u32_get};
+ghost use Rattle.std.specs.Ordering.{nat_cmp};
+ghost use Rattle.std.specs.declared.cmp.Ordering.{Ordering};
+ghost use Rattle.std.proofs.Common.{ap, ◌∙◌, refl, rules, sym};
+ghost use Rattle.std.proofs.lemmas.Grind.{common_steps};
+ghost use Rattle.rkyv_btree_base.specs.Scalars.{non_zero_kind};
+ghost use Rattle.rkyv_btree_base.specs.Text.{text_kind};
+ghost use Rattle.rkyv_btree_base.specs.EntryFault.{EntryFault};
+ghost use Rattle.rkyv_btree_convert.specs.Deserializing.{IsByMeaning, IsRefused, deserialize_text};
+
+use crate::native::DeserializeNative;
+use rkyv_btree_base::check::Portable;
+use rkyv_btree_base::fault::EntryFault;
+use rkyv_btree_base::scalars::ArchivedNonZeroU32;
+use rkyv_btree_base::text::ArchivedText;
+use rkyv_btree_view::view::View;
+use std::alloc::{AllocError, Global};
+use std::error::Error;
+use std::fmt;
+use std::num::NonZeroU32;
+
+/// Why no native value was made.
+#[derive(Clone, Copy, Debug, PartialEq, Eq)]
+pub enum DeserializeFault {
+    /// A growth was refused.
+    Memory(AllocError),
+    /// The entry refused itself.
+    Entry(EntryFault),
+}
+
+impl fmt::Display for DeserializeFault {
+    ghost output = { λ fault. Some (deserialize_text fault) };
+
+    fn fmt<W: fmt::Write>(&self, f: &mut fmt::Formatter<W>) -> fmt::Result {
+        match self {
+            DeserializeFault::Memory(_) => write!(f, "out of memory"),
+            DeserializeFault::Entry(_) => write!(f, "entry refused"),
+        }
+    }
+}
+
+impl Error for DeserializeFault {}
+
+/// An archived type of whose values native ones of type `T` are made.
+pub trait Deserialize<T: PartialEq>: Portable {
+    /// The type of what contracts tell of a native value: of a text its bytes, of a number the number.
+    ghost Told: { Type 0 };
+
+    /// What they tell of a native value.
+    ghost told: { T → Told };
+
+    /// How what they tell is ordered: as the native values are, where these are keys.
+    ghost told_order: { Told → Told → Ordering };
+
+    /// What the bytes at a position of a buffer give: what is told of the native value, or the entry's own fault.
+    ghost native: { List ℕ → ℕ → Result Told EntryFault };
+
+    /// Makes the native value of what the view reads, in memory of `alloc` where it takes any.
+    fn deserialize(alloc: Global, view: &View<'_, Self>) -> Result<T, DeserializeFault>
+        ensures ok { IfOk result (λ value. native view.now.buf.now view.now.pos ≡ Ok (told value)) }
+        ensures refused { IfErr result (IsRefused (native view.now.buf.now view.now.pos)) };
+
+    // What a value gives hangs on what its bytes mean alone, wherever it stands.
+    ghost by_meaning: { IsByMeaning Self.kind native };
+
+    // Values of which the same is told are equal, so nothing that `==` sees is left untold.
+    ghost told_whole: { (x y : T) → told x ≡ told y → T.eq x y ≡ true };
+}
+
+impl<T: DeserializeNative> Deserialize<T::Native> for T {
+    ghost Told = { T.Native };
+
+    ghost told = { λ x. x };
+
+    ghost told_order = { T.Native.cmp };
+
+    ghost native = { λ b p. Ok (T.read_native b p) };
+
+    /// The native value. There is no error.
+    fn deserialize(_alloc: Global, view: &View<'_, T>) -> Result<T::Native, DeserializeFault>
+        ensures { result ≡ Ok (T.read_native view.now.buf.now view.now.pos) }
+    {
+        Ok(T::native(view))
+    }
+
+    ghost by_meaning = { record {
+      of_value = λ x. Ok (T.reads.native x);
+      reads = λ b at. ap Ok (T.reads.reads b at);
+    } };
+
+    ghost told_whole = { λ x y same.
+        ap (T.Native.eq x) (sym same) ∙ T.Native.Eq.laws.refl x };
+}
+
+impl Deserialize<NonZeroU32> for ArchivedNonZeroU32 {
+    ghost Told = { ℕ };
+
+    ghost told = { non_zero_u32_get };
+
+    ghost told_order = { nat_cmp };
+
+    ghost native = { λ b p. Ok (non_zero_kind.read b p) };
+
+    /// The number. There is no error.
+    fn deserialize(
+        _alloc: Global,
+        view: &View<'_, ArchivedNonZeroU32>,
+    ) -> Result<NonZeroU32, DeserializeFault>
+        ensures always { IsOk result }
+        ensures value { let read = non_zero_kind.read view.now.buf.now view.now.pos in
+            IfOk result (λ number. non_zero_u32_get number ≡ read) }
+    {
+        Ok(view.to_native())
+    }
+
+    ghost by_meaning = { record { of_value = λ number. Ok number; reads = λ b at. refl } };
+
+    ghost told_whole = { λ x y same. Prim.search (rules, common_steps) };
+}
+
+impl Deserialize<String> for ArchivedText {
+    ghost Told = { List ℕ };
+
+    ghost told = { string_bytes };
+
+    ghost told_order = { slice_cmp nat_cmp };
+
+    ghost native = { λ b p. Ok (text_kind.read b p) };
+
+    /// A copy of the text. The only error is a refused growth.
+    fn deserialize(
+        alloc: Global,
+        view: &View<'_, ArchivedText>,
+    ) -> Result<String, DeserializeFault> {
+        match String::from_str(alloc, view.as_str()) {
+            Ok(text) => Ok(text),
+            Err(error) => Err(DeserializeFault::Memory(error)),
+        }
+    }
+
+    ghost by_meaning = { record { of_value = λ text. Ok text; reads = λ b at. refl } };
+
+    ghost told_whole = { λ x y same. Prim.search (rules, common_steps) };
+}

@@ -1,0 +1,37 @@
+//! Native values that are keys of native maps.
+ghost use Rattle.std.specs.Prelude.{◌≡◌};
+ghost use Rattle.std.specs.Cmp.{IsTotalOrder, nat_cmp_total};
+ghost use Rattle.std.specs.Cmp.Lexicographic.{nat_list_cmp_total};
+ghost use Rattle.std.proofs.Common.{refl};
+
+use crate::deserialize::Deserialize;
+use crate::native::DeserializeNative;
+use rkyv_btree_base::scalars::ArchivedNonZeroU32;
+use rkyv_btree_base::text::ArchivedText;
+use std::num::NonZeroU32;
+
+/// An archived type whose native values can be keys of native maps: they are ordered as what is told of them.
+pub trait DeserializeKey<T: Ord>: Deserialize<T> {
+    ghost ordered_as_told: { (x y : T)
+        → T.cmp x y ≡ Self.told_order (Self.told x) (Self.told y) };
+
+    ghost total: { IsTotalOrder Self.told_order };
+}
+
+impl<T: DeserializeNative> DeserializeKey<T::Native> for T {
+    ghost ordered_as_told = { λ x y. refl };
+
+    ghost total = { T.Native.total };
+}
+
+impl DeserializeKey<NonZeroU32> for ArchivedNonZeroU32 {
+    ghost ordered_as_told = { λ x y. refl };
+
+    ghost total = { nat_cmp_total };
+}
+
+impl DeserializeKey<String> for ArchivedText {
+    ghost ordered_as_told = { λ x y. refl };
+
+    ghost total = { nat_list_cmp_total };
+}

@@ -1,0 +1,87 @@
+//! Native maps from views of archived ones.
+ghost use Rattle.std.specs.Prelude.{List, OnOk, IfErr};
+ghost use Rattle.std.specs.Cmp.Lexicographic.{slice_cmp};
+ghost use Rattle.std.specs.Ordering.{ordering_then};
+ghost use Rattle.rkyv_btree_convert.specs.Deserializing.{IsRefused, both};
+ghost use Rattle.rkyv_btree_convert.specs.Maps.{CountsLast, IsGivenByEntries, Puts, native_map, told_both};
+ghost use Rattle.rkyv_btree_convert.specs.laws.Maps.{map_by_meaning, map_told_whole};
+
+use crate::deserialize::{Deserialize, DeserializeFault};
+use crate::key::DeserializeKey;
+use rkyv_btree_base::map::ArchivedBTreeMap;
+use rkyv_btree_view::view::View;
+use std::alloc::{AllocError, Global};
+use std::collections::BTreeMap;
+
+/// Puts the native key and the native value of an entry into a map, where an equal key stays and takes the value.
+fn put_entry<T: Ord + Drop, U: PartialEq + Drop, K: DeserializeKey<T>, V: Deserialize<U>>(
+    alloc: Global,
+    key: &View<'_, K>,
+    value: &View<'_, V>,
+    map: &mut BTreeMap<T, U>,
+) -> Result<(), DeserializeFault>
+    ensures ok { OnOk result (Puts K.told_order K.told V.told
+        (both (K.native key.now.buf.now key.now.pos) (V.native value.now.buf.now value.now.pos))
+        map.old.entries map.new.entries) }
+    ensures refused { IfErr result (IsRefused
+        (both (K.native key.now.buf.now key.now.pos) (V.native value.now.buf.now value.now.pos))) }
+{
+    let key = K::deserialize(alloc, key)?;
+    let value = V::deserialize(alloc, value)?;
+    match map.insert(key, value) {
+        Ok(_) => Ok(()),
+        Err(_) => Err(DeserializeFault::Memory(AllocError)),
+    }
+}
+
+impl<
+    T: Ord + Drop,
+    U: PartialEq + Drop,
+    K: DeserializeKey<T>,
+    V: Deserialize<U>,
+    const E: usize,
+> Deserialize<BTreeMap<T, U>> for ArchivedBTreeMap<K, V, E> {
+    ghost Told = { List (K.Told × V.Told) };
+
+    ghost told = { λ m. told_both K.told V.told m.entries };
+
+    ghost told_order = { slice_cmp (λ p q. ordering_then (K.told_order p.0 q.0)
+        (V.told_order p.1 q.1)) };
+
+    ghost native = { native_map K.kind V.kind E K.native V.native K.told_order };
+
+    /// The native map: of entries with equal keys the first key stays, and the last value counts. The entries are
+    /// read in order, a key before its value, up to the first that refuses itself.
+    fn deserialize(
+        alloc: Global,
+        view: &View<'_, ArchivedBTreeMap<K, V, E>>,
+    ) -> Result<BTreeMap<T, U>, DeserializeFault> {
+        let mut map = BTreeMap::new(alloc);
+        let mut entries = view.iter();
+        while let Some((key, value)) = entries.next() {
+            put_entry(alloc, &key, &value, &mut map)?;
+        }
+        Ok(map)
+    }
+
+    ghost by_meaning = { map_by_meaning K.by_meaning V.by_meaning E K.told_order };
+
+    ghost told_whole = { λ x y. map_told_whole K.told_whole V.told_whole x.entries y.entries };
+}
+
+/// What deserialising a map gives is told by its list of entries: by what each key and each value gives, by its meaning.
+pub fn maps_are_given_by_entries<
+    T: Ord,
+    U: PartialEq,
+    K: DeserializeKey<T>,
+    V: Deserialize<U>,
+    const E: usize,
+>()
+    ensures { IsGivenByEntries K.kind V.kind E K.native V.native K.told_order }
+{}
+
+/// In the native map that is made of entries with equal keys, the first key stays and the last value counts; and its
+/// keys ascend, as in each native map.
+pub fn last_values_count<T: Ord, U: PartialEq, K: DeserializeKey<T>, V: Deserialize<U>>()
+    ensures { (entries : List (K.Told × V.Told)) → CountsLast K.told_order entries }
+{}

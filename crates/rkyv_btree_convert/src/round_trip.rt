@@ -1,0 +1,69 @@
+//! What comes of values that are archived and made native again: these values.
+ghost use Rattle.std.specs.Prelude.{string_bytes};
+ghost use Rattle.std.specs.Int.NonZero.{non_zero_u32_get};
+ghost use Rattle.rkyv_btree_base.specs.Entry.{entry_kind};
+ghost use Rattle.rkyv_btree_base.specs.Map.{map_kind};
+ghost use Rattle.rkyv_btree_base.specs.Scalars.{bool_kind, char_kind, i16_kind, i32_kind, i64_kind, i8_kind, non_zero_kind, u16_kind, u32_kind, u64_kind, u8_kind, unit_kind};
+ghost use Rattle.rkyv_btree_base.specs.Text.{text_kind};
+ghost use Rattle.rkyv_btree_convert.specs.Maps.{native_map, told_both};
+ghost use Rattle.rkyv_btree_convert.specs.RoundTrip.{GivesBack, GivesItselfBack, GivesAscendingBack, both_mean};
+
+use crate::deserialize::Deserialize;
+use crate::key::DeserializeKey;
+use rkyv_btree_base::numbers::{ArchivedU16, ArchivedU32, ArchivedU64};
+use rkyv_btree_base::scalars::{ArchivedChar, ArchivedNonZeroU32};
+use rkyv_btree_base::signed::{ArchivedI16, ArchivedI32, ArchivedI64};
+use rkyv_btree_base::text::ArchivedText;
+use rkyv_btree_base::util::Entry;
+use std::alloc::Global;
+use std::num::NonZeroU32;
+
+/// What a number, a truth value, a character or a `()` means gives it back.
+pub fn natives_are_given_back()
+    ensures u8 { GivesItselfBack u8_kind ⟦<u8 as Deserialize<u8>>⟧.native }
+    ensures u16 { GivesItselfBack u16_kind ⟦<ArchivedU16 as Deserialize<u16>>⟧.native }
+    ensures u32 { GivesItselfBack u32_kind ⟦<ArchivedU32 as Deserialize<u32>>⟧.native }
+    ensures u64 { GivesItselfBack u64_kind ⟦<ArchivedU64 as Deserialize<u64>>⟧.native }
+    ensures i8 { GivesItselfBack i8_kind ⟦<i8 as Deserialize<i8>>⟧.native }
+    ensures i16 { GivesItselfBack i16_kind ⟦<ArchivedI16 as Deserialize<i16>>⟧.native }
+    ensures i32 { GivesItselfBack i32_kind ⟦<ArchivedI32 as Deserialize<i32>>⟧.native }
+    ensures i64 { GivesItselfBack i64_kind ⟦<ArchivedI64 as Deserialize<i64>>⟧.native }
+    ensures truths { GivesItselfBack bool_kind ⟦<bool as Deserialize<bool>>⟧.native }
+    ensures units { GivesItselfBack unit_kind ⟦<() as Deserialize<()>>⟧.native }
+    ensures chars { GivesItselfBack char_kind ⟦<ArchivedChar as Deserialize<char>>⟧.native }
+    ensures non_zero { GivesBack non_zero_kind non_zero_u32_get
+        ⟦<ArchivedNonZeroU32 as Deserialize<NonZeroU32>>⟧.native non_zero_u32_get }
+{}
+
+/// What a text means gives the text back.
+pub fn texts_are_given_back()
+    ensures { GivesBack text_kind (string_bytes {Z = Global})
+        ⟦<ArchivedText as Deserialize<String>>⟧.native string_bytes }
+{}
+
+/// Where what keys and what values mean gives these back, what pairs of them mean gives the pairs.
+pub fn pairs_are_given_back<
+    T: PartialEq + Drop,
+    U: PartialEq,
+    K: Deserialize<T>,
+    V: Deserialize<U>,
+>()
+    ensures { (key : T → K.kind.Value) (value : U → V.kind.Value)
+        → GivesBack K.kind key K.native K.told → GivesBack V.kind value V.native V.told
+        → GivesBack {X = T × U} (entry_kind K.kind V.kind) (λ e. (key e.0, value e.1))
+        ⟦<Entry<K, V> as Deserialize<(T, U)>>⟧.native (λ e. (K.told e.0, V.told e.1)) }
+{}
+
+/// Where what keys and what values mean gives these back, what a map of them means gives all its entries, in order.
+pub fn maps_are_given_back<
+    T: Ord + Drop,
+    U: PartialEq + Drop,
+    K: DeserializeKey<T>,
+    V: Deserialize<U>,
+    const E: usize,
+>()
+    ensures { (key : T → K.kind.Value) (value : U → V.kind.Value)
+        → GivesBack K.kind key K.native K.told → GivesBack V.kind value V.native V.told
+        → GivesAscendingBack (map_kind K.kind V.kind E) T.cmp (both_mean key value)
+        (native_map K.kind V.kind E K.native V.native K.told_order) (told_both K.told V.told) }
+{}

@@ -1,0 +1,151 @@
+-- What was serialised, with the map written over it, is accepted.
+use Rattle.std.proofs.Common.{◌≡◌, ℕ, ◌+◌, ◌%◌, ◌<◌, ◌≤◌, ◌∙◌, Bool, true, false, ◌||◌, nat_eq, List, [], ◌∷◌, ◌++◌, length, take, refl, sym, ap, subst, arith, inl, inr, if◌then◌else◌}
+use Rattle.std.proofs.lemmas.Bool.{ne_eqb}
+use Rattle.std.proofs.lemmas.Bool.Decides.{nat_tests}
+use Rattle.std.proofs.lemmas.List.{append_assoc, length-append, take_at, drop_at}
+use Rattle.std.specs.Int.{w32, to_le_bytes}
+use Rattle.rkyv_btree_portable.specs.Bytes.{number_at, Holds}
+use Rattle.rkyv_btree_writer.specs.Padding.{padding}
+use Rattle.rkyv_btree_image.specs.Image.{root_bytes, root_reaches, root_image}
+use Rattle.rkyv_btree_portable.specs.Kind.{Kind, IsLawful}
+use Rattle.rkyv_btree_format.specs.Layout.{layout_of}
+use Rattle.rkyv_btree_writer.specs.Pointers.{FitsOffset, offset_fits, pointer, no_pointer}
+use Rattle.rkyv_btree_portable.specs.Rounding.{round_up}
+use Rattle.rkyv_btree_portable.specs.laws.Rounding.{le-round_up, round_up-aligned}
+use Rattle.rkyv_btree_image.specs.Serialising.{Spelled}
+use Rattle.rkyv_btree_format.specs.Spells.{root_size, Spells, Accepted}
+use Rattle.rkyv_btree_shape.specs.Tree.{Tree, leaf, inner}
+use Rattle.rkyv_btree_writer.specs.Writing.{Writing, position, last_end, Write, Wrote, AllReach, appended}
+use Rattle.rkyv_btree_format.proofs.Widen.{map_widens}
+use Rattle.rkyv_btree_writer.proofs.WriteRuns.{appended-append}
+use Rattle.rkyv_btree_portable.specs.laws.Holding.{Holds-front, Holds-back}
+use Rattle.rkyv_btree_image.proofs.Leaves.{length-padding}
+use Rattle.rkyv_btree_writer.proofs.HeldNumbers.{held_number, held_pointer}
+
+pub reached : (at root : ℕ) → offset_fits at root ≡ true → FitsOffset at root
+reached at root h = (grind (arith, nat_tests), grind (arith, nat_tests))
+
+-- a map has eight bytes
+pub root_length : (at root n : ℕ) → length (root_bytes at root n) ≡ 8
+root_length at root n = go (nat_eq n 0)
+  where
+    go : (b : Bool) → length ((if b then no_pointer else pointer at root) ++ to_le_bytes w32 n) ≡ 8
+    go true = refl
+    go false = refl
+
+-- the last write's pointers reach
+reaches_last : (ws : List Write) (w : Write) → AllReach (ws ++ w ∷ []) → w.reaches ≡ true
+reaches_last [] w h = h.0
+reaches_last (x ∷ ws) w h = reaches_last ws w h.1
+
+module _ (K V : Kind) (E : ℕ) where
+  spelled_inside : (b : List ℕ) (lo hi p : ℕ) (t : Tree (K.Value × V.Value)) → Spells K V E b lo hi p t → (lo ≤ p) × (p ≤ hi) × (lo ≤ hi)
+  spelled_inside b lo hi p (leaf m) h = let at = h.0 in (at.start, omega arith, omega arith)
+  spelled_inside b lo hi p (inner row) h = let at = h.0 in (at.start, omega arith, omega arith)
+
+  -- the map over a root node at a position behind it, in the window of what was written
+  pub accepted_within : (b : List ℕ) (from to : Writing) (m : List (K.Value × V.Value)) (root at : ℕ) (spelled : Spelled K V E from m root to) → 0 < length m → length m ≤ last_end → root_reaches at root (length m) ≡ true →
+      length b ≤ 4294967295 → Holds b (position from) spelled.appended → position to ≤ at → at % 4 ≡ 0 → at + 8 ≤ length b → Holds b at (root_bytes at root (length m)) → (left : ℕ) × Accepted K V E b (position from) (position to) at left m
+  accepted_within b from to m root at spelled some few reaches short held behind aligned room own =
+      let n = length m in
+      let tree = spelled.spelled b short held (omega arith) in
+      let inside = spelled_inside b (position from) (position to) root spelled.tree tree in
+      let not_zero : nat_eq n 0 ≡ false = ne_eqb n 0 (omega arith) in
+      let bytes : Holds b at (pointer at root ++ to_le_bytes w32 n) = subst (λ (z : Bool). Holds b at ((if z then no_pointer else pointer at root) ++ to_le_bytes w32 n)) not_zero own in
+      let fits : FitsOffset at root = reached at root (subst (λ (z : Bool). (z || offset_fits at root) ≡ true) not_zero reaches) in
+      let total : number_at b (at + 4) 4 ≡ n = held_number b (at + 4) n (omega arith) (Holds-back b at (pointer at root) (to_le_bytes w32 n) bytes) in (
+        root + root_size (layout_of K V E) spelled.tree,
+        record {
+          short = short;
+          window = inside.2;
+          before = behind;
+          aligned = aligned;
+          room = room;
+          root = inr (
+            λ e. absurd (omega (arith, total, e)),
+            record {
+              start = root;
+              tree = spelled.tree;
+              leads = held_pointer b at root fits (omega arith) (omega arith) (Holds-front b at (pointer at root) (to_le_bytes w32 n) bytes);
+              spelled = tree;
+              levels = spelled.levels;
+              means = sym spelled.entries;
+              total = sym total;
+              left = refl;
+            },
+          );
+        },
+      )
+
+  -- and in the window of all that stands before it
+  pub accepted_over : IsLawful K → IsLawful V → (b : List ℕ) (from to : Writing) (m : List (K.Value × V.Value)) (root at : ℕ) (spelled : Spelled K V E from m root to) → 0 < length m → length m ≤ last_end → root_reaches at root (length m) ≡ true →
+      length b ≤ 4294967295 → Holds b (position from) spelled.appended → position to ≤ at → at % 4 ≡ 0 → at + 8 ≤ length b → Holds b at (root_bytes at root (length m)) → (left : ℕ) × Accepted K V E b 0 at at left m
+  accepted_over k v b from to m root at spelled some few reaches short held behind aligned room own =
+      let whole = accepted_within b from to m root at spelled some few reaches short held behind aligned room own in
+      let wide = map_widens K V E b k.widens v.widens (position from) (position to) at whole.0 0 at m (omega arith) behind (omega arith) whole.1 in
+      (wide.0, wide.2)
+
+  -- the map of no entries
+  pub accepted_empty : (b : List ℕ) (root at : ℕ) → length b ≤ 4294967295 → at % 4 ≡ 0 → at + 8 ≤ length b → Holds b at (root_bytes at root 0) → Accepted K V E b 0 at at 0 []
+  accepted_empty b root at short aligned room own = record {
+    short = short;
+    window = omega arith;
+    before = omega arith;
+    aligned = aligned;
+    room = room;
+    root = inl (held_number b (at + 4) 0 (omega arith) (Holds-back b at no_pointer (to_le_bytes w32 0) own), refl, refl);
+  }
+
+-- bytes in the middle of others
+pub held_between : (xs ys zs : List ℕ) (at : ℕ) → length xs ≡ at → Holds (xs ++ (ys ++ zs)) at ys
+held_between xs ys zs at e = ap (take (length ys)) (drop_at xs (ys ++ zs) at e) ∙ take_at ys zs (length ys) refl
+
+-- the map is the last eight bytes of what a writer in memory holds from position 0 on
+pub archive_length : (mid to : Writing) (root n : ℕ) → mid.base ≡ 0 → Wrote mid (root_image (position mid) root n) to → length to.contents ≡ round_up (position mid) 4 + 8
+archive_length mid to root n zero wrote =
+    let at = round_up (position mid) 4 in
+    let pad = padding 4 (position mid) in
+    let own = root_bytes at root n in
+    let write : Write = record { bytes = own; reaches = root_reaches at root n } in
+    omega (
+      arith,
+      ap length wrote.done.contents,
+      length-append mid.contents (appended (pad ++ write ∷ [])),
+      ap length (appended-append pad (write ∷ [])),
+      length-append (appended pad) (own ++ []),
+      length-append own [],
+      root_length at root n,
+      length-padding 4 (position mid) (omega arith),
+    )
+
+module _ (K V : Kind) (E : ℕ) (k : IsLawful K) (v : IsLawful V) where
+  -- what a writer in memory holds from position 0 on is a map where the map was written
+  pub accepted_archive : (from mid to : Writing) (m : List (K.Value × V.Value)) (root : ℕ) → from.base ≡ 0 → mid.base ≡ 0 → (0 < length m → Spelled K V E from m root mid) → length m ≤ last_end → Wrote mid (root_image (position mid) root (length m)) to → position to ≤ last_end →
+      (left : ℕ) × Accepted K V E to.contents 0 (round_up (position mid) 4) (round_up (position mid) 4) left m
+  accepted_archive from mid to m root start zero spelled few wrote end =
+      let n = length m in
+      let at = round_up (position mid) 4 in
+      let pad = padding 4 (position mid) in
+      let own = root_bytes at root n in
+      let write : Write = record { bytes = own; reaches = root_reaches at root n } in
+      let up = le-round_up (position mid) 4 (omega arith) in
+      let pads = length-padding 4 (position mid) (omega arith) in
+      let split : appended (pad ++ write ∷ []) ≡ appended pad ++ (own ++ []) = appended-append pad (write ∷ []) in
+      let contents : to.contents ≡ mid.contents ++ (appended pad ++ (own ++ [])) = wrote.done.contents ∙ ap (λ z. mid.contents ++ z) split in
+      let grouped : to.contents ≡ (mid.contents ++ appended pad) ++ (own ++ []) = contents ∙ sym (append_assoc mid.contents (appended pad) (own ++ [])) in
+      let length_front = length-append mid.contents (appended pad) in
+      let total : length to.contents ≡ at + 8 = archive_length mid to root n zero wrote in
+      let short : length to.contents ≤ 4294967295 = omega (arith, wrote.done.base) in
+      let held : Holds to.contents at own = subst (λ (z : List ℕ). Holds z at own) (sym grouped) (held_between (mid.contents ++ appended pad) own [] at (omega arith)) in
+      let aligned = round_up-aligned (position mid) 4 in
+      let reaches = reaches_last pad write wrote.reach in
+      go m root at to.contents short total aligned held reaches (λ some.
+      let s = spelled some in
+      let there : to.contents ≡ from.contents ++ (s.appended ++ (appended pad ++ (own ++ []))) = contents ∙ (ap (λ z. z ++ (appended pad ++ (own ++ []))) s.contents ∙ append_assoc from.contents s.appended (appended pad ++ (own ++ []))) in
+      (s, subst (λ (z : List ℕ). Holds z (position from) s.appended) (sym there) (held_between from.contents s.appended (appended pad ++ (own ++ [])) (position from) (omega arith)))) (omega arith) few
+    where
+      go : (m : List (K.Value × V.Value)) (root at : ℕ) (b : List ℕ) → length b ≤ 4294967295 → length b ≡ at + 8 → at % 4 ≡ 0 → Holds b at (root_bytes at root (length m)) → root_reaches at root (length m) ≡ true → (0 < length m → (s : Spelled K V E from m root mid) × Holds b (position from) s.appended) → position mid ≤ at → length m ≤ last_end → (left : ℕ) × Accepted K V E b 0 at at left m
+      go [] root at b short total aligned held reaches tree behind few = (0, accepted_empty K V E b root at short aligned (omega arith) held)
+      go (x ∷ m) root at b short total aligned held reaches tree behind few =
+          let s = tree (omega arith) in
+          accepted_over K V E k v b from mid (x ∷ m) root at s.0 (omega arith) few reaches short s.1 behind aligned (omega arith) held

@@ -1,0 +1,25 @@
+-- What was serialised is accepted, once the map is written behind it.
+use Rattle.std.specs.Prelude.{◌≡◌, ℕ, ◌+◌, ◌%◌, ◌<◌, ◌≤◌, true, List, [], length}
+use Rattle.rkyv_btree_portable.specs.Bytes.{Holds}
+use Rattle.rkyv_btree_image.specs.Image.{root_bytes, root_reaches}
+use Rattle.rkyv_btree_portable.specs.Kind.{Kind}
+use Rattle.rkyv_btree_image.specs.Serialising.{Spelled}
+use Rattle.rkyv_btree_format.specs.Spells.{Accepted}
+use Rattle.rkyv_btree_writer.specs.Writing.{Writing, position, last_end}
+
+-- a buffer of at most 4294967295 bytes has room for a map at an aligned position, and holds the bytes of one there
+pub record HoldsRoot (b : List ℕ) (at root len : ℕ) : Type 0 where
+  pub short : length b ≤ 4294967295
+  pub aligned : at % 4 ≡ 0
+  pub room : at + 8 ≤ length b
+  pub held : Holds b at (root_bytes at root len)
+
+-- a buffer that holds a serialised tree, and behind it the map with its length, is a map of the tree's list there
+abbrev pub SerialisedIsAccepted : Kind → Kind → ℕ → Type 0
+SerialisedIsAccepted K V E =
+    (b : List ℕ) (from to : Writing) (m : List (K.Value × V.Value)) (root at : ℕ) (spelled : Spelled K V E from m root to) → 0 < length m → length m ≤ last_end → root_reaches at root (length m) ≡ true →
+    Holds b (position from) spelled.appended → position to ≤ at → HoldsRoot b at root (length m) → (left : ℕ) × Accepted K V E b 0 at at left m
+
+-- a buffer that holds a map of length 0 is the empty map there
+abbrev pub EmptyIsAccepted : Kind → Kind → ℕ → Type 0
+EmptyIsAccepted K V E = (b : List ℕ) (root at : ℕ) → HoldsRoot b at root 0 → Accepted K V E b 0 at at 0 []

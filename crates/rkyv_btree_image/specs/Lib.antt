@@ -1,0 +1,14 @@
+pub mod Kept
+pub mod Determined
+pub mod Image
+pub mod Entries
+pub mod Written
+pub mod Begun
+pub mod Serialising
+pub mod Archives
+pub mod Alike
+pub mod Miscounts
+pub mod Imaged
+pub mod TreeArchival
+pub mod Sets
+pub mod Whole

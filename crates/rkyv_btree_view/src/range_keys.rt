@@ -1,0 +1,50 @@
+//! Iterators over the keys of a range.
+ghost use Rattle.std.specs.Prelude.{◌≡◌, map};
+ghost use Rattle.rkyv_btree_view.specs.View.{reads};
+
+use crate::range::Range;
+use crate::view::View;
+use rkyv_btree_base::check::Portable;
+use rkyv_btree_walk::map::ArchivedMap;
+use std::iter::FusedIterator;
+
+/// The keys of a range of a map, in order.
+#[derive(Drop)]
+pub struct RangeKeys<'a, M: ArchivedMap> {
+    entries: Range<'a, M>,
+}
+
+impl<'a, M: ArchivedMap> RangeKeys<'a, M> {
+    ghost use Rattle.rkyv_btree_view.specs.Keys.{range_keys_left};
+    ghost use Rattle.rkyv_btree_view.specs.Range.{range_left};
+
+    /// The keys of these entries.
+    pub(crate) fn of(entries: Range<'a, M>) -> RangeKeys<'a, M>
+        ensures { range_keys_left result ≡ map (λ e. e.0) (range_left entries.entry) }
+    {
+        RangeKeys { entries }
+    }
+}
+
+impl<'a, K: Portable, V: Portable, M: ArchivedMap<Key = K, Mapped = V>> Iterator
+    for RangeKeys<'a, M> {
+    ghost use Rattle.std.specs.Iterator.{YieldsFirstBy, item_count};
+    ghost use Rattle.rkyv_btree_view.specs.Keys.{range_keys_left};
+
+    type Item = View<'a, K>;
+
+    ghost next_gives = { YieldsFirstBy reads range_keys_left };
+
+    ghost remaining = { item_count range_keys_left };
+
+    #[inline(always)]
+    fn next(&mut self) -> Option<View<'a, K>> {
+        match self.entries.next() {
+            None => None,
+            Some((key, _)) => Some(key),
+        }
+    }
+}
+
+impl<'a, K: Portable, V: Portable, M: ArchivedMap<Key = K, Mapped = V>> FusedIterator
+    for RangeKeys<'a, M> {}

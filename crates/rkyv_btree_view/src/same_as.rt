@@ -1,0 +1,149 @@
+//! Tests of archived values with native ones, for equality.
+ghost use Rattle.std.specs.Prelude.{◌≡◌, ◌+◌, ◌&&◌, ℕ, Bool, List, nat_eq};
+ghost use Rattle.std.specs.Cmp.{nat_eq_equiv};
+ghost use Rattle.std.specs.Cmp.Lexicographic.{nat_list_eq_equiv, pointwise};
+ghost use Rattle.std.specs.Int.NonZero.{non_zero_u32_get};
+ghost use Rattle.std.specs.String.{string_bytes};
+ghost use Rattle.rkyv_btree_base.specs.Entry.{value_offset};
+ghost use Rattle.rkyv_btree_base.specs.Scalars.{non_zero_kind};
+ghost use Rattle.rkyv_btree_base.specs.Text.{text_kind};
+ghost use Rattle.rkyv_btree_view.specs.Iter.{entries_left};
+ghost use Rattle.rkyv_btree_view.specs.SameAs.{ByTests, TestsSame, map_same_at};
+ghost use Rattle.rkyv_btree_view.specs.View.{entries_of};
+ghost use Rattle.rkyv_btree_view.specs.laws.SameAs.{map_tests, native_tests, pair_tests, same_tests};
+
+use crate::iter::Iter;
+use crate::map::ShowsEntries;
+use crate::native::ToNative;
+use crate::view::View;
+use rkyv_btree_base::check::Portable;
+use rkyv_btree_base::map::ArchivedBTreeMap;
+use rkyv_btree_base::scalars::ArchivedNonZeroU32;
+use rkyv_btree_base::text::ArchivedText;
+use rkyv_btree_base::util::Entry;
+use rkyv_btree_walk::map::ArchivedMap;
+use std::collections::{BTreeMap, btree_map};
+use std::num::NonZeroU32;
+
+/// An archived type whose values may be the same as native ones of type `T`.
+pub trait SameAs<T>: Portable {
+    /// Whether the value at a position of a buffer is the same as a native one.
+    ghost same_at: { T → List ℕ → ℕ → Bool };
+
+    /// Whether what the view reads is the same as `native`.
+    fn same_as(view: &View<'_, Self>, native: &T) -> bool
+        ensures { result ≡ same_at native.now view.now.buf.now view.now.pos };
+
+    // Where a value is the same as a native one, so are the values that views of both say to be equal, and no others.
+    ghost tests: { TestsSame Self.kind same_at };
+}
+
+impl<T: ToNative> SameAs<T::Native> for T {
+    ghost same_at = { λ native b at. T.Native.eq (T.read_native b at) native };
+
+    fn same_as(view: &View<'_, T>, native: &T::Native) -> bool {
+        T::native(view) == *native
+    }
+
+    ghost tests = { native_tests T.reads T.Native.Eq.laws };
+}
+
+impl SameAs<NonZeroU32> for ArchivedNonZeroU32 {
+    ghost same_at = { λ native b at.
+        nat_eq (non_zero_kind.read b at) (non_zero_u32_get native) };
+
+    fn same_as(view: &View<'_, ArchivedNonZeroU32>, native: &NonZeroU32) -> bool {
+        view.to_native().get() == native.get()
+    }
+
+    ghost tests = { same_tests non_zero_kind nat_eq_equiv non_zero_u32_get };
+}
+
+impl SameAs<String> for ArchivedText {
+    ghost same_at = { λ native b at.
+        pointwise nat_eq (text_kind.read b at) (string_bytes native) };
+
+    fn same_as(view: &View<'_, ArchivedText>, native: &String) -> bool {
+        view.as_str() == native.as_str()
+    }
+
+    ghost tests = { same_tests text_kind nat_list_eq_equiv string_bytes };
+}
+
+impl<'t> SameAs<&'t str> for ArchivedText {
+    ghost same_at = { λ native b at. pointwise nat_eq (text_kind.read b at) native.now };
+
+    fn same_as(view: &View<'_, ArchivedText>, native: &&'t str) -> bool {
+        view.as_str() == *native
+    }
+
+    ghost tests = { same_tests text_kind nat_list_eq_equiv (λ native. native.now) };
+}
+
+impl<T, U, K: SameAs<T>, V: SameAs<U>> SameAs<(T, U)> for Entry<K, V> {
+    ghost same_at = { λ native b at. K.same_at native.0 b at
+        && V.same_at native.1 b (at + value_offset K.kind V.kind) };
+
+    fn same_as(view: &View<'_, Entry<K, V>>, native: &(T, U)) -> bool {
+        K::same_as(&view.key(), &native.0) && V::same_as(&view.value(), &native.1)
+    }
+
+    ghost tests = { pair_tests K.tests V.tests (λ native. native) };
+}
+
+impl<T, U, K: SameAs<T>, V: SameAs<U>> SameAs<Entry<T, U>> for Entry<K, V> {
+    ghost same_at = { λ native b at. K.same_at native.key b at
+        && V.same_at native.value b (at + value_offset K.kind V.kind) };
+
+    fn same_as(view: &View<'_, Entry<K, V>>, native: &Entry<T, U>) -> bool {
+        K::same_as(&view.key(), &native.key) && V::same_as(&view.value(), &native.value)
+    }
+
+    ghost tests = { pair_tests K.tests V.tests (λ native. (native.key, native.value)) };
+}
+
+impl<T: Ord, U, K: SameAs<T>, V: SameAs<U>, const E: usize> SameAs<BTreeMap<T, U>>
+    for ArchivedBTreeMap<K, V, E> {
+    ghost same_at = { λ native b at.
+        map_same_at K.kind V.kind E K.same_at V.same_at native.entries b at };
+
+    fn same_as(view: &View<'_, ArchivedBTreeMap<K, V, E>>, native: &BTreeMap<T, U>) -> bool {
+        view.eq_map(native)
+    }
+
+    ghost tests = { map_tests K.kind V.kind E K.tests V.tests (λ native. native.entries) };
+}
+
+/// Whether the entries that an iterator has left are as many as those of a native map's, and the same one by one.
+fn rest_is_same_as<T, U, K: SameAs<T>, V: SameAs<U>, M: ArchivedMap<Key = K, Mapped = V>>(
+    mut entries: Iter<'_, M>,
+    mut natives: btree_map::Iter<'_, T, U>,
+) -> bool
+    ensures { ByTests K.kind V.kind K.same_at V.same_at (λ same.
+        result ≡ pointwise same (entries_left entries.entry) natives.entry) }
+{
+    while let Some((key, value)) = entries.next() {
+        let Some((native_key, native_value)) = natives.next() else {
+            return false;
+        };
+        if !(K::same_as(&key, native_key) && V::same_as(&value, native_value)) {
+            return false;
+        }
+    }
+    natives.next().is_none()
+}
+
+impl<'a, K: Portable, V: Portable, M: ArchivedMap<Key = K, Mapped = V> + ShowsEntries> View<'a, M> {
+    /// Whether the map has as many entries as a native map, and each is the same as the native one at its place.
+    pub fn eq_map<T: Ord, U>(self, map: &BTreeMap<T, U>) -> bool
+    where
+        K: SameAs<T>,
+        V: SameAs<U>,
+        ensures { ByTests K.kind V.kind K.same_at V.same_at (λ same. result
+            ≡ pointwise same (entries_of K.kind V.kind M.E self.entry) map.now.entries) }
+    {
+        // Both maps say their lengths, so maps that aren't as long cost no walk.
+        self.len() as usize == map.len()
+            && rest_is_same_as::<T, U, K, V, M>(self.walk(), map.iter())
+    }
+}

@@ -1,0 +1,146 @@
+//! Archived maps made native, archived again, and compared with native ones.
+
+use rkyv_btree::deserialize::{Deserialize, DeserializeKey};
+use rkyv_btree::map::access;
+use rkyv_btree::same_as::SameAs;
+use rkyv_btree_base::archive::{Archive, Serialize};
+use rkyv_btree_base::check::{CheckBytes, Portable};
+use rkyv_btree_base::layout;
+use rkyv_btree_base::map::ArchivedBTreeMap;
+use rkyv_btree_base::numbers::{ArchivedU16, ArchivedU32, ArchivedU64};
+use rkyv_btree_base::place::VecWriter;
+use rkyv_btree_base::scalars::{ArchivedChar, ArchivedNonZeroU32};
+use rkyv_btree_base::signed::{ArchivedI16, ArchivedI32, ArchivedI64};
+use rkyv_btree_base::text::ArchivedText;
+use std::alloc::Global;
+use std::collections::BTreeMap;
+use std::num::NonZeroU32;
+use std::process::Abort;
+use std::test::Fail;
+
+/// Archives entries, and answers where their map stands.
+pub(crate) fn archive<KU, VU, K, V, const E: usize>(
+    rt: &impl Abort,
+    alloc: Global,
+    entries: &[(KU, VU)],
+    writer: &mut VecWriter,
+) -> Result<u32, Fail>
+where
+    KU: Archive<Archived = K> + Serialize<VecWriter, Global>,
+    VU: Archive<Archived = V> + Serialize<VecWriter, Global>,
+    K: Portable,
+    V: Portable,
+{
+    assert!(rt; layout::fits::<K, V, E>());
+    let root = ArchivedBTreeMap::<K, V, E>::serialize_from_ordered_iter(
+        alloc,
+        entries.len(),
+        entries.iter().map(|entry| (&entry.0, &entry.1)),
+        writer,
+    )?;
+    Ok(ArchivedBTreeMap::<K, V, E>::write_root(entries.len(), root, writer)?)
+}
+
+/// The maps of the first of some entries, however many, are made native; these are the same as the archived ones, and
+/// give the same bytes when they are archived. The keys rise.
+fn there_and_back<KU, VU, K, V, const E: usize>(
+    rt: &impl Abort,
+    alloc: Global,
+    entries: &[(KU, VU)],
+) -> Result<(), Fail>
+where
+    KU: Archive<Archived = K> + Serialize<VecWriter, Global> + Ord + Drop,
+    VU: Archive<Archived = V> + Serialize<VecWriter, Global> + PartialEq + Drop,
+    K: CheckBytes + DeserializeKey<KU> + SameAs<KU>,
+    V: CheckBytes + Deserialize<VU> + SameAs<VU>,
+{
+    for len in 0..=entries.len() {
+        let mut writer = VecWriter::new(alloc);
+        let pos = archive::<KU, VU, K, V, E>(rt, alloc, &entries[..len], &mut writer)?;
+        assert!(rt; layout::fits::<K, V, E>());
+        let map = access::<K, V, E>(writer.bytes(), pos).expect(rt, "a map");
+        let made: BTreeMap<KU, VU> = ArchivedBTreeMap::<K, V, E>::deserialize(alloc, &map)?;
+        assert_eq!(rt; made.len(), len);
+        assert!(rt; map.eq_map(&made));
+        let mut again = VecWriter::new(alloc);
+        let root = ArchivedBTreeMap::<K, V, E>::serialize_from_ordered_iter(
+            alloc,
+            made.len(),
+            made.iter(),
+            &mut again,
+        )?;
+        let pos_again = ArchivedBTreeMap::<K, V, E>::write_root(made.len(), root, &mut again)?;
+        assert_eq!(rt; pos_again, pos);
+        assert_eq!(rt; again.bytes(), writer.bytes());
+    }
+    Ok(())
+}
+
+/// The same with one, two and five entries a node.
+fn come_back<KU, VU, K, V>(rt: &impl Abort, alloc: Global, entries: &[(KU, VU)]) -> Result<(), Fail>
+where
+    KU: Archive<Archived = K> + Serialize<VecWriter, Global> + Ord + Drop,
+    VU: Archive<Archived = V> + Serialize<VecWriter, Global> + PartialEq + Drop,
+    K: CheckBytes + DeserializeKey<KU> + SameAs<KU>,
+    V: CheckBytes + Deserialize<VU> + SameAs<VU>,
+{
+    there_and_back::<KU, VU, K, V, 1>(rt, alloc, entries)?;
+    there_and_back::<KU, VU, K, V, 2>(rt, alloc, entries)?;
+    there_and_back::<KU, VU, K, V, 5>(rt, alloc, entries)
+}
+
+#[test]
+fn bytes_come_back(rt: HostRuntime) -> Result<(), Fail> {
+    let alloc = rt.alloc();
+    let unsigned = Vec::from_iter(alloc, (0..40u8).map(|n| (n, !n)))?;
+    come_back::<u8, u8, u8, u8>(&rt, alloc, &unsigned)?;
+    let signed = Vec::from_iter(alloc, (-20..20i8).map(|n| (n, n < 0)))?;
+    come_back::<i8, bool, i8, bool>(&rt, alloc, &signed)?;
+    let truths = [(false, ()), (true, ())];
+    come_back::<bool, (), bool, ()>(&rt, alloc, &truths)?;
+    come_back::<(), i8, (), i8>(&rt, alloc, &[((), -8)])
+}
+
+#[test]
+fn unsigned_numbers_come_back(rt: HostRuntime) -> Result<(), Fail> {
+    let alloc = rt.alloc();
+    let short = Vec::from_iter(alloc, (0..40u16).map(|n| (n.wrapping_mul(1600), !n)))?;
+    come_back::<u16, u16, ArchivedU16, ArchivedU16>(&rt, alloc, &short)?;
+    let usual = Vec::from_iter(alloc, (0..40u32).map(|n| (n.wrapping_mul(100_000_000), !n)))?;
+    come_back::<u32, u32, ArchivedU32, ArchivedU32>(&rt, alloc, &usual)?;
+    let long = Vec::from_iter(alloc, (0..40u64).map(|n| (n << 40, !n)))?;
+    come_back::<u64, u64, ArchivedU64, ArchivedU64>(&rt, alloc, &long)
+}
+
+#[test]
+fn signed_numbers_come_back(rt: HostRuntime) -> Result<(), Fail> {
+    let alloc = rt.alloc();
+    let short = Vec::from_iter(alloc, (-20..20i16).map(|n| (n.wrapping_mul(1600), !n)))?;
+    come_back::<i16, i16, ArchivedI16, ArchivedI16>(&rt, alloc, &short)?;
+    let usual = Vec::from_iter(
+        alloc,
+        (-20..20i32).map(|n| (n.wrapping_mul(100_000_000), !n)),
+    )?;
+    come_back::<i32, i32, ArchivedI32, ArchivedI32>(&rt, alloc, &usual)?;
+    let long = Vec::from_iter(alloc, (-20..20i64).map(|n| (n, n.wrapping_mul(1 << 50))))?;
+    come_back::<i64, i64, ArchivedI64, ArchivedI64>(&rt, alloc, &long)
+}
+
+#[test]
+fn characters_and_texts_come_back(rt: HostRuntime) -> Result<(), Fail> {
+    let alloc = rt.alloc();
+    let letters = Vec::from_iter(alloc, (200..240u8).map(|n| (char::from(n), '\u{10FFFF}')))?;
+    come_back::<char, char, ArchivedChar, ArchivedChar>(&rt, alloc, &letters)?;
+    let one = NonZeroU32::MIN;
+    let numbers = Vec::from_iter(alloc, (0..40u32).map(|n| (one.saturating_add(n), one)))?;
+    come_back::<NonZeroU32, NonZeroU32, ArchivedNonZeroU32, ArchivedNonZeroU32>(
+        &rt, alloc, &numbers,
+    )?;
+    let mut texts = Vec::new(alloc);
+    for number in 0..40u8 {
+        let key = format!(in alloc; "key {number:02}")?;
+        let value = format!(in alloc; "\u{E9}{number}")?;
+        texts.push((key, value))?;
+    }
+    come_back::<String, String, ArchivedText, ArchivedText>(&rt, alloc, &texts)
+}

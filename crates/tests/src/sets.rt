@@ -1,0 +1,394 @@
+//! Archived sets: their bytes, and what they answer beside std's.
+
+use crate::ranges::is_between;
+use crate::views::hashed;
+use rkyv_btree::set::access;
+use rkyv_btree::view::View;
+use rkyv_btree_base::archive::{Archive, Serialize};
+use rkyv_btree_base::check::{CheckBytes, Portable};
+use rkyv_btree_base::fault::Fault;
+use rkyv_btree_base::layout;
+use rkyv_btree_base::map::ArchivedBTreeMap;
+use rkyv_btree_base::numbers::ArchivedU32;
+use rkyv_btree_base::place::VecWriter;
+use rkyv_btree_base::set::ArchivedBTreeSet;
+use rkyv_btree_base::text::ArchivedText;
+use std::alloc::{AllocError, Global};
+use std::collections::BTreeSet;
+use std::ops::{Bound, ControlFlow};
+use std::process::Abort;
+use std::test::Fail;
+
+/// Writes the tree and the root of a set, and answers where the root stands.
+fn archive<KU, K, const E: usize>(
+    rt: &impl Abort,
+    alloc: Global,
+    keys: &[KU],
+    writer: &mut VecWriter,
+) -> Result<u32, Fault<AllocError>>
+where
+    KU: Archive<Archived = K> + Serialize<VecWriter, Global>,
+    K: Portable,
+{
+    assert!(rt; layout::fits::<K, (), E>());
+    let len = keys.len();
+    let root = ArchivedBTreeSet::<K, E>::serialize_from_ordered_iter(
+        alloc,
+        len,
+        keys.iter(),
+        writer,
+    )?;
+    ArchivedBTreeSet::<K, E>::write_root(len, root, writer)
+}
+
+/// The set at a position.
+fn opened<'a, K: CheckBytes, const E: usize>(
+    rt: &impl Abort,
+    bytes: &'a [u8],
+    pos: u32,
+) -> View<'a, ArchivedBTreeSet<K, E>> {
+    assert!(rt; layout::fits::<K, (), E>());
+    access::<K, E>(bytes, pos).expect(rt, "a set")
+}
+
+#[test]
+fn a_set_has_these_bytes(rt: HostRuntime) -> Result<(), Fail> {
+    let mut writer = VecWriter::new(rt.alloc());
+    let pos = archive::<i32, _, 5>(&rt, rt.alloc(), &[10, 20, 40, 80], &mut writer)?;
+    assert_eq!(rt; pos, 28);
+    let want = [
+        0u8, 0, 0, 0, 10, 0, 0, 0, 20, 0, 0, 0, 40, 0, 0, 0, 80, 0, 0, 0, 0, 0, 0, 0, 4, 0, 0, 0, // leaf
+        228, 255, 255, 255, 4, 0, 0, 0, // set
+    ];
+    assert_eq!(rt; writer.bytes(), want.as_slice());
+    Ok(())
+}
+
+#[test]
+fn the_set_of_one_empty_value_is_the_map_of_it(rt: HostRuntime) -> Result<(), Fail> {
+    let mut set = VecWriter::new(rt.alloc());
+    let pos = archive::<(), _, 5>(&rt, rt.alloc(), &[()], &mut set)?;
+    assert_eq!(rt; pos, 8);
+    let want = [0u8, 0, 0, 0, 1, 0, 0, 0, 248, 255, 255, 255, 1, 0, 0, 0];
+    assert_eq!(rt; set.bytes(), want.as_slice());
+    assert!(rt; layout::fits::<(), (), 5>());
+    let mut map = VecWriter::new(rt.alloc());
+    let root = ArchivedBTreeMap::<(), (), 5>::serialize_from_ordered_iter(
+        rt.alloc(),
+        1,
+        [((), ())]
+            .iter()
+            .map(|entry: &((), ())| (&entry.0, &entry.1)),
+        &mut map,
+    )?;
+    ArchivedBTreeMap::<(), (), 5>::write_root(1, root, &mut map)?;
+    assert_eq!(rt; map.bytes(), set.bytes());
+    assert!(rt; opened::<(), 5>(&rt, set.bytes(), pos).contains_by(()));
+    Ok(())
+}
+
+#[test]
+fn the_empty_set_has_no_keys(rt: HostRuntime) -> Result<(), Fail> {
+    let mut writer = VecWriter::new(rt.alloc());
+    let pos = archive::<u32, _, 5>(&rt, rt.alloc(), &[], &mut writer)?;
+    assert_eq!(rt; pos, 0);
+    assert_eq!(rt; writer.bytes(), [1u8, 0, 0, 0, 0, 0, 0, 0].as_slice());
+    let set = opened::<ArchivedU32, 5>(&rt, writer.bytes(), pos);
+    assert!(rt; set.is_empty());
+    assert_eq!(rt; set.len(), 0);
+    assert!(rt; set.iter().next().is_none());
+    assert!(rt;
+        set.range_by(Bound::<u32>::Unbounded, Bound::Unbounded)
+            .next()
+            .is_none()
+    );
+    let met = set.as_map().visit(|key: View<ArchivedU32>, _: View<()>| ControlFlow::Break(
+        key.to_native(),
+    ));
+    assert_eq!(rt; met, None);
+    assert!(rt; !set.contains_by(0));
+    assert!(rt; set.get_by(0).is_none());
+    Ok(())
+}
+
+#[test]
+fn an_iterator_counts_what_is_left(rt: HostRuntime) -> Result<(), Fail> {
+    let mut writer = VecWriter::new(rt.alloc());
+    let pos = archive::<u32, _, 1>(&rt, rt.alloc(), &[1, 2], &mut writer)?;
+    let set = opened::<ArchivedU32, 1>(&rt, writer.bytes(), pos);
+    let mut keys = set.iter();
+    assert_eq!(rt; keys.len(), 2);
+    assert_eq!(rt; keys.size_hint(), (2, Some(2)));
+    assert_eq!(rt; keys.next().map(|key| key.to_native()), Some(1));
+    assert_eq!(rt; keys.len(), 1);
+    assert_eq!(rt; keys.next().map(|key| key.to_native()), Some(2));
+    assert_eq!(rt; keys.len(), 0);
+    assert!(rt; keys.next().is_none());
+    Ok(())
+}
+
+#[test]
+fn a_set_of_texts_is_read(rt: HostRuntime) -> Result<(), Fail> {
+    let mut texts = Vec::new(rt.alloc());
+    for text in ["", "a", "b", "\u{E9}"] {
+        texts.push(String::from_str(rt.alloc(), text)?)?;
+    }
+    let mut writer = VecWriter::new(rt.alloc());
+    let pos = archive::<String, _, 2>(&rt, rt.alloc(), texts.as_slice(), &mut writer)?;
+    let set = opened::<ArchivedText, 2>(&rt, writer.bytes(), pos);
+    assert_eq!(rt; set.len(), 4);
+    assert!(rt; set.contains_by("b"));
+    assert!(rt; !set.contains_by("ab"));
+    assert_eq!(rt;
+        set.get_by("\u{E9}").map(|key| key.as_str()),
+        Some("\u{E9}")
+    );
+    let mut within = set.range_by(Bound::Excluded("a"), Bound::Unbounded);
+    assert_eq!(rt; within.next().map(|key| key.as_str()), Some("b"));
+    assert_eq!(rt; within.next().map(|key| key.as_str()), Some("\u{E9}"));
+    assert!(rt; within.next().is_none());
+    let told = format!(in rt.alloc(); "{set:?}")?;
+    assert_eq!(rt; told.as_str(), "{\"\", \"a\", \"b\", \"\u{E9}\"}");
+    Ok(())
+}
+
+/// The odd numbers, so many of them, from 1 on.
+fn odd(alloc: Global, count: u32) -> Result<BTreeSet<u32>, Fail> {
+    let mut keys = BTreeSet::new(alloc);
+    for index in 0..count {
+        keys.insert(index.wrapping_mul(2).wrapping_add(1))?;
+    }
+    Ok(keys)
+}
+
+/// The archive of a set of std's.
+fn archived<const E: usize>(
+    rt: &impl Abort,
+    alloc: Global,
+    keys: &BTreeSet<u32>,
+    writer: &mut VecWriter,
+) -> Result<u32, Fault<AllocError>> {
+    assert!(rt; layout::fits::<ArchivedU32, (), E>());
+    let len = keys.len();
+    let root = ArchivedBTreeSet::<ArchivedU32, E>::serialize_from_ordered_iter(
+        alloc,
+        len,
+        keys.iter(),
+        writer,
+    )?;
+    ArchivedBTreeSet::<ArchivedU32, E>::write_root(len, root, writer)
+}
+
+/// The walks of a set meet std's keys, in order.
+fn is_walked_as<const E: usize>(
+    rt: &impl Abort,
+    set: View<ArchivedBTreeSet<ArchivedU32, E>>,
+    keys: &BTreeSet<u32>,
+) {
+    assert_eq!(rt; set.len() as usize, keys.len());
+    assert_eq!(rt; set.is_empty(), keys.is_empty());
+    let mut met = set.iter();
+    for key in keys.iter() {
+        assert_eq!(rt; met.next().map(|key| key.to_native()), Some(*key));
+    }
+    assert!(rt; met.next().is_none());
+}
+
+/// A visit of a set meets std's keys, in order, up to the first at which it breaks off.
+fn is_visited_as(
+    rt: &impl Abort,
+    set: View<ArchivedBTreeSet<ArchivedU32, 2>>,
+    keys: &BTreeSet<u32>,
+) {
+    let mut left = keys.iter();
+    let other = set.as_map().visit(|key: View<ArchivedU32>, _: View<()>| {
+        if left.next() == Some(&key.to_native()) {
+            ControlFlow::Continue(())
+        } else {
+            ControlFlow::Break(key.to_native())
+        }
+    });
+    assert_eq!(rt; other, None);
+    assert!(rt; left.next().is_none());
+    let found = set.as_map().visit(|key: View<ArchivedU32>, _: View<()>| {
+        if key.to_native() == set.len() | 1 {
+            ControlFlow::Break(key.to_native())
+        } else {
+            ControlFlow::Continue(())
+        }
+    });
+    assert_eq!(rt; found, keys.get(&(set.len() | 1)).copied());
+}
+
+/// The look-ups of a set find what std's find, by native values, and by the keys of another set.
+fn is_searched_as<const E: usize>(
+    rt: &impl Abort,
+    set: View<ArchivedBTreeSet<ArchivedU32, E>>,
+    keys: &BTreeSet<u32>,
+    asked: View<ArchivedBTreeSet<ArchivedU32, 5>>,
+) {
+    for query in asked.iter() {
+        let key = query.to_native();
+        assert_eq!(rt; set.contains_by(key), keys.contains(&key));
+        assert_eq!(rt;
+            set.get_by(key).map(|met| met.to_native()),
+            keys.get(&key).copied()
+        );
+        assert_eq!(rt; set.contains_key(query), keys.contains(&key));
+        assert_eq!(rt;
+            set.get(query).map(|met| met.to_native()),
+            keys.get(&key).copied()
+        );
+    }
+}
+
+/// The range of a set between two bounds has std's keys.
+fn has_range<const E: usize>(
+    rt: &impl Abort,
+    set: View<ArchivedBTreeSet<ArchivedU32, E>>,
+    keys: &BTreeSet<u32>,
+    low: Bound<u32>,
+    high: Bound<u32>,
+) {
+    let mut met = set.range_by(low, high);
+    for key in keys.iter() {
+        if is_between(low, high, *key) {
+            assert_eq!(rt; met.next().map(|key| key.to_native()), Some(*key));
+        }
+    }
+    assert!(rt; met.next().is_none());
+    assert!(rt; met.next().is_none());
+}
+
+/// The ranges of a set between each two bounds at or beside its ends and its middle.
+fn has_ranges<const E: usize>(
+    rt: &impl Abort,
+    alloc: Global,
+    set: View<ArchivedBTreeSet<ArchivedU32, E>>,
+    keys: &BTreeSet<u32>,
+) -> Result<(), Fail> {
+    let end = set.len().wrapping_mul(2);
+    let mut bounds = Vec::new(alloc);
+    bounds.push(Bound::Unbounded)?;
+    for key in [0, 1, set.len(), set.len() | 1, end, end | 1] {
+        bounds.push(Bound::Included(key))?;
+        bounds.push(Bound::Excluded(key))?;
+    }
+    for low in bounds.as_slice() {
+        for high in bounds.as_slice() {
+            has_range::<E>(rt, set, keys, *low, *high);
+        }
+    }
+    Ok(())
+}
+
+/// Sets of each number of keys up to 40 answer as std's.
+fn answer_as_std<const E: usize>(rt: &impl Abort, alloc: Global) -> Result<(), Fail> {
+    let mut numbers = Vec::new(alloc);
+    for number in 0..=82u32 {
+        numbers.push(number)?;
+    }
+    let mut asked = VecWriter::new(alloc);
+    let pos = archive::<u32, _, 5>(rt, alloc, numbers.as_slice(), &mut asked)?;
+    let asked = opened::<ArchivedU32, 5>(rt, asked.bytes(), pos);
+    for count in 0..=40 {
+        let keys = odd(alloc, count)?;
+        let mut writer = VecWriter::new(alloc);
+        let pos = archived::<E>(rt, alloc, &keys, &mut writer)?;
+        let set = opened::<ArchivedU32, E>(rt, writer.bytes(), pos);
+        is_walked_as::<E>(rt, set, &keys);
+        is_searched_as::<E>(rt, set, &keys, asked);
+        has_ranges::<E>(rt, alloc, set, &keys)?;
+    }
+    Ok(())
+}
+
+#[test]
+fn sets_of_one_key_a_node_answer_as_those_of_std(rt: HostRuntime) -> Result<(), Fail> {
+    answer_as_std::<1>(&rt, rt.alloc())
+}
+
+#[test]
+fn sets_of_two_keys_a_node_answer_as_those_of_std(rt: HostRuntime) -> Result<(), Fail> {
+    answer_as_std::<2>(&rt, rt.alloc())
+}
+
+#[test]
+fn sets_of_two_keys_a_node_are_visited(rt: HostRuntime) -> Result<(), Fail> {
+    for count in 0..=40 {
+        let keys = odd(rt.alloc(), count)?;
+        let mut writer = VecWriter::new(rt.alloc());
+        let pos = archived::<2>(&rt, rt.alloc(), &keys, &mut writer)?;
+        let set = opened::<ArchivedU32, 2>(&rt, writer.bytes(), pos);
+        is_visited_as(&rt, set, &keys);
+    }
+    Ok(())
+}
+
+#[test]
+fn sets_of_five_keys_a_node_answer_as_those_of_std(rt: HostRuntime) -> Result<(), Fail> {
+    answer_as_std::<5>(&rt, rt.alloc())
+}
+
+#[test]
+fn a_range_between_archived_keys(rt: HostRuntime) -> Result<(), Fail> {
+    let mut writer = VecWriter::new(rt.alloc());
+    let pos = archive::<u32, _, 2>(&rt, rt.alloc(), &[1, 3, 5, 7], &mut writer)?;
+    let set = opened::<ArchivedU32, 2>(&rt, writer.bytes(), pos);
+    let low = set.get_by(3).expect(&rt, "a key");
+    let high = set.get_by(7).expect(&rt, "a key");
+    let mut within = set.range(Bound::Included(low), Bound::Excluded(high));
+    assert_eq!(rt; within.next().map(|key| key.to_native()), Some(3));
+    assert_eq!(rt; within.next().map(|key| key.to_native()), Some(5));
+    assert!(rt; within.next().is_none());
+    Ok(())
+}
+
+#[test]
+fn sets_of_equal_keys_are_equal(rt: HostRuntime) -> Result<(), Fail> {
+    let alloc = rt.alloc();
+    let mut first = VecWriter::new(alloc);
+    let pos = archive::<u32, _, 5>(&rt, alloc, &[1, 2], &mut first)?;
+    let set = opened::<ArchivedU32, 5>(&rt, first.bytes(), pos);
+    let mut second = VecWriter::from_vec([7, 8, 9].to_vec(alloc)?);
+    let pos = archive::<u32, _, 5>(&rt, alloc, &[1, 2], &mut second)?;
+    let alike = opened::<ArchivedU32, 5>(&rt, second.bytes(), pos);
+    let mut third = VecWriter::new(alloc);
+    let pos = archive::<u32, _, 5>(&rt, alloc, &[1, 3], &mut third)?;
+    let other = opened::<ArchivedU32, 5>(&rt, third.bytes(), pos);
+    assert!(rt; set == alike);
+    assert!(rt; set != other);
+    assert_eq!(rt; hashed(&set), hashed(&alike));
+    assert!(rt; hashed(&set) != hashed(&other));
+    let told = format!(in alloc; "{set:?}")?;
+    assert_eq!(rt; told.as_str(), "{1, 2}");
+    Ok(())
+}
+
+/// Asserts that the bytes are refused as the map's, or are a set of as many keys as the map has.
+fn is_taken_as_the_map(rt: &impl Abort, bytes: &[u8], pos: u32) {
+    assert!(rt; layout::fits::<ArchivedU32, (), 2>());
+    let map = rkyv_btree::map::access::<ArchivedU32, (), 2>(bytes, pos);
+    let set = access::<ArchivedU32, 2>(bytes, pos);
+    assert_eq!(rt; set.map(|set| set.len()), map.map(|map| map.len()));
+}
+
+#[test]
+fn damaged_sets_are_refused_as_maps(rt: HostRuntime) -> Result<(), Fail> {
+    let mut writer = VecWriter::new(rt.alloc());
+    let pos = archive::<u32, _, 2>(&rt, rt.alloc(), &[1, 2, 3, 4, 5], &mut writer)?;
+    let mut archive = writer.into_vec();
+    let bytes = archive.as_mut_slice();
+    for end in 0..bytes.len() {
+        is_taken_as_the_map(&rt, &bytes[..end], pos);
+    }
+    for at in 0..bytes.len() {
+        let own = bytes[at];
+        for other in 0..=255 {
+            bytes[at] = other;
+            is_taken_as_the_map(&rt, bytes, pos);
+        }
+        bytes[at] = own;
+    }
+    Ok(())
+}
