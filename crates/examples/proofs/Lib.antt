@@ -5,3 +5,4 @@ pub mod Calling
 pub mod RoundTrip
 pub mod LookedUp
 pub mod Owned
+pub mod Concluded

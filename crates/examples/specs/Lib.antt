@@ -1,4 +1,5 @@
 pub mod Editing
+pub mod Headline
 pub mod RoundTrip
 pub mod Version
 pub mod Whole

@@ -3,6 +3,9 @@
 #![tactic(auto)]
 
 pub mod editing;
+pub mod headline;
+#[cfg(test)]
+mod headline_tests;
 pub mod round_trip;
 #[cfg(test)]
 mod tests;

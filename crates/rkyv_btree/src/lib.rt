@@ -76,7 +76,8 @@ pub mod range {
 /// What is known of values that are archived and made native again.
 pub mod round_trip {
     pub use rkyv_btree_convert::round_trip::{
-        maps_are_given_back, natives_are_given_back, pairs_are_given_back, texts_are_given_back,
+        maps_are_given_back, natives_are_given_back, pairs_are_given_back, sets_are_given_back,
+        texts_are_given_back,
     };
 }
 

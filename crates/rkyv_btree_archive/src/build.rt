@@ -2,7 +2,7 @@
 ghost use Rattle.std.specs.Prelude.{◌≡◌, ℕ, ◌+◌, ◌*◌, ◌<◌, ◌≤◌, ◌↔◌, [], length, true, false, vec_capacity, alloc_error, IsOk, OnOk, OnErr, IfOk, IfErr, IsErrOf, IsTrue};
 ghost use Rattle.std.specs.Iterator.{Yields, Drains, IsFinite, UpTo, size};
 ghost use Rattle.rkyv_btree_writer.specs.Archiving.{BeginsWith};
-ghost use Rattle.rkyv_btree_image.specs.Archives.{SerialisedIsAccepted, EmptyIsAccepted};
+ghost use Rattle.rkyv_btree_image.specs.Archives.{SerialisedIsAccepted, EmptyIsAccepted, WrittenIsHeld};
 ghost use Rattle.rkyv_btree_image.specs.Alike.{TreesAreDetermined};
 ghost use Rattle.rkyv_btree_image.specs.Image.{root_bytes, root_reaches, root_image};
 ghost use Rattle.rkyv_btree_format.specs.Layout.{layout_of, are_fitting};
@@ -12,6 +12,7 @@ ghost use Rattle.rkyv_btree_archive.specs.mirror.Scratch.{IsFree, IsReserved};
 ghost use Rattle.rkyv_btree_image.specs.Kept.{NeverGrows, OnlyAppended};
 ghost use Rattle.rkyv_btree_image.specs.Miscounts.{IsMiscount};
 ghost use Rattle.rkyv_btree_image.specs.Serialising.{Serialised, BuildFault, BuildsTree, FailsToBuild, RootFault};
+ghost use Rattle.rkyv_btree_image.specs.SmallestMaps.{BuildsSmallest};
 ghost use Rattle.rkyv_btree_writer.specs.Writing.{position, Wrote, last_end};
 
 use crate::archive::{Archive, Serialize};
@@ -214,6 +215,11 @@ impl<K: Portable, V: Portable, const E: usize> ArchivedBTreeMap<K, V, E> {
         ensures ok { IfOk result
             (BuildsTree K.kind V.kind E KU.archival VU.archival I.next_gives iter len
             W.state writer.old writer.new) }
+        // With the map behind it, it is accepted, and means the items; and no accepted map with as many entries has fewer
+        // nodes, node bytes or levels.
+        ensures smallest { IfOk result
+            (BuildsSmallest K.kind V.kind E KU.archival VU.archival I.next_gives iter len
+            W.state writer.old writer.new) }
         ensures err { IfErr result
             (FailsToBuild K.kind V.kind E KU.archival VU.archival I.next_gives iter len
             W.state writer.old writer.new) }
@@ -331,10 +337,17 @@ impl<K, V, const E: usize> ArchivedBTreeMap<K, V, E> {
 }
 
 /// A buffer that holds what was serialised, and behind it the map as `resolve_from_len` or `write_root` writes it, is
-/// accepted there, and means the list of the items.
+/// accepted there, and means the list of the items. That no accepted map of as many is smaller is said by `smallest` of the
+/// calls that serialise.
 pub fn archives_are_accepted<K: Portable, V: Portable, const E: usize>()
     ensures entries { SerialisedIsAccepted K.kind V.kind E }
     ensures none { EmptyIsAccepted K.kind V.kind E }
+{}
+
+/// A writer from position 0 on, to which a tree was appended and then the map by `write_root`, holds such an archive: so
+/// what `smallest` says of the calls that serialise holds of its contents.
+pub fn written_maps_are_held()
+    ensures { WrittenIsHeld }
 {}
 
 /// Where what keys and values mean determines, with positions, how they are archived, two builds from one position of

@@ -7,6 +7,7 @@ ghost use Rattle.rkyv_btree_image.specs.Kept.{NeverGrows, OnlyAppended};
 ghost use Rattle.rkyv_btree_image.specs.Miscounts.{IsMiscount};
 ghost use Rattle.rkyv_btree_image.specs.Serialising.{RootFault};
 ghost use Rattle.rkyv_btree_image.specs.Sets.{BuildsSet, FailsToBuildSet};
+ghost use Rattle.rkyv_btree_image.specs.SmallestMaps.{BuildsSmallestSet};
 ghost use Rattle.rkyv_btree_format.specs.Layout.{are_fitting};
 ghost use Rattle.rkyv_btree_portable.specs.Rounding.{round_up};
 ghost use Rattle.rkyv_btree_portable.specs.Scalars.{unit_kind};
@@ -112,6 +113,11 @@ impl<K: Portable, const E: usize> ArchivedBTreeSet<K, E> {
         requires ends { UpTo (I.remaining iter) 18446744073709551615 }
         ensures ok { IfOk result
             (BuildsSet K.kind E KU.archival I.next_gives iter len W.state writer.old writer.new) }
+        // With the set behind it, it is accepted, and means the keys; and no accepted set with as many keys has fewer nodes,
+        // node bytes or levels.
+        ensures smallest { IfOk result
+            (BuildsSmallestSet K.kind E KU.archival I.next_gives iter len
+            W.state writer.old writer.new) }
         ensures err { IfErr result
             (FailsToBuildSet K.kind E KU.archival I.next_gives iter len
             W.state writer.old writer.new) }

@@ -1,7 +1,10 @@
 //! Std's maps and sets, archived as trees with five entries in a node.
-ghost use Rattle.std.specs.Prelude.{◌≡◌, length, OnOk, IfErr};
+ghost use Rattle.std.specs.Prelude.{◌≡◌, length, IsTrue, OnOk, OnErr, IfOk, IfErr};
+ghost use Rattle.rkyv_btree_format.specs.Layout.{are_fitting};
 ghost use Rattle.rkyv_btree_image.specs.Determined.{IsDetermined};
+ghost use Rattle.rkyv_btree_image.specs.Kept.{OnlyAppended};
 ghost use Rattle.rkyv_btree_image.specs.Sets.{unit_archival, with_units};
+ghost use Rattle.rkyv_btree_image.specs.SmallestMaps.{IsSmallestArchive};
 ghost use Rattle.rkyv_btree_image.specs.TreeArchival.{IsRoot, tree_archival};
 ghost use Rattle.rkyv_btree_image.proofs.MapSame.{same_map};
 ghost use Rattle.rkyv_btree_image.proofs.TreeArchived.{tree_archived, tree_causes};
@@ -10,7 +13,7 @@ ghost use Rattle.rkyv_btree_portable.specs.Scalars.{unit_kind};
 ghost use Rattle.rkyv_btree_portable.specs.laws.Natives.{unit_faithful};
 ghost use Rattle.rkyv_btree_portable.specs.laws.Scalars.{unit_laws};
 ghost use Rattle.rkyv_btree_verify.proofs.MapLaws.{map_laws};
-ghost use Rattle.rkyv_btree_writer.specs.Archiving.{IsUnresolved, itself};
+ghost use Rattle.rkyv_btree_writer.specs.Archiving.{BeginsWith, IsUnresolved, IsUnserialised, Serialises, itself};
 ghost use Rattle.rkyv_btree_writer.proofs.Archiving.{native_archived, native_causes};
 
 use crate::archive::{Archive, Serialize};
@@ -62,7 +65,22 @@ impl<KU: Archive + Ord, VU: Archive> Archive for BTreeMap<KU, VU> {
 impl<W: Writer, A: Allocator + Copy, KU: Serialize<W, A> + Ord, VU: Serialize<W, A>> Serialize<W, A>
     for BTreeMap<KU, VU> {
     /// Writes the tree of the entries, with what they write, and answers where its root node stands.
-    fn serialize(&self, alloc: A, writer: &mut W) -> Result<BTreeMapResolver, Fault<W::Error>> {
+    fn serialize(&self, alloc: A, writer: &mut W) -> Result<BTreeMapResolver, Fault<W::Error>>
+        requires fitting { IsTrue (are_fitting KU.Archived.kind VU.Archived.kind 5) }
+        ensures ok { IfOk result
+            (Serialises (tree_archival 5 KU.archival VU.archival (λ map. map.entries)) self.now
+            (W.state writer.old) (W.state writer.new)) }
+        // With the map behind it, it is accepted, and means the entries; and no accepted map with as many entries has fewer
+        // nodes, node bytes or levels.
+        ensures smallest { IfOk result (λ root.
+            IsSmallestArchive KU.Archived.kind VU.Archived.kind 5 KU.archival VU.archival
+            (W.state writer.old) self.now.entries root (W.state writer.new)) }
+        ensures err { IfErr result (λ fault.
+            IsUnserialised (tree_archival 5 KU.archival VU.archival (λ map. map.entries)) self.now
+            (W.state writer.old) fault (W.state writer.new)) }
+        ensures went { OnOk result (OnlyAppended (W.state writer.old) (W.state writer.new)) }
+        ensures kept { OnErr result (BeginsWith (W.state writer.new) (W.state writer.old)) }
+    {
         ArchivedBTreeMap::<
             KU::Archived,
             VU::Archived,
@@ -107,7 +125,22 @@ impl<KU: Archive + Ord> Archive for BTreeSet<KU> {
 
 impl<W: Writer, A: Allocator + Copy, KU: Serialize<W, A> + Ord> Serialize<W, A> for BTreeSet<KU> {
     /// Writes the tree of the keys, with what they write, and answers where its root node stands.
-    fn serialize(&self, alloc: A, writer: &mut W) -> Result<BTreeSetResolver, Fault<W::Error>> {
+    fn serialize(&self, alloc: A, writer: &mut W) -> Result<BTreeSetResolver, Fault<W::Error>>
+        requires fitting { IsTrue (are_fitting KU.Archived.kind unit_kind 5) }
+        ensures ok { IfOk result
+            (Serialises (tree_archival 5 KU.archival unit_archival (λ set. with_units set.keys))
+            self.now (W.state writer.old) (W.state writer.new)) }
+        // With the set behind it, it is accepted, and means the keys; and no accepted set with as many keys has fewer nodes,
+        // node bytes or levels.
+        ensures smallest { IfOk result (λ root.
+            IsSmallestArchive KU.Archived.kind unit_kind 5 KU.archival unit_archival
+            (W.state writer.old) (with_units self.now.keys) root (W.state writer.new)) }
+        ensures err { IfErr result (λ fault.
+            IsUnserialised (tree_archival 5 KU.archival unit_archival (λ set. with_units set.keys))
+            self.now (W.state writer.old) fault (W.state writer.new)) }
+        ensures went { OnOk result (OnlyAppended (W.state writer.old) (W.state writer.new)) }
+        ensures kept { OnErr result (BeginsWith (W.state writer.new) (W.state writer.old)) }
+    {
         ArchivedBTreeSet::<KU::Archived, DEFAULT_ENTRIES_PER_NODE>::serialize_from_ordered_iter(
             alloc,
             self.len(),

@@ -1,5 +1,5 @@
 //! Writing a tree by plain recursion over the sizes of its subtrees.
-ghost use Rattle.std.specs.Prelude.{◌≡◌, ◌+◌, ◌*◌, ◌-◌, ◌^◌, ◌≤◌, ◌<◌, [], ◌∷◌, ◌++◌, length, map, vec_len, vec_capacity, OnOk, IfOk, IfErr, IsTrue};
+ghost use Rattle.std.specs.Prelude.{◌≡◌, ◌+◌, ◌*◌, ◌-◌, ◌^◌, ◌≤◌, ◌<◌, [], ◌∷◌, ◌++◌, length, map, min, vec_len, vec_capacity, OnOk, IfOk, IfErr, OnSome, IfSome, IfNone, IsTrue};
 ghost use Rattle.rkyv_btree_format.specs.Layout.{layout_of, are_fitting};
 ghost use Rattle.rkyv_btree_shape.specs.Logarithm.{ilog};
 ghost use Rattle.rkyv_btree_shape.specs.Plan.{planned_alone};
@@ -24,6 +24,32 @@ pub(crate) fn push<T: Drop, A: Allocator>(values: &mut Vec<T, A>, value: T)
     ensures capacity { vec_capacity values.old ≤ vec_capacity values.new }
 {
     values.push(value).unwrap();
+}
+
+/// What `child_base` says of so many entries, where they take inner nodes; nothing where a leaf has room for them.
+fn inner_base<const E: usize>(len: usize) -> Option<usize>
+    requires some { 1 ≤ E }
+    requires small { E < 2 ^ 30 }
+    requires fits { len ≤ 4294967295 }
+    ensures leaf { IfNone result (len ≤ E) }
+    ensures more { OnSome result (E < len) }
+    ensures value { IfSome result (λ base. base ≡ (E + 1) ^ (ilog (E + 1) len - 1)) }
+    ensures positive { IfSome result (λ base. 1 ≤ base) }
+    ensures below { IfSome result (λ base. base * (E + 1) ≤ len) }
+    ensures above { IfSome result (λ base. len < base * (E + 1) * (E + 1)) }
+{
+    if len <= E {
+        return None;
+    }
+    Some(child_base::<E>(len))
+}
+
+/// How many of the entries on the last level a child takes: a full child has `E * base` there.
+fn taken_by_child<const E: usize>(on_last: usize, base: usize) -> usize
+    requires { base * (E + 1) ≤ 4294967295 }
+    ensures { result ≡ min on_last (E * base) }
+{
+    on_last.min(E * base)
 }
 
 /// Writes the tree of these entries with what they write, and answers where its root node stands; nothing for no
@@ -66,21 +92,19 @@ where
     if items.is_empty() {
         return Ok(None);
     }
-    if items.len() <= E {
+    let Some(base) = inner_base::<E>(items.len()) else {
         let root = write_leaf::<KU, VU, K, V, W, A, E>(alloc, scratch, items, writer)?;
         return Ok(Some(root));
-    }
+    };
     let first = waiting.len();
     let first_child = children.len();
-    let base = child_base::<E>(items.len());
     // Above the last level stand the root's `E` entries and `base - 1` of each of its `E + 1` children, which are one less
-    // than `base * (E + 1)` in all. The others are on the last level, which the children fill from the left: a full child
-    // has `E * base` of them.
+    // than `base * (E + 1)` in all. The others are on the last level, which the children fill from the left.
     let mut on_last = items.len() + 1 - base * (E + 1);
     let mut start = 0;
     let mut left = E;
     while left > 0 {
-        let taken = on_last.min(E * base);
+        let taken = taken_by_child::<E>(on_last, base);
         let end = start + (base - 1 + taken);
         let child = write_child::<KU, VU, K, V, W, A, E>(
             alloc,

@@ -1,12 +1,17 @@
 //! What comes of values that are archived and made native again: these values.
-ghost use Rattle.std.specs.Prelude.{string_bytes};
+ghost use Rattle.std.specs.Prelude.{List, map, string_bytes};
+ghost use Rattle.std.specs.List.{All};
+ghost use Rattle.std.specs.List.Sorted.{IsStrictlySortedBy};
+ghost use Rattle.std.specs.Map.{keys_of};
 ghost use Rattle.std.specs.Int.NonZero.{non_zero_u32_get};
 ghost use Rattle.rkyv_btree_base.specs.Entry.{entry_kind};
 ghost use Rattle.rkyv_btree_base.specs.Map.{map_kind};
 ghost use Rattle.rkyv_btree_base.specs.Scalars.{bool_kind, char_kind, i16_kind, i32_kind, i64_kind, i8_kind, non_zero_kind, u16_kind, u32_kind, u64_kind, u8_kind, unit_kind};
+ghost use Rattle.rkyv_btree_base.specs.Sets.{with_units};
 ghost use Rattle.rkyv_btree_base.specs.Text.{text_kind};
 ghost use Rattle.rkyv_btree_convert.specs.Maps.{native_map, told_both};
-ghost use Rattle.rkyv_btree_convert.specs.RoundTrip.{GivesBack, GivesItselfBack, GivesAscendingBack, both_mean};
+ghost use Rattle.rkyv_btree_convert.specs.RoundTrip.{GivesBack, GivesItselfBack, IsGivenBack, both_mean};
+ghost use Rattle.rkyv_btree_convert.specs.Sets.{native_set};
 
 use crate::deserialize::Deserialize;
 use crate::key::DeserializeKey;
@@ -41,20 +46,22 @@ pub fn texts_are_given_back()
         ⟦<ArchivedText as Deserialize<String>>⟧.native string_bytes }
 {}
 
-/// Where what keys and what values mean gives these back, what pairs of them mean gives the pairs.
+/// A pair is given back where its key and its value are.
 pub fn pairs_are_given_back<
     T: PartialEq + Drop,
     U: PartialEq,
     K: Deserialize<T>,
     V: Deserialize<U>,
 >()
-    ensures { (key : T → K.kind.Value) (value : U → V.kind.Value)
-        → GivesBack K.kind key K.native K.told → GivesBack V.kind value V.native V.told
-        → GivesBack {X = T × U} (entry_kind K.kind V.kind) (λ e. (key e.0, value e.1))
-        ⟦<Entry<K, V> as Deserialize<(T, U)>>⟧.native (λ e. (K.told e.0, V.told e.1)) }
+    ensures { (key : T → K.kind.Value) (value : U → V.kind.Value) (pair : T × U)
+        → IsGivenBack K.kind key K.native K.told pair.0
+        → IsGivenBack V.kind value V.native V.told pair.1
+        → IsGivenBack {X = T × U} (entry_kind K.kind V.kind) (λ e. (key e.0, value e.1))
+        ⟦<Entry<K, V> as Deserialize<(T, U)>>⟧.native (λ e. (K.told e.0, V.told e.1)) pair }
 {}
 
-/// Where what keys and what values mean gives these back, what a map of them means gives all its entries, in order.
+/// A map is given back, all its entries in order, where its keys ascend, as those of every native map do, and each key
+/// and each value is. So maps of maps are, and maps of sets.
 pub fn maps_are_given_back<
     T: Ord + Drop,
     U: PartialEq + Drop,
@@ -62,8 +69,20 @@ pub fn maps_are_given_back<
     V: Deserialize<U>,
     const E: usize,
 >()
-    ensures { (key : T → K.kind.Value) (value : U → V.kind.Value)
-        → GivesBack K.kind key K.native K.told → GivesBack V.kind value V.native V.told
-        → GivesAscendingBack (map_kind K.kind V.kind E) T.cmp (both_mean key value)
-        (native_map K.kind V.kind E K.native V.native K.told_order) (told_both K.told V.told) }
+    ensures { (key : T → K.kind.Value) (value : U → V.kind.Value) (entries : List (T × U))
+        → IsStrictlySortedBy T.cmp (keys_of entries)
+        → All (λ e. IsGivenBack K.kind key K.native K.told e.0
+        × IsGivenBack V.kind value V.native V.told e.1) entries
+        → IsGivenBack (map_kind K.kind V.kind E) (both_mean key value)
+        (native_map K.kind V.kind E K.native V.native K.told_order)
+        (told_both K.told V.told) entries }
+{}
+
+/// A set is given back, all its keys in order, where these ascend, as those of every native set do, and each key is.
+pub fn sets_are_given_back<T: Ord + Drop, K: DeserializeKey<T>, const E: usize>()
+    ensures { (key : T → K.kind.Value) (keys : List T)
+        → IsStrictlySortedBy T.cmp keys
+        → All (IsGivenBack K.kind key K.native K.told) keys
+        → IsGivenBack (map_kind K.kind unit_kind E) (λ ks. both_mean key (λ unit. unit) (with_units ks))
+        (native_set K.kind E K.native K.told_order) (map K.told) keys }
 {}

@@ -16,7 +16,7 @@ module _ (K V : Kind) (E : ℕ) (b : List ℕ) (kw : Widens K) (vw : Widens V) w
       (rest.0, rest.1, (key.0, value.0, key.2, value.2, rest.2))
 
   mutual
-    tree_widens : (t : Tree (K.Value × V.Value)) (lo hi p lo2 hi2 : ℕ) → lo2 ≤ lo → hi ≤ hi2 → Spells K V E b lo hi p t → Spells K V E b lo2 hi2 p t
+    pub tree_widens : (t : Tree (K.Value × V.Value)) (lo hi p lo2 hi2 : ℕ) → lo2 ≤ lo → hi ≤ hi2 → Spells K V E b lo hi p t → Spells K V E b lo2 hi2 p t
     tree_widens (leaf m) lo hi p lo2 hi2 before after h =
         let at = h.0 in
         let own = entries_widen m p 0 lo h.3 lo2 before h.4 in

@@ -28,5 +28,6 @@ pub mod TreeArchived
 pub mod ImagesInOrder
 pub mod ImagesDetermined
 pub mod TreeSerialised
+pub mod SmallestMaps
 pub mod Sets
 pub mod Whole

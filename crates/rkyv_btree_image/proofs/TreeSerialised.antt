@@ -64,7 +64,7 @@ keys_seen : {M : Type 0} (xs : List M) (keys : List (Bor M)) (rest : List M) →
 keys_seen xs [] rest h = ap with_units h
 keys_seen xs (x ∷ keys) rest h = ap with_units h.1 ∙ ap (λ (zs : List _). (x.now, tt) ∷ zs) (keys_seen h.0 keys rest h.2)
 
-keys_shown : {M : Type 0} (xs : List M) (keys : List (Bor M)) → Drains (TakesFirst deref) xs keys → unit_entries keys ≡ with_units xs
+pub keys_shown : {M : Type 0} (xs : List M) (keys : List (Bor M)) → Drains (TakesFirst deref) xs keys → unit_entries keys ≡ with_units xs
 keys_shown xs keys h = sym (append-nil (unit_entries keys)) ∙ (ap (λ rest. unit_entries keys ++ with_units rest) (sym h.1.2.0) ∙ sym (keys_seen xs keys h.1.0 h.1.1))
 
 pub units_count : {M : Type 0} (xs : List M) → length (with_units xs) ≡ length xs

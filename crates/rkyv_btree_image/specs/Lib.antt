@@ -12,3 +12,4 @@ pub mod Imaged
 pub mod TreeArchival
 pub mod Sets
 pub mod Whole
+pub mod SmallestMaps

@@ -74,14 +74,14 @@ module _ {A : Type 0} where
       ap (map (λ e. e.0)) (within (bound_ordered low m from) (bound_ordered high m to)) ∙ filtered (λ k. is_from low k && is_to high k) m
 
 -- a visitor of entries that calls one of keys
-module _ {F G W X A T : Type 0} (outer : G → W → X → ControlFlow T (Unit {0}) → G → Type 0) (inner : F → W → ControlFlow T (Unit {0}) → F → Type 0) (shows : W → X → A × Unit {0}) (means : W → A) (same : (key : W) (value : X) → (shows key value).0 ≡ means key)
+module _ {F G W X A B T : Type 0} (outer : G → W → X → ControlFlow T (Unit {0}) → G → Type 0) (inner : F → W → ControlFlow T (Unit {0}) → F → Type 0) (shows : W → X → A × B) (means : W → A) (same : (key : W) (value : X) → (shows key value).0 ≡ means key)
     (within : G → F) (each : (f : G) (key : W) (value : X) (answer : ControlFlow T (Unit {0})) (after : G) → outer f key value answer after → inner (within f) key answer (within after)) where
   after_key : (answer : ControlFlow T (Unit {0})) (goes_on : G → Type 0) (goes : F → Type 0) (after : G) (result : Option T) (last : G) → (goes_on after → goes (within after)) → AfterAnswer answer goes_on after result last → AfterAnswer answer goes (within after) result (within last)
   after_key (Continue u) goes_on goes after result last next h = next h
   after_key (Break value) goes_on goes after result last next h = (h.0, ap within h.1)
 
-  pub keys_visited : (first : G) (m : List (A × Unit {0})) (result : Option T) (last : G) → Visits outer shows first m result last → VisitsKeys inner means (within first) (keys m) result (within last)
+  pub keys_visited : (first : G) (m : List (A × B)) (result : Option T) (last : G) → Visits outer shows first m result last → VisitsKeys inner means (within first) (map (λ e. e.0) m) result (within last)
   keys_visited first [] result last v = (v.0, ap within v.1)
   keys_visited first (e ∷ m) result last v =
-      let rest = after_key v.2 (λ f. Visits outer shows f m result last) (λ f. VisitsKeys inner means f (keys m) result (within last)) v.3 result last (keys_visited v.3 m result last) v.6 in
+      let rest = after_key v.2 (λ f. Visits outer shows f m result last) (λ f. VisitsKeys inner means f (map (λ e. e.0) m) result (within last)) v.3 result last (keys_visited v.3 m result last) v.6 in
       (v.0, v.2, within v.3, sym (same v.0 v.1) ∙ ap (λ x. x.0) v.4, each first v.0 v.1 v.2 v.3 v.5, rest)

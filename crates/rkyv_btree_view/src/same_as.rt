@@ -1,5 +1,5 @@
 //! Tests of archived values with native ones, for equality.
-ghost use Rattle.std.specs.Prelude.{◌≡◌, ◌+◌, ◌&&◌, ℕ, Bool, List, nat_eq};
+ghost use Rattle.std.specs.Prelude.{◌≡◌, ◌+◌, ◌&&◌, ℕ, Bool, List, map, nat_eq};
 ghost use Rattle.std.specs.Cmp.{nat_eq_equiv};
 ghost use Rattle.std.specs.Cmp.Lexicographic.{nat_list_eq_equiv, pointwise};
 ghost use Rattle.std.specs.Int.NonZero.{non_zero_u32_get};
@@ -8,9 +8,10 @@ ghost use Rattle.rkyv_btree_base.specs.Entry.{value_offset};
 ghost use Rattle.rkyv_btree_base.specs.Scalars.{non_zero_kind};
 ghost use Rattle.rkyv_btree_base.specs.Text.{text_kind};
 ghost use Rattle.rkyv_btree_view.specs.Iter.{entries_left};
-ghost use Rattle.rkyv_btree_view.specs.SameAs.{ByTests, TestsSame, map_same_at};
+ghost use Rattle.rkyv_btree_view.specs.SameAs.{ByKeyTests, ByTests, TestsSame, map_same_at, set_same_at};
+ghost use Rattle.rkyv_btree_view.specs.Set.{keys_of};
 ghost use Rattle.rkyv_btree_view.specs.View.{entries_of};
-ghost use Rattle.rkyv_btree_view.specs.laws.SameAs.{map_tests, native_tests, pair_tests, same_tests};
+ghost use Rattle.rkyv_btree_view.specs.laws.SameAs.{map_tests, native_tests, pair_tests, same_tests, set_tests};
 
 use crate::iter::Iter;
 use crate::map::ShowsEntries;
@@ -19,10 +20,11 @@ use crate::view::View;
 use rkyv_btree_base::check::Portable;
 use rkyv_btree_base::map::ArchivedBTreeMap;
 use rkyv_btree_base::scalars::ArchivedNonZeroU32;
+use rkyv_btree_base::set::ArchivedBTreeSet;
 use rkyv_btree_base::text::ArchivedText;
 use rkyv_btree_base::util::Entry;
 use rkyv_btree_walk::map::ArchivedMap;
-use std::collections::{BTreeMap, btree_map};
+use std::collections::{BTreeMap, BTreeSet, btree_map, btree_set};
 use std::num::NonZeroU32;
 
 /// An archived type whose values may be the same as native ones of type `T`.
@@ -114,6 +116,16 @@ impl<T: Ord, U, K: SameAs<T>, V: SameAs<U>, const E: usize> SameAs<BTreeMap<T, U
     ghost tests = { map_tests K.kind V.kind E K.tests V.tests (λ native. native.entries) };
 }
 
+impl<T: Ord, K: SameAs<T>, const E: usize> SameAs<BTreeSet<T>> for ArchivedBTreeSet<K, E> {
+    ghost same_at = { λ native b at. set_same_at K.kind E K.same_at native.keys b at };
+
+    fn same_as(view: &View<'_, ArchivedBTreeSet<K, E>>, native: &BTreeSet<T>) -> bool {
+        view.eq_set(native)
+    }
+
+    ghost tests = { set_tests K.kind E K.tests (λ native. native.keys) };
+}
+
 /// Whether the entries that an iterator has left are as many as those of a native map's, and the same one by one.
 fn rest_is_same_as<T, U, K: SameAs<T>, V: SameAs<U>, M: ArchivedMap<Key = K, Mapped = V>>(
     mut entries: Iter<'_, M>,
@@ -145,5 +157,41 @@ impl<'a, K: Portable, V: Portable, M: ArchivedMap<Key = K, Mapped = V> + ShowsEn
         // Both maps say their lengths, so maps that aren't as long cost no walk.
         self.len() as usize == map.len()
             && rest_is_same_as::<T, U, K, V, M>(self.walk(), map.iter())
+    }
+}
+
+/// Whether the keys that an iterator has left are as many as those of a native set's, and the same one by one.
+fn keys_are_same_as<T, K: SameAs<T>, V: Portable, M: ArchivedMap<Key = K, Mapped = V>>(
+    mut entries: Iter<'_, M>,
+    mut natives: btree_set::Iter<'_, T>,
+) -> bool
+    ensures { ByKeyTests K.kind K.same_at (λ same. result
+        ≡ pointwise same (map (λ e. e.0) (entries_left entries.entry)) natives.entry) }
+{
+    while let Some((key, _)) = entries.next() {
+        let Some(native_key) = natives.next() else {
+            return false;
+        };
+        if !K::same_as(&key, native_key) {
+            return false;
+        }
+    }
+    natives.next().is_none()
+}
+
+impl<'a, K: Portable, const E: usize> View<'a, ArchivedBTreeSet<K, E>> {
+    /// Whether the set has as many keys as a native set, and each is the same as the native one at its place.
+    pub fn eq_set<T: Ord>(self, set: &BTreeSet<T>) -> bool
+    where
+        K: SameAs<T>,
+        ensures { ByKeyTests K.kind K.same_at (λ same. result
+            ≡ pointwise same (keys_of K.kind E self.entry) set.now.keys) }
+    {
+        // Both sets say their lengths, so sets that aren't as long cost no walk.
+        self.len() as usize == set.len()
+            && keys_are_same_as::<T, K, (), ArchivedBTreeMap<K, (), E>>(
+                self.as_map().walk(),
+                set.iter(),
+            )
     }
 }

@@ -13,10 +13,9 @@ ghost use Rattle.rkyv_btree_view.specs.Items.{ShowsAll};
 ghost use Rattle.rkyv_btree_view.specs.Lookup.{ByNative};
 ghost use Rattle.rkyv_btree_view.specs.Map.{IsMap};
 ghost use Rattle.rkyv_btree_view.specs.Range.{ByNativeBounds};
-ghost use Rattle.rkyv_btree_view.specs.Set.{keys_of, key_in, IsCompleteOnKeys, VisitedKeys, AreKeysWithin};
+ghost use Rattle.rkyv_btree_view.specs.Set.{keys_of, key_in, IsCompleteOnKeys, AreKeysWithin};
 ghost use Rattle.rkyv_btree_view.specs.View.{reads};
 ghost use Rattle.rkyv_btree_walk.specs.Bounds.{IsRun};
-ghost use Rattle.rkyv_btree_walk.specs.Search.{shown};
 
 use crate::compare::ViewOrd;
 use crate::keys::Keys;
@@ -28,9 +27,8 @@ use rkyv_btree_base::check::{CheckBytes, Portable};
 use rkyv_btree_base::map::ArchivedBTreeMap;
 use rkyv_btree_base::refusal::Refusal;
 use rkyv_btree_base::set::ArchivedBTreeSet;
-use rkyv_btree_walk::shows::Shows;
 use std::marker::PhantomData;
-use std::ops::{Bound, ControlFlow};
+use std::ops::Bound;
 
 /// The keys of a set, in order.
 pub type Iter<'a, K, const E: usize> = Keys<'a, ArchivedBTreeMap<K, (), E>>;
@@ -112,19 +110,6 @@ impl<'a, K: Portable, const E: usize> View<'a, ArchivedBTreeSet<K, E>> {
         ensures ends { IsFinite (⟦<Iter<'a, K, E> as Iterator>⟧.remaining result) }
     {
         self.as_map().keys()
-    }
-
-    /// Calls `visit` with each key, in order, up to the first call that breaks, whose value it answers. Where no call
-    /// breaks, the answer is `None`. The walk takes no memory.
-    pub fn visit<W: Shows<'a, K>, T, F: FnMut(W) -> ControlFlow<T, ()>>(
-        self,
-        mut visit: F,
-    ) -> Option<T>
-        requires { F.IsAlwaysCallable visit }
-        ensures { VisitedKeys F.step (shown K.kind W.Shows) visit (keys_of K.kind E self.entry)
-            result }
-    {
-        self.as_map().visit(move |key: W, _: View<()>| visit(key))
     }
 }
 

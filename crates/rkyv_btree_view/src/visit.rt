@@ -1,6 +1,10 @@
 //! Visits of all entries of a map.
+ghost use Rattle.rkyv_btree_base.specs.Scalars.{unit_kind};
+ghost use Rattle.rkyv_btree_walk.specs.Search.{shown};
 ghost use Rattle.rkyv_btree_walk.specs.Visit.{Visited, shown_both};
+ghost use Rattle.rkyv_btree_view.specs.Set.{VisitedKeys};
 ghost use Rattle.rkyv_btree_view.specs.View.{entries_of};
+ghost use Rattle.std.specs.Prelude.{map};
 
 use crate::map::ShowsEntries;
 use crate::view::View;
@@ -11,6 +15,23 @@ use rkyv_btree_walk::path::begin;
 use rkyv_btree_walk::shows::Shows;
 use rkyv_btree_walk::visit::visit_rest;
 use std::ops::ControlFlow;
+
+impl<'a, K: Portable, V: Portable, M: ArchivedMap<Key = K, Mapped = V>> View<'a, M> {
+    /// Calls `visit` with the key and the value of each entry of a map or of a set.
+    fn visit_all<W: Shows<'a, K>, X: Shows<'a, V>, T, F: FnMut(W, X) -> ControlFlow<T, ()>>(
+        self,
+        visit: F,
+    ) -> Option<T>
+        requires { F.IsAlwaysCallable visit }
+        ensures { Visited F.step (shown_both K.kind V.kind W.Shows X.Shows) visit
+            (entries_of K.kind V.kind M.E self.entry) result }
+    {
+        M::opened(self.buf, self.pos);
+        let mut path = ArrayVec::new();
+        let first = begin::<K, V, M>(self.buf, self.pos, &mut path);
+        visit_rest::<K, V, M, W, X, T, F>(self.buf, first, &mut path, visit)
+    }
+}
 
 impl<'a, K: Portable, V: Portable, M: ArchivedMap<Key = K, Mapped = V> + ShowsEntries> View<'a, M> {
     /// Calls `visit` with the key and the value of each entry, in order, up to the first call that breaks, whose value
@@ -23,9 +44,21 @@ impl<'a, K: Portable, V: Portable, M: ArchivedMap<Key = K, Mapped = V> + ShowsEn
         ensures { Visited F.step (shown_both K.kind V.kind W.Shows X.Shows) visit
             (entries_of K.kind V.kind M.E self.entry) result }
     {
-        M::opened(self.buf, self.pos);
-        let mut path = ArrayVec::new();
-        let first = begin::<K, V, M>(self.buf, self.pos, &mut path);
-        visit_rest::<K, V, M, W, X, T, F>(self.buf, first, &mut path, visit)
+        self.visit_all(visit)
+    }
+}
+
+impl<'a, K: Portable, S: ArchivedMap<Key = K, Mapped = ()>> View<'a, S> {
+    /// Calls `visit` with each key of a set, in order, up to the first call that breaks, whose value it answers. Where no
+    /// call breaks, the answer is `None`. The walk takes no memory.
+    pub fn visit_keys<W: Shows<'a, K>, T, F: FnMut(W) -> ControlFlow<T, ()>>(
+        self,
+        mut visit: F,
+    ) -> Option<T>
+        requires { F.IsAlwaysCallable visit }
+        ensures { VisitedKeys F.step (shown K.kind W.Shows) visit
+            (map (λ e. e.0) (entries_of K.kind unit_kind S.E self.entry)) result }
+    {
+        self.visit_all(move |key: W, _: View<()>| visit(key))
     }
 }

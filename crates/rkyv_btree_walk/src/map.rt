@@ -9,6 +9,7 @@ use rkyv_btree_base::bytes::num32;
 use rkyv_btree_base::check::Portable;
 use rkyv_btree_base::layout;
 use rkyv_btree_base::map::ArchivedBTreeMap;
+use rkyv_btree_base::set::ArchivedBTreeSet;
 
 /// A type of archived maps: what its keys and values are, and where they stand in a node. A walk is over such a type.
 /// Positions in a node count from its first byte, which is its kind.
@@ -91,6 +92,39 @@ impl<K: Portable, V: Portable, const E: usize> ArchivedMap for ArchivedBTreeMap<
 
     fn pointer_at(i: usize) -> u32 {
         layout::lesser_at::<K, V, E>(i)
+    }
+}
+
+/// A set is the map of its keys to `()`.
+impl<K: Portable, const E: usize> ArchivedMap for ArchivedBTreeSet<K, E> {
+    type Key = K;
+
+    type Mapped = ();
+
+    ghost E = { E };
+
+    fn opened(_buf: &[u8], _pos: u32) {}
+
+    fn closed(_buf: &[u8], _pos: u32) {}
+
+    fn entries_per_node() -> usize {
+        E
+    }
+
+    fn key_at(i: usize) -> u32 {
+        layout::key_at::<K, (), E>(i)
+    }
+
+    fn value_at(i: usize) -> u32 {
+        layout::value_at::<K, (), E>(i)
+    }
+
+    fn len_at() -> u32 {
+        layout::len_at::<K, (), E>()
+    }
+
+    fn pointer_at(i: usize) -> u32 {
+        layout::lesser_at::<K, (), E>(i)
     }
 }
 

@@ -155,7 +155,12 @@ pub(crate) fn words<const E: usize>(
 ) -> Result<Vec<u32>, Fail> {
     let mut writer = VecWriter::new(alloc);
     archive::<E>(rt, alloc, entries.len(), entries, &mut writer)?;
-    let (chunks, rest) = writer.bytes().as_chunks::<4>();
+    words_of(rt, alloc, writer.bytes())
+}
+
+/// Bytes in words of four.
+pub(crate) fn words_of(rt: &impl Abort, alloc: Global, bytes: &[u8]) -> Result<Vec<u32>, Fail> {
+    let (chunks, rest) = bytes.as_chunks::<4>();
     assert!(rt; rest.is_empty());
     let mut words = Vec::new(alloc);
     for chunk in chunks {

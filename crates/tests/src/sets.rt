@@ -102,9 +102,7 @@ fn the_empty_set_has_no_keys(rt: HostRuntime) -> Result<(), Fail> {
             .next()
             .is_none()
     );
-    let met = set.as_map().visit(|key: View<ArchivedU32>, _: View<()>| ControlFlow::Break(
-        key.to_native(),
-    ));
+    let met = set.visit_keys(|key: View<ArchivedU32>| ControlFlow::Break(key.to_native()));
     assert_eq!(rt; met, None);
     assert!(rt; !set.contains_by(0));
     assert!(rt; set.get_by(0).is_none());
@@ -195,13 +193,13 @@ fn is_walked_as<const E: usize>(
 }
 
 /// A visit of a set meets std's keys, in order, up to the first at which it breaks off.
-fn is_visited_as(
+fn is_visited_as<const E: usize>(
     rt: &impl Abort,
-    set: View<ArchivedBTreeSet<ArchivedU32, 2>>,
+    set: View<ArchivedBTreeSet<ArchivedU32, E>>,
     keys: &BTreeSet<u32>,
 ) {
     let mut left = keys.iter();
-    let other = set.as_map().visit(|key: View<ArchivedU32>, _: View<()>| {
+    let other = set.visit_keys(|key: View<ArchivedU32>| {
         if left.next() == Some(&key.to_native()) {
             ControlFlow::Continue(())
         } else {
@@ -210,7 +208,7 @@ fn is_visited_as(
     });
     assert_eq!(rt; other, None);
     assert!(rt; left.next().is_none());
-    let found = set.as_map().visit(|key: View<ArchivedU32>, _: View<()>| {
+    let found = set.visit_keys(|key: View<ArchivedU32>| {
         if key.to_native() == set.len() | 1 {
             ControlFlow::Break(key.to_native())
         } else {
@@ -297,6 +295,7 @@ fn answer_as_std<const E: usize>(rt: &impl Abort, alloc: Global) -> Result<(), F
         let pos = archived::<E>(rt, alloc, &keys, &mut writer)?;
         let set = opened::<ArchivedU32, E>(rt, writer.bytes(), pos);
         is_walked_as::<E>(rt, set, &keys);
+        is_visited_as::<E>(rt, set, &keys);
         is_searched_as::<E>(rt, set, &keys, asked);
         has_ranges::<E>(rt, alloc, set, &keys)?;
     }
@@ -311,18 +310,6 @@ fn sets_of_one_key_a_node_answer_as_those_of_std(rt: HostRuntime) -> Result<(), 
 #[test]
 fn sets_of_two_keys_a_node_answer_as_those_of_std(rt: HostRuntime) -> Result<(), Fail> {
     answer_as_std::<2>(&rt, rt.alloc())
-}
-
-#[test]
-fn sets_of_two_keys_a_node_are_visited(rt: HostRuntime) -> Result<(), Fail> {
-    for count in 0..=40 {
-        let keys = odd(rt.alloc(), count)?;
-        let mut writer = VecWriter::new(rt.alloc());
-        let pos = archived::<2>(&rt, rt.alloc(), &keys, &mut writer)?;
-        let set = opened::<ArchivedU32, 2>(&rt, writer.bytes(), pos);
-        is_visited_as(&rt, set, &keys);
-    }
-    Ok(())
 }
 
 #[test]
@@ -362,6 +349,35 @@ fn sets_of_equal_keys_are_equal(rt: HostRuntime) -> Result<(), Fail> {
     assert!(rt; hashed(&set) != hashed(&other));
     let told = format!(in alloc; "{set:?}")?;
     assert_eq!(rt; told.as_str(), "{1, 2}");
+    Ok(())
+}
+
+#[test]
+fn a_set_is_the_same_as_its_own_keys_alone(rt: HostRuntime) -> Result<(), Fail> {
+    let alloc = rt.alloc();
+    let mut writer = VecWriter::new(alloc);
+    let pos = archive::<u32, _, 2>(&rt, alloc, &[1, 3, 5], &mut writer)?;
+    let set = opened::<ArchivedU32, 2>(&rt, writer.bytes(), pos);
+    assert!(rt; set.eq_set(&BTreeSet::from_array(alloc, [5, 3, 1])?));
+    for others in [[0, 3, 5], [1, 4, 5], [1, 3, 6]] {
+        assert!(rt; !set.eq_set(&BTreeSet::from_array(alloc, others)?));
+    }
+    assert!(rt; !set.eq_set(&BTreeSet::from_array(alloc, [1, 3])?));
+    assert!(rt; !set.eq_set(&BTreeSet::from_array(alloc, [1, 3, 5, 7])?));
+    let none: BTreeSet<u32> = BTreeSet::new(alloc);
+    assert!(rt; !set.eq_set(&none));
+    Ok(())
+}
+
+// A native set has no key twice.
+#[test]
+fn a_set_of_equal_keys_is_no_native_one(rt: HostRuntime) -> Result<(), Fail> {
+    let alloc = rt.alloc();
+    let mut writer = VecWriter::new(alloc);
+    let pos = archive::<u32, _, 2>(&rt, alloc, &[1, 1], &mut writer)?;
+    let set = opened::<ArchivedU32, 2>(&rt, writer.bytes(), pos);
+    assert!(rt; !set.eq_set(&BTreeSet::from_array(alloc, [1])?));
+    assert!(rt; !set.eq_set(&BTreeSet::from_array(alloc, [1, 2])?));
     Ok(())
 }
 

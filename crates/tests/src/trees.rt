@@ -14,15 +14,37 @@ use std::test::Fail;
 #[derive(Drop)]
 enum Part {
     Node { at: usize, level: u32 },
-    Entry(u32, u32),
+    Entry { key: u32, value: u32, level: u32 },
 }
 
-/// What stands in a tree: its entries in their order, and how many nodes and levels it has.
+/// What stands in a tree: its entries in their order and how many of them are on its last level, and how many nodes, inner
+/// nodes and levels it has.
 #[derive(Drop)]
-struct Reading {
-    entries: Vec<(u32, u32)>,
-    nodes: u32,
-    levels: u32,
+pub(crate) struct Reading {
+    pub(crate) entries: Vec<(u32, u32)>,
+    on_last: u32,
+    pub(crate) nodes: u32,
+    pub(crate) inners: u32,
+    pub(crate) levels: u32,
+}
+
+impl Reading {
+    /// Counts a node, and begins with a level that is deeper than those before.
+    fn count_node(&mut self, level: u32, is_inner: bool) {
+        self.nodes = self.nodes.wrapping_add(1);
+        self.inners = self.inners.wrapping_add(u32::from(is_inner));
+        if level > self.levels {
+            self.levels = level;
+            self.on_last = 0;
+        }
+    }
+
+    /// Takes an entry.
+    fn take_entry(&mut self, entry: (u32, u32), level: u32) -> Result<(), Fail> {
+        self.on_last = self.on_last.wrapping_add(u32::from(level == self.levels));
+        self.entries.push(entry)?;
+        Ok(())
+    }
 }
 
 /// The word at an index.
@@ -64,7 +86,7 @@ fn push_parts<const E: usize>(
     for i in (0..count).rev() {
         let key = word(words, keys.wrapping_add(i))?;
         let value = word(words, values.wrapping_add(i))?;
-        parts.push(Part::Entry(key, value))?;
+        parts.push(Part::Entry { key, value, level })?;
         if is_inner {
             push_child(words, tail.wrapping_add(i), below, parts)?;
         }
@@ -73,21 +95,22 @@ fn push_parts<const E: usize>(
 }
 
 /// Reads the tree under the root in the last two words. It has fewer parts than words.
-fn read_tree<const E: usize>(alloc: Global, words: &[u32]) -> Result<Reading, Fail> {
+pub(crate) fn read_tree<const E: usize>(alloc: Global, words: &[u32]) -> Result<Reading, Fail> {
     let mut parts = Vec::new(alloc);
     let mut reading = Reading {
         entries: Vec::new(alloc),
+        on_last: 0,
         nodes: 0,
+        inners: 0,
         levels: 0,
     };
     push_child(words, words.len().wrapping_sub(2), 1, &mut parts)?;
     for _ in words {
         match parts.pop() {
             None => break,
-            Some(Part::Entry(key, value)) => reading.entries.push((key, value))?,
+            Some(Part::Entry { key, value, level }) => reading.take_entry((key, value), level)?,
             Some(Part::Node { at, level }) => {
-                reading.nodes = reading.nodes.wrapping_add(1);
-                reading.levels = reading.levels.max(level);
+                reading.count_node(level, word(words, at)? == 1);
                 push_parts::<E>(words, at, level, &mut parts)?;
             }
         }
@@ -121,19 +144,36 @@ fn archives_hold_their_lists(rt: HostRuntime) -> Result<(), Fail> {
     hold_their_lists::<7>(&rt, rt.alloc())
 }
 
-/// Archives of so many entries have trees of so many levels and nodes.
-fn have_levels_and_nodes<const E: usize>(
-    rt: &impl Abort,
-    alloc: Global,
-    table: &[(u32, u32, u32)],
-) -> Result<(), Fail> {
-    for (count, levels, nodes) in table {
+/// A number of entries, and what its tree has: levels, entries on the last of them, and nodes.
+type Row = (u32, u32, u32, u32);
+
+// With five entries a node.
+const FIVE: [Row; 10] = [
+    (1, 1, 1, 1),
+    (5, 1, 5, 1),
+    (6, 2, 1, 2),
+    (9, 2, 4, 2),
+    (17, 2, 12, 4),
+    (35, 2, 30, 7),
+    (36, 3, 1, 8),
+    (112, 3, 77, 23),
+    (215, 3, 180, 43),
+    (100000, 7, 53345, 20000),
+];
+
+// With one entry a node.
+const ONE: [Row; 3] = [(2, 2, 1, 2), (3, 2, 2, 3), (4, 3, 1, 4)];
+
+/// The built trees are those of the table.
+fn have_rows<const E: usize>(rt: &impl Abort, alloc: Global, table: &[Row]) -> Result<(), Fail> {
+    for (count, levels, on_last, nodes) in table {
         let entries = tens(alloc, *count)?;
         let words = words::<E>(rt, alloc, &entries)?;
         let read = read_tree::<E>(alloc, &words)?;
+        assert_eq!(rt; read.entries.len(), entries.len(), "{count} entries");
         assert_eq!(rt;
-            (read.levels, read.nodes),
-            (*levels, *nodes),
+            (read.levels, read.on_last, read.nodes),
+            (*levels, *on_last, *nodes),
             "{count} entries"
         );
     }
@@ -141,20 +181,9 @@ fn have_levels_and_nodes<const E: usize>(
 }
 
 #[test]
-fn built_trees_have_their_levels_and_nodes(rt: HostRuntime) -> Result<(), Fail> {
-    let five = [
-        (1, 1, 1),
-        (5, 1, 1),
-        (6, 2, 2),
-        (9, 2, 2),
-        (17, 2, 4),
-        (35, 2, 7),
-        (36, 3, 8),
-        (112, 3, 23),
-        (215, 3, 43),
-    ];
-    have_levels_and_nodes::<5>(&rt, rt.alloc(), &five)?;
-    have_levels_and_nodes::<1>(&rt, rt.alloc(), &[(2, 2, 2), (3, 2, 3), (4, 3, 4)])
+fn built_trees_are_those_of_the_table(rt: HostRuntime) -> Result<(), Fail> {
+    have_rows::<5>(&rt, rt.alloc(), &FIVE)?;
+    have_rows::<1>(&rt, rt.alloc(), &ONE)
 }
 
 #[test]

@@ -9,9 +9,11 @@ use Rattle.rkyv_btree_base.specs.Kind.{Kind}
 use Rattle.rkyv_btree_base.specs.Layout.{layout_of, key_at, value_at}
 use Rattle.rkyv_btree_base.specs.Map.{map_kind}
 use Rattle.rkyv_btree_base.specs.Read.{entry_at, map_tree}
+use Rattle.rkyv_btree_base.specs.Scalars.{unit_kind}
+use Rattle.rkyv_btree_base.specs.Sets.{with_units}
 use Rattle.rkyv_btree_base.specs.Tree.{list}
 use Rattle.rkyv_btree_view.specs.Native.{ReadAs}
-use Rattle.rkyv_btree_view.specs.SameAs.{TestsSame, map_same_at}
+use Rattle.rkyv_btree_view.specs.SameAs.{TestsSame, map_same_at, set_same_at}
 
 -- the test with one element of an equivalence
 one_class : {X : Type 0} {same : X → X → Bool} → IsEquivalence same → (n x y : X) → same x n ≡ true → same y n ≡ same x y
@@ -79,3 +81,21 @@ module _ (K V : Kind) (E : ℕ) {T U : Type 0} {same_key_at : T → List ℕ →
     reads = λ n b at. places_tested k.same v.same k.reads v.reads b (list (map_tree (layout_of K V E) b at)) (entries n);
     alike = λ n. lists_alike k v (entries n);
   }
+
+-- a () is the same as each other
+unit_tests : TestsSame unit_kind (λ (unit : Unit {0}) b at. true)
+unit_tests = record { same = λ x n. true; reads = λ n b at. refl; alike = λ n x y is. refl }
+
+pub set_tests : (K : Kind) (E : ℕ) {T N : Type 0} {same_key_at : T → List ℕ → ℕ → Bool} → TestsSame K same_key_at → (keys : N → List T) → TestsSame (map_kind K unit_kind E) (λ n b at. set_same_at K E same_key_at (keys n) b at)
+set_tests K E k keys = map_tests K unit_kind E k unit_tests (λ n. with_units (keys n))
+
+-- the test of keys is that of entries with a () each
+and_true : (b : Bool) → (b && true) ≡ b
+and_true true = refl
+and_true false = refl
+
+pub units_tested : {A T : Type 0} (same : A → T → Bool) (entries : List (A × Unit {0})) (natives : List T) → pointwise (λ e n. same e.0 n.0 && true) entries (with_units natives) ≡ pointwise same (map (λ e. e.0) entries) natives
+units_tested same [] [] = refl
+units_tested same [] (n ∷ ns) = refl
+units_tested same (e ∷ es) [] = refl
+units_tested same (e ∷ es) (n ∷ ns) = rw (and_true (same e.0 n), units_tested same es ns) refl

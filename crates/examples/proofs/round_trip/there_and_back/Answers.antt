@@ -1,5 +1,5 @@
 -- The archive means the map, and what means a map gives it back.
-use Rattle.std.proofs.Common.{◌∙◌, sym, refl, string_bytes, Global, List, ℕ}
+use Rattle.std.proofs.Common.{◌∙◌, sym, refl, slice_index_or, string_bytes, Global, List, ℕ}
 use Rattle.std.specs.Cmp.Lexicographic.{slice_cmp}
 use Rattle.std.specs.Ordering.{nat_cmp}
 use Rattle.std.specs.Prelude.{Ok}
@@ -31,7 +31,7 @@ returns-in-Ok-from_archive-clause-same c =
     let meant : kind.Value = both_mean (string_bytes {Z = Global}) (λ n. n) c.args.map.now.entries in
     let archive = in_bytes kind meant c.as_slice.result.now c.in-Ok.archive.items c.as_slice.ensures.value (c.in-Ok.ensures.ok (itself kind)) in
     let read = read_back {kind = kind} c.as_slice.result.now meant archive (map_laws text_kind u32_kind 5 text_laws u32_laws) in
-    let back = c.maps_are_given_back.ensures string_bytes (λ n. n) c.texts_are_given_back.ensures c.natives_are_given_back.ensures.u32 c.args.map.now.entries c.len-len.ensures.ordered c.as_slice.result.now _ read in
+    let back = c.maps_are_given_back.ensures string_bytes (λ n. n) c.args.map.now.entries c.len-len.ensures.ordered (λ i d within. let entry = slice_index_or c.args.map.now.entries i d in (c.texts_are_given_back.ensures entry.0, c.natives_are_given_back.ensures.u32 entry.1)) c.as_slice.result.now _ read in
     let same = sym c.in-Ok-from_archive.ensures.made ∙ back in
     cc same
 

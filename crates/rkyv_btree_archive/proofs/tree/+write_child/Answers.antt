@@ -12,13 +12,13 @@ use Rattle.rkyv_btree_shape.proofs.Rows.{turn-inside, turn-rest, drop-push, take
 use Rattle.rkyv_btree_image.proofs.RowsWritten.{row-more, row-stopped, last-stopped, inner-stopped, inner-written, turn-so-far, last-so-far, so-far-as}
 use Rattle.rkyv_btree_archive.proofs.tree.+write_child.Goals as goal
 
-pub child_base-base-requires-clause-some : goal.child_base-base-requires-clause-some
-child_base-base-requires-clause-some g t c =
+pub inner_base-requires-clause-some : goal.inner_base-requires-clause-some
+inner_base-requires-clause-some g t c =
     let room = room_of _ _ g.row.E g.met.K.Portable.laws g.met.V.Portable.laws c.requires.fitting in
     room.some
 
-pub child_base-base-requires-clause-small : goal.child_base-base-requires-clause-small
-child_base-base-requires-clause-small g t c =
+pub inner_base-requires-clause-small : goal.inner_base-requires-clause-small
+inner_base-requires-clause-small g t c =
     let room = room_of _ _ g.row.E g.met.K.Portable.laws g.met.V.Portable.laws c.requires.fitting in
     room.entries
 
@@ -30,19 +30,19 @@ returns-in_err-root-clause-err g t c =
     let own = now_of {M = g.row.KU.Denot} {N = g.row.VU.Denot} in
     let items = c.args.items.now in
     let room = room_of _ _ g.row.E g.met.K.Portable.laws g.met.V.Portable.laws c.requires.fitting in
-    let leaf_is = alone_leaf E own items room.some (not-empty (length items) c.if-is_empty.ensures) (omega arith) in
+    let leaf_is = alone_leaf E own items room.some (not-empty (length items) c.if-is_empty.ensures) c.in_default.ensures.leaf in
     let p = err_from_is_err_and c.from_residual.result c.from_residual.ensures.1 in
     rw (p.1, p.2) (subst (λ z. ChildStopped nodes g.KU.Archive.archival g.VU.Archive.archival s z c.in_err-root.field-0.0 (g.W.Writer.state c.write_leaf.new.writer)) (sym leaf_is) c.in_err-root.ensures.err)
 
-pub returns-then-items-clause-ok : goal.returns-then-items-clause-ok
-returns-then-items-clause-ok g t c =
+pub returns-in_default-clause-ok : goal.returns-in_default-clause-ok
+returns-in_default-clause-ok g t c =
     let s = g.W.Writer.state c.args.writer.now in
     let E = g.row.E in
     let nodes = layout_of g.K.Portable.kind g.V.Portable.kind E in
     let own = now_of {M = g.row.KU.Denot} {N = g.row.VU.Denot} in
     let items = c.args.items.now in
     let room = room_of _ _ g.row.E g.met.K.Portable.laws g.met.V.Portable.laws c.requires.fitting in
-    let leaf_is = alone_leaf E own items room.some (not-empty (length items) c.if-is_empty.ensures) (omega arith) in
+    let leaf_is = alone_leaf E own items room.some (not-empty (length items) c.if-is_empty.ensures) c.in_default.ensures.leaf in
     subst (λ z. ChildWritten nodes g.KU.Archive.archival g.VU.Archive.archival s z (Some c.in_ok-root.root) (g.W.Writer.state c.write_leaf.new.writer)) (sym leaf_is)
     (c.in_ok-root.root, c.in_ok-root.ensures.ok, refl)
 
@@ -54,20 +54,20 @@ returns-in_err-child-clause-err g t c =
     let own = now_of {M = g.row.KU.Denot} {N = g.row.VU.Denot} in
     let items = c.args.items.now in
     let room = room_of _ _ g.row.E g.met.K.Portable.laws g.met.V.Portable.laws c.requires.fitting in
-    let base = c.child_base-base.result in
+    let base = c.in-Some.base in
     let start = c.loop-left.start in
     let before = c.loop-left.invariant in
-    let inner_is = alone_inner E base own items room.some c.if-items.false c.child_base-base.ensures.value in
-    let took = c.min-taken.result in
+    let inner_is = alone_inner E base own items room.some c.in-Some.ensures.more c.in-Some.ensures.value in
+    let took = c.taken_by_child-taken.result in
     let end = start + (base - 1 + took) in
     let size = end - start in
-    let few : took ≤ c.loop-left.on_last = omega (arith, c.min-taken.ensures) in
-    let inside : end < length items = turn-inside (length items) start c.loop-left.left base c.loop-left.on_last took before.rest c.loop-left-test.true c.child_base-base.ensures.positive few in
+    let few : took ≤ c.loop-left.on_last = omega (arith, c.taken_by_child-taken.ensures) in
+    let inside : end < length items = turn-inside (length items) start c.loop-left.left base c.loop-left.on_last took before.rest c.loop-left-test.true c.in-Some.ensures.positive few in
     let size_is : size ≡ (base - 1) + took = omega arith in
     let p = err_from_is_err_and c.from_residual-in_err-child.result c.from_residual-in_err-child.ensures.1 in
     rw (p.1, p.2) (subst (λ z. ChildStopped nodes g.KU.Archive.archival g.VU.Archive.archival s z c.in_err-child.field-0.0 (g.W.Writer.state c.write_child.new.writer)) (sym inner_is)
     (row-stopped nodes g.KU.Archive.archival g.VU.Archive.archival
-    (turn-so-far nodes g.KU.Archive.archival g.VU.Archive.archival own (planned_alone E) base (E * base) c.loop-left.on_last c.loop-left.left start size took end items (some_item items (omega arith)) c.loop-left-test.true c.min-taken.ensures size_is (omega arith) inside before.row)
+    (turn-so-far nodes g.KU.Archive.archival g.VU.Archive.archival own (planned_alone E) base (E * base) c.loop-left.on_last c.loop-left.left start size took end items (some_item items (omega arith)) c.loop-left-test.true c.taken_by_child-taken.ensures size_is (omega arith) inside before.row)
     c.in_err-child.ensures.err))
 
 pub loop-left-preserved : goal.loop-left-preserved
@@ -76,14 +76,14 @@ loop-left-preserved g t c =
     let nodes = layout_of g.K.Portable.kind g.V.Portable.kind E in
     let own = now_of {M = g.row.KU.Denot} {N = g.row.VU.Denot} in
     let items = c.args.items.now in
-    let base = c.child_base-base.result in
+    let base = c.in-Some.base in
     let start = c.loop-left.start in
     let before = c.loop-left.invariant in
-    let took = c.min-taken.result in
+    let took = c.taken_by_child-taken.result in
     let end = start + (base - 1 + took) in
     let size = end - start in
-    let few : took ≤ c.loop-left.on_last = omega (arith, c.min-taken.ensures) in
-    let inside : end < length items = turn-inside (length items) start c.loop-left.left base c.loop-left.on_last took before.rest c.loop-left-test.true c.child_base-base.ensures.positive few in
+    let few : took ≤ c.loop-left.on_last = omega (arith, c.taken_by_child-taken.ensures) in
+    let inside : end < length items = turn-inside (length items) start c.loop-left.left base c.loop-left.on_last took before.rest c.loop-left-test.true c.in-Some.ensures.positive few in
     let size_is : size ≡ (base - 1) + took = omega arith in
     let waiting_low : c.len-first.result ≤ length c.loop-left.waiting.items = omega (arith, before.waiting_count, before.left) in
     let children_low : c.len-first_child.result ≤ length c.loop-left.children.items = omega (arith, before.child_count, before.left) in
@@ -92,14 +92,14 @@ loop-left-preserved g t c =
     record {
       row =
           let more = row-more nodes g.KU.Archive.archival g.VU.Archive.archival c.in_ok-child.child
-          (turn-so-far nodes g.KU.Archive.archival g.VU.Archive.archival own (planned_alone E) base (E * base) c.loop-left.on_last c.loop-left.left start size took end items _ c.loop-left-test.true c.min-taken.ensures size_is (omega arith) inside before.row)
+          (turn-so-far nodes g.KU.Archive.archival g.VU.Archive.archival own (planned_alone E) base (E * base) c.loop-left.on_last c.loop-left.left start size took end items _ c.loop-left-test.true c.taken_by_child-taken.ensures size_is (omega arith) inside before.row)
           c.in_ok-child.ensures.ok in
           so-far-as nodes g.KU.Archive.archival g.VU.Archive.archival more
           (ap (map own) (drop-push c.len-first.result c.loop-left.waiting.items c.push-in-loop-left.new.values.items _ _ waiting_low c.in_ok-child.ensures.kept.0 c.push-in-loop-left.ensures.items) ∙ map_push own _ _ ∙ ap (λ x. map own (drop c.len-first.result c.loop-left.waiting.items) ++ own x ∷ []) c.index-items-end.is)
           (drop-push c.len-first_child.result c.loop-left.children.items c.push.new.values.items _ _ children_low c.in_ok-child.ensures.kept.1 c.push.ensures.items);
       left = omega arith;
-      rest = turn-rest (length items) start c.loop-left.left base c.loop-left.on_last took before.rest c.loop-left-test.true c.child_base-base.ensures.positive few;
-      on_last = less_on_last c.loop-left.left c.loop-left.on_last (E * base) took c.min-taken.ensures c.loop-left-test.true before.on_last;
+      rest = turn-rest (length items) start c.loop-left.left base c.loop-left.on_last took before.rest c.loop-left-test.true c.in-Some.ensures.positive few;
+      on_last = less_on_last c.loop-left.left c.loop-left.on_last (E * base) took c.taken_by_child-taken.ensures c.loop-left-test.true before.on_last;
       passed = omega (arith, before.passed, c.loop-left-test.true);
       waiting = take-push c.len-first.result c.loop-left.waiting.items c.push-in-loop-left.new.values.items _ _ _ waiting_low c.in_ok-child.ensures.kept.0 c.push-in-loop-left.ensures.items before.waiting;
       children = take-push c.len-first_child.result c.loop-left.children.items c.push.new.values.items _ _ _ children_low c.in_ok-child.ensures.kept.1 c.push.ensures.items before.children;
@@ -118,10 +118,10 @@ returns-in_err-last-clause-err g t c =
     let own = now_of {M = g.row.KU.Denot} {N = g.row.VU.Denot} in
     let items = c.args.items.now in
     let room = room_of _ _ g.row.E g.met.K.Portable.laws g.met.V.Portable.laws c.requires.fitting in
-    let base = c.child_base-base.result in
+    let base = c.in-Some.base in
     let start = c.loop-left.start in
     let before = c.loop-left.invariant in
-    let inner_is = alone_inner E base own items room.some c.if-items.false c.child_base-base.ensures.value in
+    let inner_is = alone_inner E base own items room.some c.in-Some.ensures.more c.in-Some.ensures.value in
     let so_far = last-so-far nodes g.KU.Archive.archival g.VU.Archive.archival own (planned_alone E) base (E * base) c.loop-left.on_last c.loop-left.left start items c.loop-left-test.false before.row in
     let p = err_from_is_err_and c.from_residual-in_err-last.result c.from_residual-in_err-last.ensures.1 in
     rw (p.1, p.2) (subst (λ z. ChildStopped nodes g.KU.Archive.archival g.VU.Archive.archival s z c.in_err-last.field-0.0 (g.W.Writer.state c.write_child-2.new.writer)) (sym inner_is)
@@ -135,10 +135,10 @@ returns-in_err-root-2-clause-err g t c =
     let own = now_of {M = g.row.KU.Denot} {N = g.row.VU.Denot} in
     let items = c.args.items.now in
     let room = room_of _ _ g.row.E g.met.K.Portable.laws g.met.V.Portable.laws c.requires.fitting in
-    let base = c.child_base-base.result in
+    let base = c.in-Some.base in
     let start = c.loop-left.start in
     let before = c.loop-left.invariant in
-    let inner_is = alone_inner E base own items room.some c.if-items.false c.child_base-base.ensures.value in
+    let inner_is = alone_inner E base own items room.some c.in-Some.ensures.more c.in-Some.ensures.value in
     let so_far = last-so-far nodes g.KU.Archive.archival g.VU.Archive.archival own (planned_alone E) base (E * base) c.loop-left.on_last c.loop-left.left start items c.loop-left-test.false before.row in
     let here = so-far-as nodes g.KU.Archive.archival g.VU.Archive.archival so_far
     (ap (map own) (take_rest c.deref.result.now c.len-first.result ∙ ap (drop c.len-first.result) (c.deref.ensures.value ∙ c.in_ok-last.ensures.kept.0)))
@@ -155,10 +155,10 @@ returns-clause-ok g t c =
     let own = now_of {M = g.row.KU.Denot} {N = g.row.VU.Denot} in
     let items = c.args.items.now in
     let room = room_of _ _ g.row.E g.met.K.Portable.laws g.met.V.Portable.laws c.requires.fitting in
-    let base = c.child_base-base.result in
+    let base = c.in-Some.base in
     let start = c.loop-left.start in
     let before = c.loop-left.invariant in
-    let inner_is = alone_inner E base own items room.some c.if-items.false c.child_base-base.ensures.value in
+    let inner_is = alone_inner E base own items room.some c.in-Some.ensures.more c.in-Some.ensures.value in
     let so_far = last-so-far nodes g.KU.Archive.archival g.VU.Archive.archival own (planned_alone E) base (E * base) c.loop-left.on_last c.loop-left.left start items c.loop-left-test.false before.row in
     let here = so-far-as nodes g.KU.Archive.archival g.VU.Archive.archival so_far
     (ap (map own) (take_rest c.deref.result.now c.len-first.result ∙ ap (drop c.len-first.result) (c.deref.ensures.value ∙ c.in_ok-last.ensures.kept.0)))
@@ -171,26 +171,26 @@ push-requires g t c =
     let E = g.row.E in
     let items = c.args.items.now in
     let room = room_of _ _ g.row.E g.met.K.Portable.laws g.met.V.Portable.laws c.requires.fitting in
-    let base = c.child_base-base.result in
+    let base = c.in-Some.base in
     let start = c.loop-left.start in
     let before = c.loop-left.invariant in
-    let took = c.min-taken.result in
+    let took = c.taken_by_child-taken.result in
     let end = start + (base - 1 + took) in
     let size = end - start in
     let size_is : size ≡ (base - 1) + took = omega arith in
-    let wait = waiting E (length items) size base room.some c.if-items.false c.child_base-base.ensures.value (subst (λ n. n < base * (E + 1)) (sym size_is) (child_small base E c.loop-left.on_last took c.min-taken.ensures c.child_base-base.ensures.positive)) in
+    let wait = waiting E (length items) size base room.some c.in-Some.ensures.more c.in-Some.ensures.value (subst (λ n. n < base * (E + 1)) (sym size_is) (child_small base E c.loop-left.on_last took c.taken_by_child-taken.ensures c.in-Some.ensures.positive)) in
     omega (arith, wait, before.child_count, before.left, before.child_room, c.requires.child_room, ap length c.in_ok-child.ensures.kept.1, c.in_ok-child.ensures.room.1, c.loop-left-test.true)
 
 pub bounds-items-end : goal.bounds-items-end
 bounds-items-end g t c =
     let items = c.args.items.now in
-    let base = c.child_base-base.result in
+    let base = c.in-Some.base in
     let start = c.loop-left.start in
     let before = c.loop-left.invariant in
-    let took = c.min-taken.result in
+    let took = c.taken_by_child-taken.result in
     let end = start + (base - 1 + took) in
-    let few : took ≤ c.loop-left.on_last = omega (arith, c.min-taken.ensures) in
-    let inside : end < length items = turn-inside (length items) start c.loop-left.left base c.loop-left.on_last took before.rest c.loop-left-test.true c.child_base-base.ensures.positive few in
+    let few : took ≤ c.loop-left.on_last = omega (arith, c.taken_by_child-taken.ensures) in
+    let inside : end < length items = turn-inside (length items) start c.loop-left.left base c.loop-left.on_last took before.rest c.loop-left-test.true c.in-Some.ensures.positive few in
     inside
 
 pub push-requires-in-loop-left : goal.push-requires-in-loop-left
@@ -198,14 +198,14 @@ push-requires-in-loop-left g t c =
     let E = g.row.E in
     let items = c.args.items.now in
     let room = room_of _ _ g.row.E g.met.K.Portable.laws g.met.V.Portable.laws c.requires.fitting in
-    let base = c.child_base-base.result in
+    let base = c.in-Some.base in
     let start = c.loop-left.start in
     let before = c.loop-left.invariant in
-    let took = c.min-taken.result in
+    let took = c.taken_by_child-taken.result in
     let end = start + (base - 1 + took) in
     let size = end - start in
     let size_is : size ≡ (base - 1) + took = omega arith in
-    let wait = waiting E (length items) size base room.some c.if-items.false c.child_base-base.ensures.value (subst (λ n. n < base * (E + 1)) (sym size_is) (child_small base E c.loop-left.on_last took c.min-taken.ensures c.child_base-base.ensures.positive)) in
+    let wait = waiting E (length items) size base room.some c.in-Some.ensures.more c.in-Some.ensures.value (subst (λ n. n < base * (E + 1)) (sym size_is) (child_small base E c.loop-left.on_last took c.taken_by_child-taken.ensures c.in-Some.ensures.positive)) in
     omega (arith, wait, before.waiting_count, before.left, before.waiting_room, c.requires.waiting_room, ap length c.in_ok-child.ensures.kept.0, c.in_ok-child.ensures.room.0, c.loop-left-test.true)
 
 pub write_child-requires : goal.write_child-requires
@@ -213,19 +213,19 @@ write_child-requires g t c κs within =
     let E = g.row.E in
     let items = c.args.items.now in
     let room = room_of _ _ g.row.E g.met.K.Portable.laws g.met.V.Portable.laws c.requires.fitting in
-    let base = c.child_base-base.result in
+    let base = c.in-Some.base in
     let start = c.loop-left.start in
     let before = c.loop-left.invariant in
-    let took = c.min-taken.result in
+    let took = c.taken_by_child-taken.result in
     let end = start + (base - 1 + took) in
     let size = end - start in
-    let few : took ≤ c.loop-left.on_last = omega (arith, c.min-taken.ensures) in
-    let inside : end < length items = turn-inside (length items) start c.loop-left.left base c.loop-left.on_last took before.rest c.loop-left-test.true c.child_base-base.ensures.positive few in
+    let few : took ≤ c.loop-left.on_last = omega (arith, c.taken_by_child-taken.ensures) in
+    let inside : end < length items = turn-inside (length items) start c.loop-left.left base c.loop-left.on_last took before.rest c.loop-left-test.true c.in-Some.ensures.positive few in
     let size_is : size ≡ (base - 1) + took = omega arith in
     let part = take size (drop start items) in
     let len : length part ≡ (base - 1) + took = omega (arith, length-take size (drop start items), length-drop start items, inside, size_is) in
-    let small : length part < base * (E + 1) = subst (λ n. n < base * (E + 1)) (sym len) (child_small base E c.loop-left.on_last took c.min-taken.ensures c.child_base-base.ensures.positive) in
-    let wait = waiting E (length items) (length part) base room.some c.if-items.false c.child_base-base.ensures.value small in (
+    let small : length part < base * (E + 1) = subst (λ n. n < base * (E + 1)) (sym len) (child_small base E c.loop-left.on_last took c.taken_by_child-taken.ensures c.in-Some.ensures.positive) in
+    let wait = waiting E (length items) (length part) base room.some c.in-Some.ensures.more c.in-Some.ensures.value small in (
       omega (arith, len, inside),
       (
         within.0,
@@ -277,17 +277,18 @@ write_child-requires-2 g t c κs within =
     let E = g.row.E in
     let items = c.args.items.now in
     let room = room_of _ _ g.row.E g.met.K.Portable.laws g.met.V.Portable.laws c.requires.fitting in
-    let base = c.child_base-base.result in
+    let base = c.in-Some.base in
     let start = c.loop-left.start in
     let before = c.loop-left.invariant in
     let part = take (length items - start) (drop start items) in
     let rest : length items + 1 ≡ start + ((0 + 1) * base + c.loop-left.on_last) = last_rest c.loop-left.left start (length items) base c.loop-left.on_last c.loop-left-test.false before.rest in
     let fits : c.loop-left.on_last ≤ E * base = last_fits c.loop-left.left c.loop-left.on_last (E * base) c.loop-left-test.false before.on_last in
     let len : length part ≡ length items - start = omega (arith, length-take (length items - start) (drop start items), length-drop start items) in
+    let many : E < length items = c.in-Some.ensures.more in
     let passed : 0 < start = omega (arith, before.passed, c.loop-left-test.false, room.some) in
-    let small : length part < base * (E + 1) = omega (arith, len, rest, fits, c.child_base-base.ensures.positive) in
-    let wait = waiting E (length items) (length part) base room.some c.if-items.false c.child_base-base.ensures.value small in (
-      omega (arith, len, passed),
+    let small : length part < base * (E + 1) = omega (arith, len, rest, fits, c.in-Some.ensures.positive) in
+    let wait = waiting E (length items) (length part) base room.some many c.in-Some.ensures.value small in (
+      omega (arith, len, passed, many),
       (
         within.0,
         (

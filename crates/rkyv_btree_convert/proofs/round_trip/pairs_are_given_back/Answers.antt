@@ -4,7 +4,7 @@ use Rattle.rkyv_btree_base.specs.Entry.{value_offset}
 use Rattle.rkyv_btree_convert.proofs.round_trip.pairs_are_given_back.Goals as goal
 
 pub returns : goal.returns
-returns g c key value keys values pair b at same =
-    let first = keys pair.0 b at (ap (λ r. r.0) same) in
-    let second = values pair.1 b (at + value_offset g.K.Portable.kind g.V.Portable.kind) (ap (λ r. r.1) same) in
+returns g c key value pair key_back value_back b at same =
+    let first = key_back b at (ap (λ r. r.0) same) in
+    let second = value_back b (at + value_offset g.K.Portable.kind g.V.Portable.kind) (ap (λ r. r.1) same) in
     rw (first, second) refl

@@ -1,0 +1,19 @@
+use Rattle.std.proofs.Common.{inl, inr}
+use Rattle.std.proofs.lemmas.Result.{err_from_is_err_and}
+use Rattle.examples.proofs.Concluded.{smallest_written}
+use Rattle.examples.proofs.headline.archived_std_map.Goals as goal
+
+pub returns-in_err-root-clause-refused : goal.returns-in_err-root-clause-refused
+returns-in_err-root-clause-refused g c =
+    let p = err_from_is_err_and c.from_residual.result c.from_residual.ensures.1 in
+    rw (p.1, p.2) (c.serialize.new.writer, inl (rw c.new-writer.ensures at c.in_err-root.ensures.err))
+
+pub returns-in_err-pos-clause-refused : goal.returns-in_err-pos-clause-refused
+returns-in_err-pos-clause-refused g c =
+    let p = err_from_is_err_and c.from_residual-in_err-pos.result c.from_residual-in_err-pos.ensures.1 in
+    rw (p.1, p.2) (c.write_root.new.writer, inr (c.in_ok-root.root, c.serialize.new.writer, rw c.new-writer.ensures at c.in_ok-root.ensures.ok, rw c.len.ensures.len at c.in_err-pos.ensures.err))
+
+pub returns-clause-smallest : goal.returns-clause-smallest
+returns-clause-smallest g c =
+    smallest_written g.KU.Archived.Portable.kind g.VU.Archived.Portable.kind 5 g.KU.Archive.archival g.VU.Archive.archival c.written_maps_are_held.ensures c.new-writer.result c.serialize.new.writer c.write_root.new.writer c.in_ok-root.root c.len.result c.in_ok-pos.pos c.into_vec.result.items
+    c.new-writer.ensures c.args.map.now.entries c.len.ensures.len c.in_ok-root.ensures.smallest c.in_ok-root.ensures.went c.in_ok-pos.ensures.ok c.in_ok-pos.ensures.last c.in_ok-pos.ensures.pos c.into_vec.ensures

@@ -1,0 +1,17 @@
+use Rattle.std.proofs.Common.{◌≡◌, ◌∙◌}
+use Rattle.std.proofs.lemmas.Result.{err_from_is_err_and}
+use Rattle.rkyv_btree_base.specs.Read.{read_map}
+use Rattle.examples.proofs.Concluded.{list_read, none_accepted}
+use Rattle.examples.proofs.headline.within.Goals as goal
+
+pub returns-in_err-map-clause-refused : goal.returns-in_err-map-clause-refused
+returns-in_err-map-clause-refused g c =
+    let p = err_from_is_err_and c.from_residual.result c.from_residual.ensures.1 in
+    rw p.1 (none_accepted c.access.result _ c.in_err-map.was c.access.ensures.all_accepted)
+
+pub returns-clause-within : goal.returns-clause-within
+returns-clause-within g c m is =
+    let list = list_read g.K.Portable.kind g.V.Portable.kind g.row.E g.met.K.Portable.laws g.met.V.Portable.laws c.args.buf.now c.args.pos m is in
+    let run = rw list at (rw (c.in_ok-map.ensures.buffer, c.in_ok-map.ensures.position) at c.range.ensures.run) in
+    let within = rw list at (rw (c.in_ok-map.ensures.buffer, c.in_ok-map.ensures.position) at c.range.ensures.within) in
+    (_, run, c.range.ensures.all, within)

@@ -1,0 +1,292 @@
+//! The headline, phrase by phrase, as a caller concludes it from the contracts of public calls alone.
+ghost use Rattle.std.specs.Iterator.{UpTo};
+ghost use Rattle.std.specs.Option.{option_map};
+ghost use Rattle.std.specs.Prelude.{◌≡◌, List, length, map, IsTrue, IfOk, IfErr, OnErr};
+ghost use Rattle.std.specs.Range.Bound.{bound_map};
+ghost use Rattle.rkyv_btree_base.specs.Layout.{are_fitting};
+ghost use Rattle.rkyv_btree_base.specs.Scalars.{unit_kind};
+ghost use Rattle.rkyv_btree_base.specs.Serialising.{BuildFault, Serialised};
+ghost use Rattle.rkyv_btree_base.specs.Sets.{BuildsSet, entries_by, unit_archival, with_units};
+ghost use Rattle.rkyv_btree_base.specs.TreeArchival.{tree_archival};
+ghost use Rattle.rkyv_btree_base.specs.Archiving.{IsUnserialised, Serialises};
+ghost use Rattle.rkyv_btree_base.specs.Whole.{fresh};
+ghost use Rattle.rkyv_btree.specs.Bounds.{IsRun, IsWithin};
+ghost use Rattle.rkyv_btree.specs.Items.{ShowsAll};
+ghost use Rattle.rkyv_btree.specs.Map.{IsMap};
+ghost use Rattle.rkyv_btree.specs.View.{reads, reads_both};
+ghost use Rattle.rkyv_btree.specs.Visit.{Visited, shown_both};
+ghost use Rattle.examples.specs.Headline.{HasCause, IsArchiveOfItems, IsArchiveOfKeys, IsNoMap, IsSmallestOf, IsLookedUp, IsSealed};
+
+use rkyv_btree::base::archive::{Archive, Serialize};
+use rkyv_btree::base::build::written_maps_are_held;
+use rkyv_btree::base::check::{CheckBytes, InPlace, Portable};
+use rkyv_btree::base::fault::Fault;
+use rkyv_btree::base::map::ArchivedBTreeMap;
+use rkyv_btree::base::place::VecWriter;
+use rkyv_btree::base::refusal::Refusal;
+use rkyv_btree::base::set::ArchivedBTreeSet;
+use rkyv_btree::compare::ViewOrd;
+use rkyv_btree::iter::Iter;
+use rkyv_btree::keys::{Keys, Values};
+use rkyv_btree::map::{ArchivedMap, MapSeal, ShowsEntries, access};
+use rkyv_btree::range::Range;
+use rkyv_btree::set::access as access_set;
+use rkyv_btree::view::{Shows, View};
+use std::alloc::{AllocError, Global};
+use std::collections::{BTreeMap, BTreeSet};
+use std::ops::{Bound, ControlFlow};
+
+/// An archive, and the position of its map.
+#[derive(Drop)]
+pub struct ArchiveAt {
+    pub bytes: Vec<u8>,
+    pub pos: u32,
+}
+
+/// **Serialising refuses only for a named cause that is there. After `Ok` the bytes are accepted and mean the list, and no
+/// accepted map of this `E` with as many entries has fewer nodes, node bytes or levels.** So of the items of an iterator.
+pub fn archived<'x, K, V, KU, VU, I, const E: usize>(
+    alloc: Global,
+    len: usize,
+    iter: I,
+) -> Result<ArchiveAt, Fault<AllocError>>
+where
+    K: CheckBytes,
+    V: CheckBytes,
+    KU: Archive<Archived = K> + Serialize<VecWriter, Global> + 'x,
+    VU: Archive<Archived = V> + Serialize<VecWriter, Global> + 'x,
+    I: Iterator<Item = (&'x KU, &'x VU)>,
+    requires fitting { IsTrue (are_fitting K.kind V.kind E) }
+    requires can { I.can_next iter }
+    requires ends { UpTo (I.remaining iter) 18446744073709551615 }
+    ensures smallest { IfOk result (λ made.
+        IsArchiveOfItems K.kind V.kind E KU.archival VU.archival I.next_gives iter len
+        made.bytes.items made.pos) }
+    ensures refused { IfErr result (HasCause
+        (BuildFault K.kind V.kind E KU.archival VU.archival I.next_gives iter len fresh)
+        (Serialised K.kind V.kind E KU.archival VU.archival I.next_gives iter len fresh) len) }
+{
+    written_maps_are_held();
+    let mut writer = VecWriter::new(alloc);
+    let root = ArchivedBTreeMap::<K, V, E>::serialize_from_ordered_iter(
+        alloc,
+        len,
+        iter,
+        &mut writer,
+    )?;
+    let pos = ArchivedBTreeMap::<K, V, E>::write_root(len, root, &mut writer)?;
+    if access::<K, V, E>(writer.bytes(), pos).is_err() {
+        unreachable!();
+    }
+    Ok(ArchiveAt {
+        bytes: writer.into_vec(),
+        pos,
+    })
+}
+
+/// So of the keys of an iterator, as a set.
+pub fn archived_set<'x, K, KU, I, const E: usize>(
+    alloc: Global,
+    len: usize,
+    iter: I,
+) -> Result<ArchiveAt, Fault<AllocError>>
+where
+    K: CheckBytes,
+    KU: Archive<Archived = K> + Serialize<VecWriter, Global> + 'x,
+    I: Iterator<Item = &'x KU>,
+    requires fitting { IsTrue (are_fitting K.kind unit_kind E) }
+    requires can { I.can_next iter }
+    requires ends { UpTo (I.remaining iter) 18446744073709551615 }
+    ensures smallest { IfOk result (λ made.
+        IsArchiveOfKeys K.kind E KU.archival I.next_gives iter len made.bytes.items made.pos) }
+    ensures refused { IfErr result (HasCause
+        (BuildFault K.kind unit_kind E KU.archival unit_archival (entries_by I.next_gives) iter len fresh)
+        (λ root mid. BuildsSet K.kind E KU.archival I.next_gives iter len (λ w. w) fresh mid root) len) }
+{
+    written_maps_are_held();
+    let mut writer = VecWriter::new(alloc);
+    let root = ArchivedBTreeSet::<K, E>::serialize_from_ordered_iter(
+        alloc,
+        len,
+        iter,
+        &mut writer,
+    )?;
+    let pos = ArchivedBTreeSet::<K, E>::write_root(len, root, &mut writer)?;
+    if access_set::<K, E>(writer.bytes(), pos).is_err() {
+        unreachable!();
+    }
+    Ok(ArchiveAt {
+        bytes: writer.into_vec(),
+        pos,
+    })
+}
+
+/// So of a std map.
+pub fn archived_std_map<KU, VU>(
+    alloc: Global,
+    map: &BTreeMap<KU, VU>,
+) -> Result<ArchiveAt, Fault<AllocError>>
+where
+    KU: Serialize<VecWriter, Global> + Ord,
+    VU: Serialize<VecWriter, Global>,
+    requires { IsTrue (are_fitting KU.Archived.kind VU.Archived.kind 5) }
+    ensures smallest { IfOk result (λ made.
+        IsSmallestOf KU.Archived.kind VU.Archived.kind 5 KU.archival VU.archival map.now.entries
+        made.bytes.items made.pos) }
+    ensures refused { IfErr result (HasCause
+        (IsUnserialised (tree_archival 5 KU.archival VU.archival (λ map. map.entries)) map.now fresh)
+        (λ root mid. Serialises (tree_archival 5 KU.archival VU.archival (λ map. map.entries)) map.now fresh mid root)
+        (length map.now.entries)) }
+{
+    written_maps_are_held();
+    let mut writer = VecWriter::new(alloc);
+    let root = map.serialize(alloc, &mut writer)?;
+    let pos = ArchivedBTreeMap::<KU::Archived, VU::Archived, 5>::write_root(
+        map.len(),
+        root,
+        &mut writer,
+    )?;
+    Ok(ArchiveAt {
+        bytes: writer.into_vec(),
+        pos,
+    })
+}
+
+/// So of a std set.
+pub fn archived_std_set<KU>(
+    alloc: Global,
+    set: &BTreeSet<KU>,
+) -> Result<ArchiveAt, Fault<AllocError>>
+where
+    KU: Serialize<VecWriter, Global> + Ord,
+    requires { IsTrue (are_fitting KU.Archived.kind unit_kind 5) }
+    ensures smallest { IfOk result (λ made.
+        IsSmallestOf KU.Archived.kind unit_kind 5 KU.archival unit_archival (with_units set.now.keys)
+        made.bytes.items made.pos) }
+    ensures refused { IfErr result (HasCause
+        (IsUnserialised (tree_archival 5 KU.archival unit_archival (λ set. with_units set.keys)) set.now fresh)
+        (λ root mid. Serialises (tree_archival 5 KU.archival unit_archival (λ set. with_units set.keys)) set.now fresh mid root)
+        (length set.now.keys)) }
+{
+    written_maps_are_held();
+    let mut writer = VecWriter::new(alloc);
+    let root = set.serialize(alloc, &mut writer)?;
+    let pos = ArchivedBTreeSet::<KU::Archived, 5>::write_root(set.len(), root, &mut writer)?;
+    Ok(ArchiveAt {
+        bytes: writer.into_vec(),
+        pos,
+    })
+}
+
+/// What the walks of a map give.
+#[derive(Drop)]
+pub struct AllWalks<'a, M: ArchivedMap> {
+    pub len: u32,
+    pub entries: Iter<'a, M>,
+    pub keys: Keys<'a, M>,
+    pub values: Values<'a, M>,
+}
+
+/// **On every accepted buffer all walks give one list of `len` entries**, and no other buffer is accepted.
+pub fn walks<'a, K: CheckBytes, V: CheckBytes, const E: usize>(
+    buf: &'a [u8],
+    pos: u32,
+) -> Result<AllWalks<'a, ArchivedBTreeMap<K, V, E>>, Refusal>
+    requires { IsTrue (are_fitting K.kind V.kind E) }
+    ensures accepted { IfOk result (λ walks. (m : _) × IsMap K.kind V.kind E buf.now pos m) }
+    ensures refused { IfErr result (λ refusal. IsNoMap K.kind V.kind E buf.now pos) }
+    ensures len { (m : _) → IsMap K.kind V.kind E buf.now pos m →
+        IfOk result (λ walks. walks.len ≡ length m) }
+    ensures entries { (m : _) → IsMap K.kind V.kind E buf.now pos m → IfOk result (λ walks.
+        ShowsAll ⟦<Iter<'a, ArchivedBTreeMap<K, V, E>> as Iterator>⟧.next_gives reads_both
+        walks.entries m) }
+    ensures keys { (m : _) → IsMap K.kind V.kind E buf.now pos m → IfOk result (λ walks.
+        ShowsAll ⟦<Keys<'a, ArchivedBTreeMap<K, V, E>> as Iterator>⟧.next_gives reads
+        walks.keys (map (λ e. e.0) m)) }
+    ensures values { (m : _) → IsMap K.kind V.kind E buf.now pos m → IfOk result (λ walks.
+        ShowsAll ⟦<Values<'a, ArchivedBTreeMap<K, V, E>> as Iterator>⟧.next_gives reads
+        walks.values (map (λ e. e.1) m)) }
+{
+    let map = access::<K, V, E>(buf, pos)?;
+    Ok(AllWalks {
+        len: map.len(),
+        entries: map.iter(),
+        keys: map.keys(),
+        values: map.values(),
+    })
+}
+
+/// So does a visit: it is called along that list up to the first break, whose value it answers.
+pub fn visited<'a, K, V, M, W, X, T, F>(map: View<'a, M>, visit: F) -> Option<T>
+where
+    K: Portable,
+    V: Portable,
+    M: ArchivedMap<Key = K, Mapped = V> + ShowsEntries,
+    W: Shows<'a, K>,
+    X: Shows<'a, V>,
+    F: FnMut(W, X) -> ControlFlow<T, ()>,
+    requires { F.IsAlwaysCallable visit }
+    ensures { (m : _) → IsMap K.kind V.kind M.E map.entry.buf.now map.entry.pos m →
+        Visited F.step (shown_both K.kind V.kind W.Shows X.Shows) visit m result }
+{
+    map.visit(visit)
+}
+
+/// **A look-up is that list's, under an ordered comparison.**
+pub fn looked_up<'a, K: CheckBytes + ViewOrd, V: CheckBytes, const E: usize>(
+    buf: &'a [u8],
+    pos: u32,
+    key: View<'_, K>,
+) -> Result<Option<(View<'a, K>, View<'a, V>)>, Refusal>
+    requires { IsTrue (are_fitting K.kind V.kind E) }
+    ensures found { (m : _) → IsMap K.kind V.kind E buf.now pos m → IfOk result (λ found.
+        IsLookedUp (K.kind.order (reads key.entry)) m (option_map reads_both found)) }
+    ensures refused { IfErr result (λ refusal. IsNoMap K.kind V.kind E buf.now pos) }
+{
+    let map = access::<K, V, E>(buf, pos)?;
+    Ok(map.get_key_value(key))
+}
+
+/// **A range is that list's, under an ordered comparison.**
+pub fn within<'a, K: CheckBytes + ViewOrd, V: CheckBytes, const E: usize>(
+    buf: &'a [u8],
+    pos: u32,
+    low: Bound<View<'_, K>>,
+    high: Bound<View<'_, K>>,
+) -> Result<Range<'a, ArchivedBTreeMap<K, V, E>>, Refusal>
+    requires { IsTrue (are_fitting K.kind V.kind E) }
+    ensures within { (m : _) → IsMap K.kind V.kind E buf.now pos m → IfOk result (λ range.
+        (given : List (K.kind.Value × V.kind.Value)) × IsRun given m
+        × ShowsAll ⟦<Range<'a, ArchivedBTreeMap<K, V, E>> as Iterator>⟧.next_gives reads_both range given
+        × IsWithin (bound_map (λ q. K.kind.order (reads q)) low.entry)
+        (bound_map (λ q. K.kind.order (reads q)) high.entry) m given) }
+    ensures refused { IfErr result (λ refusal. IsNoMap K.kind V.kind E buf.now pos) }
+{
+    let map = access::<K, V, E>(buf, pos)?;
+    Ok(map.range(low, high))
+}
+
+/// **Writing a seal changes one value alone.** Tells whether there was an entry of the key.
+pub fn sealed<K: CheckBytes + ViewOrd, V: InPlace, const E: usize>(
+    buf: &mut [u8],
+    pos: u32,
+    key: View<'_, K>,
+    value: V::Native,
+) -> Result<bool, Refusal>
+    requires { IsTrue (are_fitting K.kind V.kind E) }
+    ensures one { (m : _) → IsMap K.kind V.kind E buf.old pos m → IfOk result (λ found.
+        IsSealed K.kind V.kind E buf.old pos (K.kind.order (reads key.entry)) (V.in_place.own value) m buf.new found) }
+    ensures refused { IfErr result (λ refusal. IsNoMap K.kind V.kind E buf.old pos) }
+    ensures kept { OnErr result (buf.new ≡ buf.old) }
+{
+    access::<K, V, E>(buf, pos)?;
+    let found = MapSeal::<ArchivedBTreeMap<K, V, E>>::at(buf, pos).find(key);
+    match found {
+        None => Ok(false),
+        Some(place) => {
+            let mut seal = MapSeal::<ArchivedBTreeMap<K, V, E>>::seal_at(buf, pos, place);
+            seal.write(value);
+            Ok(true)
+        }
+    }
+}

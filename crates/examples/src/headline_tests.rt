@@ -1,0 +1,164 @@
+//! The headline's functions, at maps of numbers.
+use crate::headline::{
+    ArchiveAt, archived, archived_set, archived_std_map, archived_std_set, looked_up, sealed,
+    visited, walks, within,
+};
+use rkyv_btree::base::fault::{Fault, IteratorLengthMismatch};
+use rkyv_btree::base::layout;
+use rkyv_btree::base::numbers::ArchivedU32;
+use rkyv_btree::base::refusal::Refusal;
+use rkyv_btree::map::access;
+use rkyv_btree::view::View;
+use std::alloc::{AllocError, Global};
+use std::collections::{BTreeMap, BTreeSet};
+use std::ops::{Bound, ControlFlow};
+use std::process::Abort;
+use std::test::Fail;
+
+const ENTRIES: [(u32, u32); 5] = [(1, 10), (3, 30), (5, 50), (7, 70), (9, 90)];
+
+/// The archive of the entries, two in a node, which are claimed to be so many.
+fn archive(rt: &impl Abort, alloc: Global, claim: usize) -> Result<ArchiveAt, Fault<AllocError>> {
+    assert!(rt; layout::fits::<ArchivedU32, ArchivedU32, 2>());
+    let items = ENTRIES.iter().map(|entry| (&entry.0, &entry.1));
+    archived::<ArchivedU32, ArchivedU32, u32, u32, _, 2>(alloc, claim, items)
+}
+
+// Three nodes of two entries at most: an inner one over two leaves, and of five entries one stands in it.
+#[test]
+fn items_are_archived(rt: HostRuntime) -> Result<(), Fail> {
+    let made = archive(&rt, rt.alloc(), 5)?;
+    assert_eq!(rt; made.pos as usize + 8, made.bytes.len());
+    assert_eq!(rt; made.bytes.len(), 2 * 24 + 32 + 8);
+    let told = match archive(&rt, rt.alloc(), 4) {
+        Err(Fault::Length(IteratorLengthMismatch { expected, actual })) => (expected, actual),
+        _ => (0, 0),
+    };
+    assert_eq!(rt; told, (4, 5));
+    Ok(())
+}
+
+#[test]
+fn keys_are_archived(rt: HostRuntime) -> Result<(), Fail> {
+    assert!(rt; layout::fits::<ArchivedU32, (), 2>());
+    let keys = [1, 3, 5u32];
+    let made = archived_set::<ArchivedU32, u32, _, 2>(rt.alloc(), 3, keys.iter())?;
+    let set = rkyv_btree::set::access::<ArchivedU32, 2>(made.bytes.as_slice(), made.pos)?;
+    assert_eq!(rt; set.len(), 3);
+    Ok(())
+}
+
+#[test]
+fn std_types_are_archived(rt: HostRuntime) -> Result<(), Fail> {
+    let alloc = rt.alloc();
+    assert!(rt; layout::fits::<ArchivedU32, ArchivedU32, 5>());
+    assert!(rt; layout::fits::<ArchivedU32, (), 5>());
+    let map = BTreeMap::from_array(alloc, ENTRIES)?;
+    let mut set: BTreeSet<u32> = BTreeSet::new(alloc);
+    set.insert(7)?;
+    let made = archived_std_map(alloc, &map)?;
+    let given = walks::<ArchivedU32, ArchivedU32, 5>(&made.bytes, made.pos)?;
+    assert_eq!(rt; given.len, 5);
+    let made = archived_std_set(alloc, &set)?;
+    let opened = rkyv_btree::set::access::<ArchivedU32, 5>(made.bytes.as_slice(), made.pos)?;
+    assert_eq!(rt; opened.len(), 1);
+    Ok(())
+}
+
+#[test]
+fn walks_give_the_entries(rt: HostRuntime) -> Result<(), Fail> {
+    let made = archive(&rt, rt.alloc(), 5)?;
+    assert!(rt; layout::fits::<ArchivedU32, ArchivedU32, 2>());
+    let given = walks::<ArchivedU32, ArchivedU32, 2>(&made.bytes, made.pos)?;
+    assert_eq!(rt; given.len, 5);
+    let mut left = ENTRIES.as_slice();
+    let mut keys = given.keys;
+    let mut values = given.values;
+    for (key, value) in given.entries {
+        let (wanted, rest) = left.split_first().ok_or("too many entries")?;
+        assert_eq!(rt; (key.to_native(), value.to_native()), *wanted);
+        assert_eq!(rt; keys.next().map(|key| key.to_native()), Some(wanted.0));
+        assert_eq!(rt;
+            values.next().map(|value| value.to_native()),
+            Some(wanted.1)
+        );
+        left = rest;
+    }
+    assert!(rt; left.is_empty());
+    Ok(())
+}
+
+#[test]
+fn a_visit_ends_at_a_break(rt: HostRuntime) -> Result<(), Fail> {
+    let made = archive(&rt, rt.alloc(), 5)?;
+    assert!(rt; layout::fits::<ArchivedU32, ArchivedU32, 2>());
+    let map = access::<ArchivedU32, ArchivedU32, 2>(&made.bytes, made.pos)?;
+    let broken = visited(map, |key: View<ArchivedU32>, value: View<ArchivedU32>| {
+        if key.to_native() > 4 {
+            ControlFlow::Break(value.to_native())
+        } else {
+            ControlFlow::Continue(())
+        }
+    });
+    assert_eq!(rt; broken, Some(50));
+    Ok(())
+}
+
+#[test]
+fn keys_are_looked_up(rt: HostRuntime) -> Result<(), Fail> {
+    let made = archive(&rt, rt.alloc(), 5)?;
+    assert!(rt; layout::fits::<ArchivedU32, ArchivedU32, 2>());
+    for (key, wanted) in [
+        (0u32, None),
+        (1, Some(10)),
+        (4, None),
+        (9, Some(90)),
+        (10, None),
+    ] {
+        let bytes = key.to_le_bytes();
+        let key = View::<ArchivedU32>::check(&bytes, 0)?;
+        let found = looked_up::<ArchivedU32, ArchivedU32, 2>(&made.bytes, made.pos, key)?;
+        assert_eq!(rt; found.map(|entry| entry.1.to_native()), wanted);
+    }
+    Ok(())
+}
+
+#[test]
+fn ranges_are_within_their_bounds(rt: HostRuntime) -> Result<(), Fail> {
+    let made = archive(&rt, rt.alloc(), 5)?;
+    assert!(rt; layout::fits::<ArchivedU32, ArchivedU32, 2>());
+    let (low, high) = (3u32.to_le_bytes(), 8u32.to_le_bytes());
+    let low = Bound::Included(View::<ArchivedU32>::check(&low, 0)?);
+    let high = Bound::Excluded(View::<ArchivedU32>::check(&high, 0)?);
+    let mut left = &ENTRIES[1..4];
+    for (key, value) in within::<ArchivedU32, ArchivedU32, 2>(&made.bytes, made.pos, low, high)? {
+        let (wanted, rest) = left.split_first().ok_or("too many entries")?;
+        assert_eq!(rt; (key.to_native(), value.to_native()), *wanted);
+        left = rest;
+    }
+    assert!(rt; left.is_empty());
+    Ok(())
+}
+
+#[test]
+fn one_value_is_sealed(rt: HostRuntime) -> Result<(), Fail> {
+    let mut made = archive(&rt, rt.alloc(), 5)?;
+    assert!(rt; layout::fits::<ArchivedU32, ArchivedU32, 2>());
+    let before = made.bytes.clone()?;
+    let key = 5u32.to_le_bytes();
+    let key = View::<ArchivedU32>::check(&key, 0)?;
+    assert!(rt; sealed::<ArchivedU32, ArchivedU32, 2>(&mut made.bytes, made.pos, key, 51)?);
+    let changed = before
+        .iter()
+        .zip(made.bytes.iter())
+        .filter(|pair| pair.0 != pair.1);
+    assert_eq!(rt; changed.count(), 1);
+    let found = looked_up::<ArchivedU32, ArchivedU32, 2>(&made.bytes, made.pos, key)?;
+    assert_eq!(rt; found.map(|entry| entry.1.to_native()), Some(51));
+    let absent = 6u32.to_le_bytes();
+    let absent = View::<ArchivedU32>::check(&absent, 0)?;
+    assert!(rt; !sealed::<ArchivedU32, ArchivedU32, 2>(&mut made.bytes, made.pos, absent, 61)?);
+    let misplaced = sealed::<ArchivedU32, ArchivedU32, 2>(&mut made.bytes, 1, key, 0);
+    assert_eq!(rt; misplaced, Err(Refusal::Misaligned { pos: 1 }));
+    Ok(())
+}
