@@ -37,7 +37,7 @@ module _ {M N R S : Type 0} (K V : Kind) (E : ℕ) (KA : Archival M R) (VA : Arc
 abbrev pub HasCause : {X : Type 0} → (Fault X → Writing → Type 0) → (ℕ → Writing → Type 0) → ℕ → Fault X → Type 0
 HasCause stops builds len fault = (t : Writing) × (stops fault t ⊎ ((root : ℕ) × (mid : Writing) × builds root mid × RootFault root len mid fault t))
 
--- so of the keys of a set
+-- an iterator gave as many keys as claimed and then no more, and this is the archive of the set of them
 pub record IsArchiveOfKeys {M R P : Type 0} (K : Kind) (E : ℕ) (KA : Archival M R) (steps : P → Option (Bor M) → P → Type 0) (iter : P) (claim : ℕ) (bytes : List ℕ) (pos : ℕ) : Type 0 where
   pub keys : List (Bor M)
   pub all : Drains steps iter keys

@@ -1,5 +1,5 @@
 //! The headline, phrase by phrase, as a caller concludes it from the contracts of public calls alone.
-ghost use Rattle.std.specs.Iterator.{UpTo};
+ghost use Rattle.std.specs.Iterator.{IsFinite, UpTo};
 ghost use Rattle.std.specs.Option.{option_map};
 ghost use Rattle.std.specs.Prelude.{◌≡◌, List, length, map, IsTrue, IfOk, IfErr, OnErr};
 ghost use Rattle.std.specs.Range.Bound.{bound_map};
@@ -206,6 +206,10 @@ pub fn walks<'a, K: CheckBytes, V: CheckBytes, const E: usize>(
     ensures values { (m : _) → IsMap K.kind V.kind E buf.now pos m → IfOk result (λ walks.
         ShowsAll ⟦<Values<'a, ArchivedBTreeMap<K, V, E>> as Iterator>⟧.next_gives reads
         walks.values (map (λ e. e.1) m)) }
+    ensures ends { IfOk result (λ walks.
+        IsFinite (⟦<Iter<'a, ArchivedBTreeMap<K, V, E>> as Iterator>⟧.remaining walks.entries)
+        × IsFinite (⟦<Keys<'a, ArchivedBTreeMap<K, V, E>> as Iterator>⟧.remaining walks.keys)
+        × IsFinite (⟦<Values<'a, ArchivedBTreeMap<K, V, E>> as Iterator>⟧.remaining walks.values)) }
 {
     let map = access::<K, V, E>(buf, pos)?;
     Ok(AllWalks {
@@ -260,6 +264,8 @@ pub fn within<'a, K: CheckBytes + ViewOrd, V: CheckBytes, const E: usize>(
         × ShowsAll ⟦<Range<'a, ArchivedBTreeMap<K, V, E>> as Iterator>⟧.next_gives reads_both range given
         × IsWithin (bound_map (λ q. K.kind.order (reads q)) low.entry)
         (bound_map (λ q. K.kind.order (reads q)) high.entry) m given) }
+    ensures ends { IfOk result (λ range.
+        IsFinite (⟦<Range<'a, ArchivedBTreeMap<K, V, E>> as Iterator>⟧.remaining range)) }
     ensures refused { IfErr result (λ refusal. IsNoMap K.kind V.kind E buf.now pos) }
 {
     let map = access::<K, V, E>(buf, pos)?;

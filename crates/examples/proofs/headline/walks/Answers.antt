@@ -28,3 +28,6 @@ pub returns-clause-values : goal.returns-clause-values
 returns-clause-values g c m is items drains =
     let list = list_read g.K.Portable.kind g.V.Portable.kind g.row.E g.met.K.Portable.laws g.met.V.Portable.laws c.args.buf.now c.args.pos m is in
     rw (c.in_ok-map.ensures.buffer, c.in_ok-map.ensures.position) at (c.values.ensures.all items drains) ∙ ap (map (λ e. e.1)) list
+
+pub returns-clause-ends : goal.returns-clause-ends
+returns-clause-ends g c = (c.iter.ensures.ends, c.keys.ensures.ends, c.values.ensures.ends)

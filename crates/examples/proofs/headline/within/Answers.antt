@@ -15,3 +15,6 @@ returns-clause-within g c m is =
     let run = rw list at (rw (c.in_ok-map.ensures.buffer, c.in_ok-map.ensures.position) at c.range.ensures.run) in
     let within = rw list at (rw (c.in_ok-map.ensures.buffer, c.in_ok-map.ensures.position) at c.range.ensures.within) in
     (_, run, c.range.ensures.all, within)
+
+pub returns-clause-ends : goal.returns-clause-ends
+returns-clause-ends g c = c.range.ensures.ends
