@@ -1,12 +1,15 @@
 //! Building archived maps.
-ghost use Rattle.std.specs.Prelude.{◌≡◌, ℕ, ◌+◌, ◌*◌, ◌<◌, ◌≤◌, ◌↔◌, [], length, true, false, vec_capacity, alloc_error, IsOk, OnOk, OnErr, IfOk, IfErr, IsErrOf, IsTrue};
+ghost use Rattle.std.specs.Prelude.{◌≡◌, ℕ, ◌+◌, ◌*◌, ◌<◌, ◌≤◌, ◌↔◌, [], length, map, true, false, vec_capacity, alloc_error, IsOk, OnOk, OnErr, IfOk, IfErr, IsErrOf, IsTrue};
 ghost use Rattle.std.specs.Iterator.{Yields, Drains, IsFinite, UpTo, size};
 ghost use Rattle.rkyv_btree_writer.specs.Archiving.{BeginsWith};
 ghost use Rattle.rkyv_btree_image.specs.Archives.{SerialisedIsAccepted, EmptyIsAccepted, WrittenIsHeld};
 ghost use Rattle.rkyv_btree_image.specs.Alike.{TreesAreDetermined};
+ghost use Rattle.rkyv_btree_image.specs.Entries.{now_of};
+ghost use Rattle.rkyv_btree_image.specs.Written.{ChildWritten, ChildStopped};
 ghost use Rattle.rkyv_btree_image.specs.Image.{root_bytes, root_reaches, root_image};
 ghost use Rattle.rkyv_btree_format.specs.Layout.{layout_of, are_fitting};
 ghost use Rattle.rkyv_btree_shape.specs.Logarithm.{ilog};
+ghost use Rattle.rkyv_btree_shape.specs.Plan.{planned_alone};
 ghost use Rattle.rkyv_btree_portable.specs.Rounding.{round_up};
 ghost use Rattle.rkyv_btree_archive.specs.mirror.Scratch.{IsFree, IsReserved};
 ghost use Rattle.rkyv_btree_image.specs.Kept.{NeverGrows, OnlyAppended};
@@ -121,6 +124,50 @@ where
     })
 }
 
+/// Writes the tree of the items that were taken, and answers where its root node stands; nothing for no items.
+fn write_items<'x, KU, VU, K, V, W, A, const E: usize>(
+    alloc: A,
+    lists: Reserved<'x, KU, VU, A>,
+    writer: &mut W,
+) -> Result<Option<u32>, Fault<W::Error>>
+where
+    KU: Archive<Archived = K> + Serialize<W, A> + 'x,
+    VU: Archive<Archived = V> + Serialize<W, A> + 'x,
+    K: Portable,
+    V: Portable,
+    W: Writer,
+    A: Allocator + Copy,
+    requires fitting { IsTrue (are_fitting K.kind V.kind E) }
+    requires count { length lists.items.items ≤ 4294967295 }
+    requires free { IsFree (layout_of K.kind V.kind E) lists.scratch }
+    requires waiting { IsReserved lists.waiting (E * ilog (E + 1) (length lists.items.items)) }
+    requires children { IsReserved lists.children
+        (E * ilog (E + 1) (length lists.items.items)) }
+    ensures ok { IfOk result (λ root.
+        ChildWritten (layout_of K.kind V.kind E) KU.archival VU.archival (W.state writer.old)
+        (planned_alone E (map now_of lists.entry.items.items)) root (W.state writer.new)) }
+    ensures err { IfErr result (λ fault.
+        ChildStopped (layout_of K.kind V.kind E) KU.archival VU.archival (W.state writer.old)
+        (planned_alone E (map now_of lists.entry.items.items)) fault (W.state writer.new)) }
+    ensures last { OnOk result
+        (0 < length lists.entry.items.items → position (W.state writer.new) ≤ last_end) }
+{
+    let Reserved {
+        mut scratch,
+        mut waiting,
+        mut children,
+        items,
+    } = lists;
+    write_child::<KU, VU, K, V, W, A, E>(
+        alloc,
+        &mut scratch,
+        &mut waiting,
+        &mut children,
+        &items,
+        writer,
+    )
+}
+
 /// Writes the tree of an iterator's items, which are claimed to be `len`, and answers where its root node stands.
 fn build_some<'x, KU, VU, K, V, W, A, I, const E: usize>(
     alloc: A,
@@ -153,29 +200,16 @@ where
     ensures kept { OnErr result (BeginsWith (W.state writer.new) (W.state writer.old)) }
     ensures end { OnOk result (position (W.state writer.new) ≤ last_end) }
 {
-    let Ok(lists) = reserve::<KU, VU, K, V, A, E>(alloc, len) else {
+    let Ok(mut lists) = reserve::<KU, VU, K, V, A, E>(alloc, len) else {
         return Err(Fault::Memory(AllocError));
     };
-    let Reserved {
-        mut scratch,
-        mut waiting,
-        mut children,
-        mut items,
-    } = lists;
-    if !take_items(&mut items, len, &mut iter) {
+    if !take_items(&mut lists.items, len, &mut iter) {
         return Err(Fault::Length(IteratorLengthMismatch {
             expected: len,
-            actual: items.len(),
+            actual: lists.items.len(),
         }));
     }
-    let root = write_child::<KU, VU, K, V, W, A, E>(
-        alloc,
-        &mut scratch,
-        &mut waiting,
-        &mut children,
-        &items,
-        writer,
-    )?;
+    let root = write_items::<KU, VU, K, V, W, A, E>(alloc, lists, writer)?;
     let more = iter.count();
     if more != 0 {
         return Err(Fault::Length(IteratorLengthMismatch {

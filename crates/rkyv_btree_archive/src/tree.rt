@@ -1,12 +1,13 @@
 //! Writing a tree by plain recursion over the sizes of its subtrees.
-ghost use Rattle.std.specs.Prelude.{◌≡◌, ◌+◌, ◌*◌, ◌-◌, ◌^◌, ◌≤◌, ◌<◌, [], ◌∷◌, ◌++◌, length, map, min, vec_len, vec_capacity, OnOk, IfOk, IfErr, OnSome, IfSome, IfNone, IsTrue};
-ghost use Rattle.rkyv_btree_format.specs.Layout.{layout_of, are_fitting};
+ghost use Rattle.std.specs.Prelude.{◌≡◌, ◌+◌, ◌*◌, ◌-◌, ◌^◌, ◌≤◌, ◌<◌, [], ◌∷◌, ◌++◌, length, map, take, drop, min, vec_len, vec_capacity, OnOk, IfOk, IfErr, OnSome, IfSome, IfNone, IsTrue};
+ghost use Rattle.rkyv_btree_format.specs.Layout.{layout_of, are_fitting, inner_size};
 ghost use Rattle.rkyv_btree_shape.specs.Logarithm.{ilog};
 ghost use Rattle.rkyv_btree_shape.specs.Plan.{planned_alone};
 ghost use Rattle.rkyv_btree_archive.specs.mirror.Scratch.{IsFree};
 ghost use Rattle.rkyv_btree_writer.specs.Writing.{position, last_end};
 ghost use Rattle.rkyv_btree_image.specs.Entries.{now_of};
-ghost use Rattle.rkyv_btree_image.specs.Written.{ChildWritten, ChildStopped};
+ghost use Rattle.rkyv_btree_image.specs.Image.{inner_image};
+ghost use Rattle.rkyv_btree_image.specs.Written.{NodeWritten, NodeStopped, ChildWritten, ChildStopped};
 
 use crate::archive::{Archive, Serialize};
 use crate::writes::{Scratch, write_inner, write_leaf};
@@ -52,6 +53,112 @@ fn taken_by_child<const E: usize>(on_last: usize, base: usize) -> usize
     on_last.min(E * base)
 }
 
+/// Writes entries for which a leaf has room, and answers where that stands; nothing for no entries.
+fn write_few<KU, VU, K, V, W, A, const E: usize>(
+    alloc: A,
+    scratch: &mut Scratch<KU::Resolver, VU::Resolver, A>,
+    items: &[(&KU, &VU)],
+    writer: &mut W,
+) -> Result<Option<u32>, Fault<W::Error>>
+where
+    KU: Archive<Archived = K> + Serialize<W, A>,
+    VU: Archive<Archived = V> + Serialize<W, A>,
+    K: Portable,
+    V: Portable,
+    W: Writer,
+    A: Allocator + Copy,
+    requires fitting { IsTrue (are_fitting K.kind V.kind E) }
+    requires few { length items.now ≤ E }
+    requires free { IsFree (layout_of K.kind V.kind E) scratch.old }
+    ensures ok { IfOk result (λ root.
+        ChildWritten (layout_of K.kind V.kind E) KU.archival VU.archival (W.state writer.old)
+        (planned_alone E (map now_of items.now)) root (W.state writer.new)) }
+    ensures err { IfErr result (λ fault.
+        ChildStopped (layout_of K.kind V.kind E) KU.archival VU.archival (W.state writer.old)
+        (planned_alone E (map now_of items.now)) fault (W.state writer.new)) }
+    ensures last { OnOk result (0 < length items.now → position (W.state writer.new) ≤ last_end) }
+    ensures free { OnOk result (IsFree (layout_of K.kind V.kind E) scratch.new) }
+{
+    if items.is_empty() {
+        return Ok(None);
+    }
+    let root = write_leaf::<KU, VU, K, V, W, A, E>(alloc, scratch, items, writer)?;
+    Ok(Some(root))
+}
+
+/// Lets an entry wait for its node, behind a child of that.
+fn wait<T: Drop, A: Allocator>(
+    waiting: &mut Vec<T, A>,
+    children: &mut Vec<Option<u32>, A>,
+    child: Option<u32>,
+    entry: T,
+)
+    requires waiting_room { vec_len waiting.old < vec_capacity waiting.old }
+    requires child_room { vec_len children.old < vec_capacity children.old }
+    ensures waiting { waiting.new.items ≡ waiting.old.items ++ entry ∷ [] }
+    ensures children { children.new.items ≡ children.old.items ++ child ∷ [] }
+    ensures room { (vec_capacity waiting.old ≤ vec_capacity waiting.new)
+        × (vec_capacity children.old ≤ vec_capacity children.new) }
+{
+    push(children, child);
+    push(waiting, entry);
+}
+
+/// Writes the inner node of the entries and children that have waited from these numbers on, over its last child too, and
+/// answers its position. None of them waits any longer.
+fn write_above<'x, KU, VU, K, V, W, A, const E: usize>(
+    alloc: A,
+    scratch: &mut Scratch<KU::Resolver, VU::Resolver, A>,
+    waiting: &mut Vec<(&'x KU, &'x VU), A>,
+    children: &mut Vec<Option<u32>, A>,
+    first: usize,
+    first_child: usize,
+    last: Option<u32>,
+    writer: &mut W,
+) -> Result<u32, Fault<W::Error>>
+where
+    KU: Archive<Archived = K> + Serialize<W, A> + 'x,
+    VU: Archive<Archived = V> + Serialize<W, A> + 'x,
+    K: Portable,
+    V: Portable,
+    W: Writer,
+    A: Allocator + Copy,
+    requires fitting { IsTrue (are_fitting K.kind V.kind E) }
+    requires waiting { length waiting.old.items ≡ first + E }
+    requires children { length children.old.items ≡ first_child + E }
+    requires free { IsFree (layout_of K.kind V.kind E) scratch.old }
+    ensures ok { IfOk result (λ root.
+        NodeWritten (layout_of K.kind V.kind E) KU.archival VU.archival
+        (λ at owns. inner_image (layout_of K.kind V.kind E) at owns
+        (drop first_child children.old.items ++ last ∷ []))
+        (inner_size (layout_of K.kind V.kind E)) (W.state writer.old)
+        (map now_of (drop first waiting.old.items)) root (W.state writer.new)) }
+    ensures err { IfErr result (λ fault.
+        NodeStopped (layout_of K.kind V.kind E) KU.archival VU.archival
+        (λ at owns. inner_image (layout_of K.kind V.kind E) at owns
+        (drop first_child children.old.items ++ last ∷ []))
+        (inner_size (layout_of K.kind V.kind E)) (W.state writer.old)
+        (map now_of (drop first waiting.old.items)) fault (W.state writer.new)) }
+    ensures last { OnOk result (position (W.state writer.new) ≤ last_end) }
+    ensures free { OnOk result (IsFree (layout_of K.kind V.kind E) scratch.new) }
+    ensures kept { OnOk result ((waiting.new.items ≡ take first waiting.old.items)
+        × (children.new.items ≡ take first_child children.old.items)) }
+    ensures room { (vec_capacity waiting.old ≤ vec_capacity waiting.new)
+        × (vec_capacity children.old ≤ vec_capacity children.new) }
+{
+    let root = write_inner::<KU, VU, K, V, W, A, E>(
+        alloc,
+        scratch,
+        &waiting[first..],
+        &children[first_child..],
+        last,
+        writer,
+    )?;
+    waiting.truncate(first);
+    children.truncate(first_child);
+    Ok(root)
+}
+
 /// Writes the tree of these entries with what they write, and answers where its root node stands; nothing for no
 /// entries. `waiting` and `children` have room for what waits on each level until a node's children are written.
 pub(crate) fn write_child<'x, KU, VU, K, V, W, A, const E: usize>(
@@ -89,12 +196,8 @@ where
     ensures room { (vec_capacity waiting.old ≤ vec_capacity waiting.new)
         × (vec_capacity children.old ≤ vec_capacity children.new) }
 {
-    if items.is_empty() {
-        return Ok(None);
-    }
     let Some(base) = inner_base::<E>(items.len()) else {
-        let root = write_leaf::<KU, VU, K, V, W, A, E>(alloc, scratch, items, writer)?;
-        return Ok(Some(root));
+        return write_few::<KU, VU, K, V, W, A, E>(alloc, scratch, items, writer);
     };
     let first = waiting.len();
     let first_child = children.len();
@@ -114,8 +217,7 @@ where
             &items[start..end],
             writer,
         )?;
-        push(children, child);
-        push(waiting, items[end]);
+        wait(waiting, children, child, items[end]);
         start = end + 1;
         on_last -= taken;
         left -= 1;
@@ -128,15 +230,15 @@ where
         &items[start..],
         writer,
     )?;
-    let root = write_inner::<KU, VU, K, V, W, A, E>(
+    let root = write_above::<KU, VU, K, V, W, A, E>(
         alloc,
         scratch,
-        &waiting[first..],
-        &children[first_child..],
+        waiting,
+        children,
+        first,
+        first_child,
         last,
         writer,
     )?;
-    waiting.truncate(first);
-    children.truncate(first_child);
     Ok(Some(root))
 }

@@ -1,7 +1,6 @@
-use Rattle.std.proofs.Common.{◌≡◌, ◌∙◌, length, map, sym, subst, ap, arith}
+use Rattle.std.proofs.Common.{◌≡◌, length, map, arith}
 use Rattle.std.proofs.lemmas.List.{length-map}
 use Rattle.std.proofs.lemmas.Result.{err_from_is_err_and}
-use Rattle.std.specs.Iterator.{Yields}
 use Rattle.rkyv_btree_format.specs.Layout.{layout_of}
 use Rattle.rkyv_btree_image.specs.Serialising.{meaning_of, Built}
 use Rattle.rkyv_btree_image.specs.Entries.{now_of}
@@ -21,9 +20,9 @@ returns-in_err-root-clause-err g c =
     let steps = g.I.Iterator.next_gives in
     let took = c.if-not-take_items.false in
     let p = err_from_is_err_and c.from_residual.result c.from_residual.ensures.1 in
-    rw (p.1, p.2) (refused_of g.K.Portable.kind g.V.Portable.kind g.row.E g.KU.Archive.archival g.VU.Archive.archival steps c.args.iter c.args.len _ c.in_err-root.field-0.0 _ c.deref.result.now c.take_items.new.iter
-    (subst (λ zs. Yields steps c.args.iter zs c.take_items.new.iter) (sym c.deref.ensures.value) (c.take_items.ensures.all took))
-    (ap length c.deref.ensures.value ∙ c.take_items.ensures.len took)
+    rw (p.1, p.2) (refused_of g.K.Portable.kind g.V.Portable.kind g.row.E g.KU.Archive.archival g.VU.Archive.archival steps c.args.iter c.args.len _ c.in_err-root.field-0.0 _ c.take_items.new.items.items c.take_items.new.iter
+    (c.take_items.ensures.all took)
+    (c.take_items.ensures.len took)
     c.in_err-root.ensures.err)
 
 pub returns-then-more-ne0-clause-err : goal.returns-then-more-ne0-clause-err
@@ -31,10 +30,10 @@ returns-then-more-ne0-clause-err g c =
     let steps = g.I.Iterator.next_gives in
     let took = c.if-not-take_items.false in
     let ran = c.count-more.ensures.ran in
-    miscounted_of g.K.Portable.kind g.V.Portable.kind g.row.E g.KU.Archive.archival g.VU.Archive.archival steps c.args.iter c.args.len c.count-more.result _ _ c.deref.result.now c.take_items.new.iter ran.0 c.in_ok-root.root
-    (subst (λ zs. Yields steps c.args.iter zs c.take_items.new.iter) (sym c.deref.ensures.value) (c.take_items.ensures.all took))
+    miscounted_of g.K.Portable.kind g.V.Portable.kind g.row.E g.KU.Archive.archival g.VU.Archive.archival steps c.args.iter c.args.len c.count-more.result _ _ c.take_items.new.items.items c.take_items.new.iter ran.0 c.in_ok-root.root
+    (c.take_items.ensures.all took)
     ran.1 ran.2 c.if-more-ne0.true
-    (ap length c.deref.ensures.value ∙ c.take_items.ensures.len took)
+    (c.take_items.ensures.len took)
     c.in_ok-root.ensures.ok
 
 pub returns-clause-ok : goal.returns-clause-ok
@@ -43,12 +42,12 @@ returns-clause-ok g c =
     let V = g.V.Portable.kind in
     let E = g.row.E in
     let from = g.W.Writer.state c.args.writer.now in
-    let to = g.W.Writer.state c.write_child.new.writer in
+    let to = g.W.Writer.state c.write_items.new.writer in
     let steps = g.I.Iterator.next_gives in
     let took = c.if-not-take_items.false in
     let ran = c.count-more.ensures.ran in
-    let items = c.deref.result.now in
-    let count : length items ≡ c.args.len = ap length c.deref.ensures.value ∙ c.take_items.ensures.len took in
+    let items = c.take_items.new.items.items in
+    let count : length items ≡ c.args.len = c.take_items.ensures.len took in
     let n = length-map items (now_of {M = g.row.KU.Denot} {N = g.row.VU.Denot}) in
     let wrote = c.in_ok-root.ensures in
     let built : Built (layout_of K V E) g.KU.Archive.archival g.VU.Archive.archival from (map now_of items) c.unwrap_or.result to = record {
@@ -60,7 +59,7 @@ returns-clause-ok g c =
     record {
       items = items;
       all = drained steps c.args.iter items c.take_items.new.iter ran.0 c.count-more.result
-          (subst (λ zs. Yields steps c.args.iter zs c.take_items.new.iter) (sym c.deref.ensures.value) (c.take_items.ensures.all took)) ran.1 ran.2 c.if-more-ne0.false;
+          (c.take_items.ensures.all took) ran.1 ran.2 c.if-more-ne0.false;
       count = count;
       built = built;
       spelled = λ some key value. spelled_of K V E g.met.K.Portable.laws g.met.V.Portable.laws c.requires.fitting g.KU.Archive.archival g.VU.Archive.archival key value g.met.KU.Archive.archived g.met.VU.Archive.archived from (map now_of items) (map (meaning_of K V g.KU.Archive.archival g.VU.Archive.archival key value) items) c.unwrap_or.result to
@@ -71,17 +70,17 @@ returns-clause-ok g c =
 pub returns-in_err-root-clause-kept : goal.returns-in_err-root-clause-kept
 returns-in_err-root-clause-kept g c =
     let p = err_from_is_err_and c.from_residual.result c.from_residual.ensures.1 in
-    rw p.1 (stops_begin (layout_of g.K.Portable.kind g.V.Portable.kind g.row.E) g.KU.Archive.archival g.VU.Archive.archival (g.W.Writer.state c.args.writer.now) (planned_alone g.row.E (map now_of c.deref.result.now)) c.in_err-root.field-0.0 (g.W.Writer.state c.write_child.new.writer) c.in_err-root.ensures.err)
+    rw p.1 (stops_begin (layout_of g.K.Portable.kind g.V.Portable.kind g.row.E) g.KU.Archive.archival g.VU.Archive.archival (g.W.Writer.state c.args.writer.now) (planned_alone g.row.E (map now_of c.take_items.new.items.items)) c.in_err-root.field-0.0 (g.W.Writer.state c.write_items.new.writer) c.in_err-root.ensures.err)
 
 pub returns-then-more-ne0-clause-kept : goal.returns-then-more-ne0-clause-kept
 returns-then-more-ne0-clause-kept g c =
-    child_begins (layout_of g.K.Portable.kind g.V.Portable.kind g.row.E) g.KU.Archive.archival g.VU.Archive.archival (g.W.Writer.state c.args.writer.now) (planned_alone g.row.E (map now_of c.deref.result.now)) c.in_ok-root.root (g.W.Writer.state c.write_child.new.writer) c.in_ok-root.ensures.ok
+    child_begins (layout_of g.K.Portable.kind g.V.Portable.kind g.row.E) g.KU.Archive.archival g.VU.Archive.archival (g.W.Writer.state c.args.writer.now) (planned_alone g.row.E (map now_of c.take_items.new.items.items)) c.in_ok-root.root (g.W.Writer.state c.write_items.new.writer) c.in_ok-root.ensures.ok
 
 pub returns-clause-went : goal.returns-clause-went
 returns-clause-went g c =
-    child_went (layout_of g.K.Portable.kind g.V.Portable.kind g.row.E) g.KU.Archive.archival g.VU.Archive.archival (g.W.Writer.state c.args.writer.now) (planned_alone g.row.E (map now_of c.deref.result.now)) c.in_ok-root.root (g.W.Writer.state c.write_child.new.writer) c.in_ok-root.ensures.ok
+    child_went (layout_of g.K.Portable.kind g.V.Portable.kind g.row.E) g.KU.Archive.archival g.VU.Archive.archival (g.W.Writer.state c.args.writer.now) (planned_alone g.row.E (map now_of c.take_items.new.items.items)) c.in_ok-root.root (g.W.Writer.state c.write_items.new.writer) c.in_ok-root.ensures.ok
 
 pub returns-in_err-root-clause-memory : goal.returns-in_err-root-clause-memory
 returns-in_err-root-clause-memory g c =
     let p = err_from_is_err_and c.from_residual.result c.from_residual.ensures.1 in
-    λ keys values memory. unasked g.row.W-Error.Denot (layout_of g.K.Portable.kind g.V.Portable.kind g.row.E) g.KU.Archive.archival g.VU.Archive.archival (g.W.Writer.state c.args.writer.now) (planned_alone g.row.E (map now_of c.deref.result.now)) (g.W.Writer.state c.write_child.new.writer) c.in_err-root.field-0.0 (cc (p.1, p.2, memory)) keys values c.in_err-root.ensures.err
+    λ keys values memory. unasked g.row.W-Error.Denot (layout_of g.K.Portable.kind g.V.Portable.kind g.row.E) g.KU.Archive.archival g.VU.Archive.archival (g.W.Writer.state c.args.writer.now) (planned_alone g.row.E (map now_of c.take_items.new.items.items)) (g.W.Writer.state c.write_items.new.writer) c.in_err-root.field-0.0 (cc (p.1, p.2, memory)) keys values c.in_err-root.ensures.err

@@ -1,5 +1,5 @@
-use Rattle.std.proofs.Common.{◌≡◌, ◌+◌, ◌*◌, ◌-◌, ◌≤◌, ◌<◌, ◌∙◌, [], ◌∷◌, ◌++◌, length, map, drop, take, arith, Some, ap, sym, subst, refl}
-use Rattle.std.proofs.lemmas.List.{length-take, length-drop, map_push, take_rest}
+use Rattle.std.proofs.Common.{◌≡◌, ◌+◌, ◌*◌, ◌-◌, ◌≤◌, ◌<◌, ◌∙◌, [], ◌∷◌, ◌++◌, length, map, drop, take, arith, Some, ap, sym, subst}
+use Rattle.std.proofs.lemmas.List.{length-take, length-drop, map_push}
 use Rattle.std.proofs.lemmas.Result.{err_from_is_err_and}
 use mathlib.Core.List.{not-mem-nil}
 use Rattle.rkyv_btree_format.specs.Layout.{layout_of}
@@ -7,8 +7,8 @@ use Rattle.rkyv_btree_shape.specs.Plan.{planned_alone}
 use Rattle.rkyv_btree_image.specs.Entries.{now_of}
 use Rattle.rkyv_btree_image.specs.Written.{ChildWritten, ChildStopped}
 use Rattle.rkyv_btree_format.proofs.Sizes.{room_of}
-use Rattle.rkyv_btree_shape.proofs.Alone.{alone_leaf, alone_inner, waiting}
-use Rattle.rkyv_btree_shape.proofs.Rows.{turn-inside, turn-rest, drop-push, take-push, length-pushed, not-empty, child_small, less_on_last, some_item, last_rest, last_fits}
+use Rattle.rkyv_btree_shape.proofs.Alone.{alone_inner, waiting}
+use Rattle.rkyv_btree_shape.proofs.Rows.{turn-inside, turn-rest, drop-push, take-push, length-pushed, child_small, less_on_last, some_item, last_rest, last_fits}
 use Rattle.rkyv_btree_image.proofs.RowsWritten.{row-more, row-stopped, last-stopped, inner-stopped, inner-written, turn-so-far, last-so-far, so-far-as}
 use Rattle.rkyv_btree_archive.proofs.tree.+write_child.Goals as goal
 
@@ -21,30 +21,6 @@ pub inner_base-requires-clause-small : goal.inner_base-requires-clause-small
 inner_base-requires-clause-small g t c =
     let room = room_of _ _ g.row.E g.met.K.Portable.laws g.met.V.Portable.laws c.requires.fitting in
     room.entries
-
-pub returns-in_err-root-clause-err : goal.returns-in_err-root-clause-err
-returns-in_err-root-clause-err g t c =
-    let s = g.W.Writer.state c.args.writer.now in
-    let E = g.row.E in
-    let nodes = layout_of g.K.Portable.kind g.V.Portable.kind E in
-    let own = now_of {M = g.row.KU.Denot} {N = g.row.VU.Denot} in
-    let items = c.args.items.now in
-    let room = room_of _ _ g.row.E g.met.K.Portable.laws g.met.V.Portable.laws c.requires.fitting in
-    let leaf_is = alone_leaf E own items room.some (not-empty (length items) c.if-is_empty.ensures) c.in_default.ensures.leaf in
-    let p = err_from_is_err_and c.from_residual.result c.from_residual.ensures.1 in
-    rw (p.1, p.2) (subst (λ z. ChildStopped nodes g.KU.Archive.archival g.VU.Archive.archival s z c.in_err-root.field-0.0 (g.W.Writer.state c.write_leaf.new.writer)) (sym leaf_is) c.in_err-root.ensures.err)
-
-pub returns-in_default-clause-ok : goal.returns-in_default-clause-ok
-returns-in_default-clause-ok g t c =
-    let s = g.W.Writer.state c.args.writer.now in
-    let E = g.row.E in
-    let nodes = layout_of g.K.Portable.kind g.V.Portable.kind E in
-    let own = now_of {M = g.row.KU.Denot} {N = g.row.VU.Denot} in
-    let items = c.args.items.now in
-    let room = room_of _ _ g.row.E g.met.K.Portable.laws g.met.V.Portable.laws c.requires.fitting in
-    let leaf_is = alone_leaf E own items room.some (not-empty (length items) c.if-is_empty.ensures) c.in_default.ensures.leaf in
-    subst (λ z. ChildWritten nodes g.KU.Archive.archival g.VU.Archive.archival s z (Some c.in_ok-root.root) (g.W.Writer.state c.write_leaf.new.writer)) (sym leaf_is)
-    (c.in_ok-root.root, c.in_ok-root.ensures.ok, refl)
 
 pub returns-in_err-child-clause-err : goal.returns-in_err-child-clause-err
 returns-in_err-child-clause-err g t c =
@@ -64,7 +40,7 @@ returns-in_err-child-clause-err g t c =
     let few : took ≤ c.loop-left.on_last = omega (arith, c.taken_by_child-taken.ensures) in
     let inside : end < length items = turn-inside (length items) start c.loop-left.left base c.loop-left.on_last took before.rest c.loop-left-test.true c.in-Some.ensures.positive few in
     let size_is : size ≡ (base - 1) + took = omega arith in
-    let p = err_from_is_err_and c.from_residual-in_err-child.result c.from_residual-in_err-child.ensures.1 in
+    let p = err_from_is_err_and c.from_residual.result c.from_residual.ensures.1 in
     rw (p.1, p.2) (subst (λ z. ChildStopped nodes g.KU.Archive.archival g.VU.Archive.archival s z c.in_err-child.field-0.0 (g.W.Writer.state c.write_child.new.writer)) (sym inner_is)
     (row-stopped nodes g.KU.Archive.archival g.VU.Archive.archival
     (turn-so-far nodes g.KU.Archive.archival g.VU.Archive.archival own (planned_alone E) base (E * base) c.loop-left.on_last c.loop-left.left start size took end items (some_item items (omega arith)) c.loop-left-test.true c.taken_by_child-taken.ensures size_is (omega arith) inside before.row)
@@ -87,27 +63,27 @@ loop-left-preserved g t c =
     let size_is : size ≡ (base - 1) + took = omega arith in
     let waiting_low : c.len-first.result ≤ length c.loop-left.waiting.items = omega (arith, before.waiting_count, before.left) in
     let children_low : c.len-first_child.result ≤ length c.loop-left.children.items = omega (arith, before.child_count, before.left) in
-    let waiting_more : length c.push-in-loop-left.new.values.items ≡ length c.loop-left.waiting.items + 1 = length-pushed c.loop-left.waiting.items _ _ _ c.in_ok-child.ensures.kept.0 c.push-in-loop-left.ensures.items in
-    let children_more : length c.push.new.values.items ≡ length c.loop-left.children.items + 1 = length-pushed c.loop-left.children.items _ _ _ c.in_ok-child.ensures.kept.1 c.push.ensures.items in
+    let waiting_more : length c.wait.new.waiting.items ≡ length c.loop-left.waiting.items + 1 = length-pushed c.loop-left.waiting.items _ _ _ c.in_ok-child.ensures.kept.0 c.wait.ensures.waiting in
+    let children_more : length c.wait.new.children.items ≡ length c.loop-left.children.items + 1 = length-pushed c.loop-left.children.items _ _ _ c.in_ok-child.ensures.kept.1 c.wait.ensures.children in
     record {
       row =
           let more = row-more nodes g.KU.Archive.archival g.VU.Archive.archival c.in_ok-child.child
           (turn-so-far nodes g.KU.Archive.archival g.VU.Archive.archival own (planned_alone E) base (E * base) c.loop-left.on_last c.loop-left.left start size took end items _ c.loop-left-test.true c.taken_by_child-taken.ensures size_is (omega arith) inside before.row)
           c.in_ok-child.ensures.ok in
           so-far-as nodes g.KU.Archive.archival g.VU.Archive.archival more
-          (ap (map own) (drop-push c.len-first.result c.loop-left.waiting.items c.push-in-loop-left.new.values.items _ _ waiting_low c.in_ok-child.ensures.kept.0 c.push-in-loop-left.ensures.items) ∙ map_push own _ _ ∙ ap (λ x. map own (drop c.len-first.result c.loop-left.waiting.items) ++ own x ∷ []) c.index-items-end.is)
-          (drop-push c.len-first_child.result c.loop-left.children.items c.push.new.values.items _ _ children_low c.in_ok-child.ensures.kept.1 c.push.ensures.items);
+          (ap (map own) (drop-push c.len-first.result c.loop-left.waiting.items c.wait.new.waiting.items _ _ waiting_low c.in_ok-child.ensures.kept.0 c.wait.ensures.waiting) ∙ map_push own _ _ ∙ ap (λ x. map own (drop c.len-first.result c.loop-left.waiting.items) ++ own x ∷ []) c.index-items-end.is)
+          (drop-push c.len-first_child.result c.loop-left.children.items c.wait.new.children.items _ _ children_low c.in_ok-child.ensures.kept.1 c.wait.ensures.children);
       left = omega arith;
       rest = turn-rest (length items) start c.loop-left.left base c.loop-left.on_last took before.rest c.loop-left-test.true c.in-Some.ensures.positive few;
       on_last = less_on_last c.loop-left.left c.loop-left.on_last (E * base) took c.taken_by_child-taken.ensures c.loop-left-test.true before.on_last;
       passed = omega (arith, before.passed, c.loop-left-test.true);
-      waiting = take-push c.len-first.result c.loop-left.waiting.items c.push-in-loop-left.new.values.items _ _ _ waiting_low c.in_ok-child.ensures.kept.0 c.push-in-loop-left.ensures.items before.waiting;
-      children = take-push c.len-first_child.result c.loop-left.children.items c.push.new.values.items _ _ _ children_low c.in_ok-child.ensures.kept.1 c.push.ensures.items before.children;
+      waiting = take-push c.len-first.result c.loop-left.waiting.items c.wait.new.waiting.items _ _ _ waiting_low c.in_ok-child.ensures.kept.0 c.wait.ensures.waiting before.waiting;
+      children = take-push c.len-first_child.result c.loop-left.children.items c.wait.new.children.items _ _ _ children_low c.in_ok-child.ensures.kept.1 c.wait.ensures.children before.children;
       waiting_count = omega (arith, waiting_more, before.waiting_count);
       child_count = omega (arith, children_more, before.child_count);
       free = c.in_ok-child.ensures.free;
-      waiting_room = omega (arith, before.waiting_room, c.in_ok-child.ensures.room.0, c.push-in-loop-left.ensures.capacity);
-      child_room = omega (arith, before.child_room, c.in_ok-child.ensures.room.1, c.push.ensures.capacity);
+      waiting_room = omega (arith, before.waiting_room, c.in_ok-child.ensures.room.0, c.wait.ensures.room.0);
+      child_room = omega (arith, before.child_room, c.in_ok-child.ensures.room.1, c.wait.ensures.room.1);
     }
 
 pub returns-in_err-last-clause-err : goal.returns-in_err-last-clause-err
@@ -127,8 +103,8 @@ returns-in_err-last-clause-err g t c =
     rw (p.1, p.2) (subst (λ z. ChildStopped nodes g.KU.Archive.archival g.VU.Archive.archival s z c.in_err-last.field-0.0 (g.W.Writer.state c.write_child-2.new.writer)) (sym inner_is)
     (last-stopped nodes g.KU.Archive.archival g.VU.Archive.archival so_far c.in_err-last.ensures.err))
 
-pub returns-in_err-root-2-clause-err : goal.returns-in_err-root-2-clause-err
-returns-in_err-root-2-clause-err g t c =
+pub returns-in_err-root-clause-err : goal.returns-in_err-root-clause-err
+returns-in_err-root-clause-err g t c =
     let s = g.W.Writer.state c.args.writer.now in
     let E = g.row.E in
     let nodes = layout_of g.K.Portable.kind g.V.Portable.kind E in
@@ -141,11 +117,10 @@ returns-in_err-root-2-clause-err g t c =
     let inner_is = alone_inner E base own items room.some c.in-Some.ensures.more c.in-Some.ensures.value in
     let so_far = last-so-far nodes g.KU.Archive.archival g.VU.Archive.archival own (planned_alone E) base (E * base) c.loop-left.on_last c.loop-left.left start items c.loop-left-test.false before.row in
     let here = so-far-as nodes g.KU.Archive.archival g.VU.Archive.archival so_far
-    (ap (map own) (take_rest c.deref.result.now c.len-first.result ∙ ap (drop c.len-first.result) (c.deref.ensures.value ∙ c.in_ok-last.ensures.kept.0)))
-    (take_rest c.deref-2.result.now c.len-first_child.result ∙ ap (drop c.len-first_child.result) (c.deref-2.ensures.value ∙ c.in_ok-last.ensures.kept.1)) in
-    let p = err_from_is_err_and c.from_residual-in_err-root-2.result c.from_residual-in_err-root-2.ensures.1 in
-    rw (p.1, p.2) (subst (λ z. ChildStopped nodes g.KU.Archive.archival g.VU.Archive.archival s z c.in_err-root-2.field-0.0 (g.W.Writer.state c.write_inner.new.writer)) (sym inner_is)
-    (inner-stopped nodes g.KU.Archive.archival g.VU.Archive.archival c.in_ok-last.last here c.in_ok-last.ensures.ok c.in_err-root-2.ensures.err))
+    (ap (λ xs. map own (drop c.len-first.result xs)) c.in_ok-last.ensures.kept.0) (ap (drop c.len-first_child.result) c.in_ok-last.ensures.kept.1) in
+    let p = err_from_is_err_and c.from_residual-in_err-root.result c.from_residual-in_err-root.ensures.1 in
+    rw (p.1, p.2) (subst (λ z. ChildStopped nodes g.KU.Archive.archival g.VU.Archive.archival s z c.in_err-root.field-0.0 (g.W.Writer.state c.write_above.new.writer)) (sym inner_is)
+    (inner-stopped nodes g.KU.Archive.archival g.VU.Archive.archival c.in_ok-last.last here c.in_ok-last.ensures.ok c.in_err-root.ensures.err))
 
 pub returns-clause-ok : goal.returns-clause-ok
 returns-clause-ok g t c =
@@ -161,13 +136,12 @@ returns-clause-ok g t c =
     let inner_is = alone_inner E base own items room.some c.in-Some.ensures.more c.in-Some.ensures.value in
     let so_far = last-so-far nodes g.KU.Archive.archival g.VU.Archive.archival own (planned_alone E) base (E * base) c.loop-left.on_last c.loop-left.left start items c.loop-left-test.false before.row in
     let here = so-far-as nodes g.KU.Archive.archival g.VU.Archive.archival so_far
-    (ap (map own) (take_rest c.deref.result.now c.len-first.result ∙ ap (drop c.len-first.result) (c.deref.ensures.value ∙ c.in_ok-last.ensures.kept.0)))
-    (take_rest c.deref-2.result.now c.len-first_child.result ∙ ap (drop c.len-first_child.result) (c.deref-2.ensures.value ∙ c.in_ok-last.ensures.kept.1)) in
-    subst (λ z. ChildWritten nodes g.KU.Archive.archival g.VU.Archive.archival s z (Some c.in_ok-root-2.root) (g.W.Writer.state c.write_inner.new.writer)) (sym inner_is)
-    (inner-written nodes g.KU.Archive.archival g.VU.Archive.archival c.in_ok-last.last c.in_ok-root-2.root here c.in_ok-last.ensures.ok c.in_ok-root-2.ensures.ok)
+    (ap (λ xs. map own (drop c.len-first.result xs)) c.in_ok-last.ensures.kept.0) (ap (drop c.len-first_child.result) c.in_ok-last.ensures.kept.1) in
+    subst (λ z. ChildWritten nodes g.KU.Archive.archival g.VU.Archive.archival s z (Some c.in_ok-root.root) (g.W.Writer.state c.write_above.new.writer)) (sym inner_is)
+    (inner-written nodes g.KU.Archive.archival g.VU.Archive.archival c.in_ok-last.last c.in_ok-root.root here c.in_ok-last.ensures.ok c.in_ok-root.ensures.ok)
 
-pub push-requires : goal.push-requires
-push-requires g t c =
+pub wait-requires-clause-child_room : goal.wait-requires-clause-child_room
+wait-requires-clause-child_room g t c =
     let E = g.row.E in
     let items = c.args.items.now in
     let room = room_of _ _ g.row.E g.met.K.Portable.laws g.met.V.Portable.laws c.requires.fitting in
@@ -193,8 +167,8 @@ bounds-items-end g t c =
     let inside : end < length items = turn-inside (length items) start c.loop-left.left base c.loop-left.on_last took before.rest c.loop-left-test.true c.in-Some.ensures.positive few in
     inside
 
-pub push-requires-in-loop-left : goal.push-requires-in-loop-left
-push-requires-in-loop-left g t c =
+pub wait-requires-clause-waiting_room : goal.wait-requires-clause-waiting_room
+wait-requires-clause-waiting_room g t c =
     let E = g.row.E in
     let items = c.args.items.now in
     let room = room_of _ _ g.row.E g.met.K.Portable.laws g.met.V.Portable.laws c.requires.fitting in

@@ -1,0 +1,25 @@
+use Rattle.std.proofs.Common.{length, Some, sym, subst, refl}
+use Rattle.std.proofs.lemmas.Result.{err_from_is_err_and}
+use Rattle.rkyv_btree_format.specs.Layout.{layout_of}
+use Rattle.rkyv_btree_image.specs.Entries.{now_of}
+use Rattle.rkyv_btree_image.specs.Written.{ChildWritten, ChildStopped}
+use Rattle.rkyv_btree_format.proofs.Sizes.{room_of}
+use Rattle.rkyv_btree_shape.proofs.Alone.{alone_leaf}
+use Rattle.rkyv_btree_shape.proofs.Rows.{not-empty}
+use Rattle.rkyv_btree_archive.proofs.tree.write_few.Goals as goal
+
+pub returns-in_err-root-clause-err : goal.returns-in_err-root-clause-err
+returns-in_err-root-clause-err g c =
+    let items = c.args.items.now in
+    let room = room_of _ _ g.row.E g.met.K.Portable.laws g.met.V.Portable.laws c.requires.fitting in
+    let leaf_is = alone_leaf g.row.E (now_of {M = g.row.KU.Denot} {N = g.row.VU.Denot}) items room.some (not-empty (length items) c.if-is_empty.ensures) c.requires.few in
+    let p = err_from_is_err_and c.from_residual.result c.from_residual.ensures.1 in
+    rw (p.1, p.2) (subst (λ z. ChildStopped (layout_of g.K.Portable.kind g.V.Portable.kind g.row.E) g.KU.Archive.archival g.VU.Archive.archival (g.W.Writer.state c.args.writer.now) z c.in_err-root.field-0.0 (g.W.Writer.state c.write_leaf.new.writer)) (sym leaf_is) c.in_err-root.ensures.err)
+
+pub returns-clause-ok : goal.returns-clause-ok
+returns-clause-ok g c =
+    let items = c.args.items.now in
+    let room = room_of _ _ g.row.E g.met.K.Portable.laws g.met.V.Portable.laws c.requires.fitting in
+    let leaf_is = alone_leaf g.row.E (now_of {M = g.row.KU.Denot} {N = g.row.VU.Denot}) items room.some (not-empty (length items) c.if-is_empty.ensures) c.requires.few in
+    subst (λ z. ChildWritten (layout_of g.K.Portable.kind g.V.Portable.kind g.row.E) g.KU.Archive.archival g.VU.Archive.archival (g.W.Writer.state c.args.writer.now) z (Some c.in_ok-root.root) (g.W.Writer.state c.write_leaf.new.writer)) (sym leaf_is)
+    (c.in_ok-root.root, c.in_ok-root.ensures.ok, refl)
