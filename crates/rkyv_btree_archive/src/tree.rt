@@ -143,8 +143,8 @@ where
     ensures free { OnOk result (IsFree (layout_of K.kind V.kind E) scratch.new) }
     ensures kept { OnOk result ((waiting.new.items ≡ take first waiting.old.items)
         × (children.new.items ≡ take first_child children.old.items)) }
-    ensures room { (vec_capacity waiting.old ≤ vec_capacity waiting.new)
-        × (vec_capacity children.old ≤ vec_capacity children.new) }
+    ensures room { OnOk result ((vec_capacity waiting.old ≤ vec_capacity waiting.new)
+        × (vec_capacity children.old ≤ vec_capacity children.new)) }
 {
     let root = write_inner::<KU, VU, K, V, W, A, E>(
         alloc,
@@ -193,8 +193,8 @@ where
     ensures free { OnOk result (IsFree (layout_of K.kind V.kind E) scratch.new) }
     ensures kept { OnOk result
         ((waiting.new.items ≡ waiting.old.items) × (children.new.items ≡ children.old.items)) }
-    ensures room { (vec_capacity waiting.old ≤ vec_capacity waiting.new)
-        × (vec_capacity children.old ≤ vec_capacity children.new) }
+    ensures room { OnOk result ((vec_capacity waiting.old ≤ vec_capacity waiting.new)
+        × (vec_capacity children.old ≤ vec_capacity children.new)) }
 {
     let Some(base) = inner_base::<E>(items.len()) else {
         return write_few::<KU, VU, K, V, W, A, E>(alloc, scratch, items, writer);
