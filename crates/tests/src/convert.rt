@@ -41,6 +41,72 @@ where
     Ok(ArchivedBTreeMap::<K, V, E>::write_root(entries.len(), root, writer)?)
 }
 
+/// The native map that is made of an archived one, which has so many entries and is the same.
+fn made<KU, VU, K, V, const E: usize>(
+    rt: &impl Abort,
+    alloc: Global,
+    bytes: &[u8],
+    pos: u32,
+    len: usize,
+) -> Result<BTreeMap<KU, VU>, Fail>
+where
+    KU: Ord + Drop,
+    VU: PartialEq + Drop,
+    K: CheckBytes + DeserializeKey<KU> + SameAs<KU>,
+    V: CheckBytes + Deserialize<VU> + SameAs<VU>,
+{
+    assert!(rt; layout::fits::<K, V, E>());
+    let map = access::<K, V, E>(bytes, pos).expect(rt, "a map");
+    let made: BTreeMap<KU, VU> = ArchivedBTreeMap::<K, V, E>::deserialize(alloc, &map)?;
+    assert_eq!(rt; made.len(), len);
+    assert!(rt; map.eq_map(&made));
+    Ok(made)
+}
+
+/// Archives a native map, and answers where it stands.
+fn archive_map<KU, VU, K, V, const E: usize>(
+    rt: &impl Abort,
+    alloc: Global,
+    map: &BTreeMap<KU, VU>,
+    writer: &mut VecWriter,
+) -> Result<u32, Fail>
+where
+    KU: Archive<Archived = K> + Serialize<VecWriter, Global> + Ord,
+    VU: Archive<Archived = V> + Serialize<VecWriter, Global>,
+    K: Portable,
+    V: Portable,
+{
+    assert!(rt; layout::fits::<K, V, E>());
+    let root = ArchivedBTreeMap::<K, V, E>::serialize_from_ordered_iter(
+        alloc,
+        map.len(),
+        map.iter(),
+        writer,
+    )?;
+    Ok(ArchivedBTreeMap::<K, V, E>::write_root(map.len(), root, writer)?)
+}
+
+/// Asserts that a native map gives these bytes, and its archive stands at this position.
+fn gives_bytes<KU, VU, K, V, const E: usize>(
+    rt: &impl Abort,
+    alloc: Global,
+    map: &BTreeMap<KU, VU>,
+    bytes: &[u8],
+    pos: u32,
+) -> Result<(), Fail>
+where
+    KU: Archive<Archived = K> + Serialize<VecWriter, Global> + Ord,
+    VU: Archive<Archived = V> + Serialize<VecWriter, Global>,
+    K: Portable,
+    V: Portable,
+{
+    let mut again = VecWriter::new(alloc);
+    let pos_again = archive_map::<KU, VU, K, V, E>(rt, alloc, map, &mut again)?;
+    assert_eq!(rt; pos_again, pos);
+    assert_eq!(rt; again.bytes(), bytes);
+    Ok(())
+}
+
 /// The maps of the first of some entries, however many, are made native; these are the same as the archived ones, and
 /// give the same bytes when they are archived. The keys rise.
 fn there_and_back<KU, VU, K, V, const E: usize>(
@@ -57,21 +123,8 @@ where
     for len in 0..=entries.len() {
         let mut writer = VecWriter::new(alloc);
         let pos = archive::<KU, VU, K, V, E>(rt, alloc, &entries[..len], &mut writer)?;
-        assert!(rt; layout::fits::<K, V, E>());
-        let map = access::<K, V, E>(writer.bytes(), pos).expect(rt, "a map");
-        let made: BTreeMap<KU, VU> = ArchivedBTreeMap::<K, V, E>::deserialize(alloc, &map)?;
-        assert_eq!(rt; made.len(), len);
-        assert!(rt; map.eq_map(&made));
-        let mut again = VecWriter::new(alloc);
-        let root = ArchivedBTreeMap::<K, V, E>::serialize_from_ordered_iter(
-            alloc,
-            made.len(),
-            made.iter(),
-            &mut again,
-        )?;
-        let pos_again = ArchivedBTreeMap::<K, V, E>::write_root(made.len(), root, &mut again)?;
-        assert_eq!(rt; pos_again, pos);
-        assert_eq!(rt; again.bytes(), writer.bytes());
+        let made = made::<KU, VU, K, V, E>(rt, alloc, writer.bytes(), pos, len)?;
+        gives_bytes::<KU, VU, K, V, E>(rt, alloc, &made, writer.bytes(), pos)?;
     }
     Ok(())
 }
