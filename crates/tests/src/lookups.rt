@@ -36,19 +36,51 @@ pub(crate) fn finds<const E: usize>(
 ) {
     let bytes = u32::to_le_bytes(key);
     let view = View::<ArchivedU32>::at(&bytes, 0);
-    let entry = want.map(|value| (key, value));
-    assert_eq!(rt; map.get_key_value(view).map(numbers), entry, "{key}");
-    assert_eq!(rt; map.get_key_value_by(key).map(numbers), entry, "{key}");
+    finds_entry::<E>(rt, &map, &view, want.map(|value| (key, value)));
+    finds_value::<E>(rt, &map, &view, want);
+    is_told::<E>(rt, &map, &view, want);
+}
+
+/// Asserts that each look-up finds this entry of the key, or none.
+fn finds_entry<const E: usize>(
+    rt: &impl Abort,
+    map: &View<ArchivedBTreeMap<ArchivedU32, ArchivedU32, E>>,
+    view: &View<ArchivedU32>,
+    want: Option<(u32, u32)>,
+) {
+    let key = view.to_native();
+    assert_eq!(rt; map.get_key_value(*view).map(numbers), want, "{key}");
+    assert_eq!(rt; map.get_key_value_by(key).map(numbers), want, "{key}");
     let compared = map.get_key_value_with(&key, compare);
-    assert_eq!(rt; compared.map(numbers), entry, "{key}");
-    let value = map.get(view).map(|value| value.to_native());
+    assert_eq!(rt; compared.map(numbers), want, "{key}");
+}
+
+/// Asserts that each look-up finds this value of the key, or none.
+fn finds_value<const E: usize>(
+    rt: &impl Abort,
+    map: &View<ArchivedBTreeMap<ArchivedU32, ArchivedU32, E>>,
+    view: &View<ArchivedU32>,
+    want: Option<u32>,
+) {
+    let key = view.to_native();
+    let value = map.get(*view).map(|value| value.to_native());
     assert_eq!(rt; value, want, "{key}");
     let value = map.get_by(key).map(|value| value.to_native());
     assert_eq!(rt; value, want, "{key}");
+}
+
+/// Asserts that the key is told to be there if it has a value, which is then at its index.
+fn is_told<const E: usize>(
+    rt: &impl Abort,
+    map: &View<ArchivedBTreeMap<ArchivedU32, ArchivedU32, E>>,
+    view: &View<ArchivedU32>,
+    want: Option<u32>,
+) {
+    let key = view.to_native();
     assert_eq!(rt; map.contains_by(key), want.is_some(), "{key}");
-    assert_eq!(rt; map.contains_key(view), want.is_some(), "{key}");
-    if map.contains_key(view) {
-        let value = map.index(view).to_native();
+    assert_eq!(rt; map.contains_key(*view), want.is_some(), "{key}");
+    if map.contains_key(*view) {
+        let value = map.index(*view).to_native();
         assert_eq!(rt; Some(value), want, "{key}");
     }
 }
