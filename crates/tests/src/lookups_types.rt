@@ -19,33 +19,104 @@ use std::num::NonZeroU32;
 use std::process::Abort;
 use std::test::Fail;
 
-/// Archives the map of all keys but one to their numbers, and answers where it stands.
-fn archive_but<KU, K, const E: usize>(
-    rt: &impl Abort,
-    alloc: Global,
-    keys: &[KU],
-    without: u32,
-    writer: &mut VecWriter,
-) -> Result<u32, Fail>
-where
-    KU: Archive<Archived = K> + Serialize<VecWriter, Global>,
-    K: Portable,
-{
+/// The keys but one, each with its number.
+fn numbered_but<KU>(alloc: Global, keys: &[KU], without: u32) -> Result<Vec<(&KU, u32)>, Fail> {
     let mut entries = Vec::new(alloc);
     for (number, key) in (0..u32::MAX).zip(keys) {
         if number != without {
             entries.push((key, number))?;
         }
     }
+    Ok(entries)
+}
+
+/// Archives the map of some keys to their numbers, and answers where it stands.
+fn archive<KU, K, const E: usize>(
+    rt: &impl Abort,
+    alloc: Global,
+    entries: &[(&KU, u32)],
+    writer: &mut VecWriter,
+) -> Result<u32, Fail>
+where
+    KU: Archive<Archived = K> + Serialize<VecWriter, Global>,
+    K: Portable,
+{
     assert!(rt; layout::fits::<K, ArchivedU32, E>());
     let root = ArchivedBTreeMap::<K, ArchivedU32, E>::serialize_from_ordered_iter(
         alloc,
         entries.len(),
-        entries.iter().map(|entry: &(&KU, u32)| (entry.0, &entry.1)),
+        entries.iter().map(|entry| (entry.0, &entry.1)),
         writer,
     )?;
-    let pos = ArchivedBTreeMap::<K, ArchivedU32, E>::write_root(entries.len(), root, writer)?;
-    Ok(pos)
+    Ok(ArchivedBTreeMap::<K, ArchivedU32, E>::write_root(entries.len(), root, writer)?)
+}
+
+/// The archive of the map of all keys but one to their numbers, and where it stands.
+fn archived_but<KU, K, const E: usize>(
+    rt: &impl Abort,
+    alloc: Global,
+    keys: &[KU],
+    without: u32,
+) -> Result<(Vec<u8>, u32), Fail>
+where
+    KU: Archive<Archived = K> + Serialize<VecWriter, Global>,
+    K: Portable,
+{
+    let entries = numbered_but(alloc, keys, without)?;
+    let mut writer = VecWriter::new(alloc);
+    let pos = archive::<KU, K, E>(rt, alloc, &entries, &mut writer)?;
+    Ok((writer.into_vec(), pos))
+}
+
+type Numbered<K, const E: usize> = ArchivedBTreeMap<K, ArchivedU32, E>;
+
+/// Opens the map at a position.
+fn opened<'a, K: CheckBytes, const E: usize>(
+    rt: &impl Abort,
+    bytes: &'a [u8],
+    pos: u32,
+) -> View<'a, Numbered<K, E>> {
+    assert!(rt; layout::fits::<K, ArchivedU32, E>());
+    access::<K, ArchivedU32, E>(bytes, pos).expect(rt, "a map")
+}
+
+/// Asserts that look-ups of a key find its number, unless that is the one left out.
+fn finds<N, K, const E: usize>(
+    rt: &impl Abort,
+    map: &View<Numbered<K, E>>,
+    key: &View<K>,
+    query: N,
+    number: u32,
+    without: u32,
+)
+where
+    N: Copy + Drop,
+    K: CheckBytes + ViewOrd + CompareWith<N>,
+{
+    let want = (number != without).then_some(number);
+    let found = map.get(*key).map(|value| value.to_native());
+    assert_eq!(rt; found, want, "{number} without {without}");
+    let found = map.get_by(query).map(|value| value.to_native());
+    assert_eq!(rt; found, want, "{number} without {without}");
+    assert_eq!(rt; map.contains_key(*key), want.is_some());
+    assert_eq!(rt; map.contains_by(query), want.is_some());
+}
+
+/// Asserts that each key of the whole map but one is found in the other, by its view and by its query.
+fn others_are_found<N, K, const E: usize>(
+    rt: &impl Abort,
+    whole: &View<Numbered<K, E>>,
+    map: &View<Numbered<K, E>>,
+    queries: &[N],
+    without: u32,
+)
+where
+    N: Copy + Drop,
+    K: CheckBytes + ViewOrd + CompareWith<N>,
+{
+    for ((key, value), query) in whole.iter().zip(queries) {
+        finds::<N, K, E>(rt, map, &key, *query, value.to_native(), without);
+    }
 }
 
 /// In the map of all of some keys but one, whichever that is, each other is found, by its view and by its query.
@@ -60,25 +131,13 @@ where
     N: Copy + Drop,
     K: CheckBytes + ViewOrd + CompareWith<N>,
 {
-    let mut all = VecWriter::new(alloc);
-    let pos = archive_but::<KU, K, E>(rt, alloc, keys, u32::MAX, &mut all)?;
-    assert!(rt; layout::fits::<K, ArchivedU32, E>());
-    let whole = access::<K, ArchivedU32, E>(all.bytes(), pos).expect(rt, "a map");
+    let (all, pos) = archived_but::<KU, K, E>(rt, alloc, keys, u32::MAX)?;
+    let whole = opened::<K, E>(rt, &all, pos);
     assert_eq!(rt; whole.len() as usize, queries.len());
     for without in 0..=whole.len() {
-        let mut some = VecWriter::new(alloc);
-        let pos = archive_but::<KU, K, E>(rt, alloc, keys, without, &mut some)?;
-        let map = access::<K, ArchivedU32, E>(some.bytes(), pos).expect(rt, "a map");
-        for ((view, value), query) in whole.iter().zip(queries) {
-            let number = value.to_native();
-            let want = (number != without).then_some(number);
-            let found = map.get(view).map(|value| value.to_native());
-            assert_eq!(rt; found, want, "{number} without {without}");
-            let found = map.get_by(*query).map(|value| value.to_native());
-            assert_eq!(rt; found, want, "{number} without {without}");
-            assert_eq!(rt; map.contains_key(view), want.is_some());
-            assert_eq!(rt; map.contains_by(*query), want.is_some());
-        }
+        let (some, pos) = archived_but::<KU, K, E>(rt, alloc, keys, without)?;
+        let map = opened::<K, E>(rt, &some, pos);
+        others_are_found::<N, K, E>(rt, &whole, &map, queries, without);
     }
     Ok(())
 }
