@@ -4,7 +4,7 @@ use crate::lookups::compare;
 use crate::numbers::tens;
 use crate::ranges::is_between;
 use crate::seals::{archived, opened};
-use rkyv_btree::cursor::RangeSeal;
+use rkyv_btree::cursor::{IterSeal, RangeSeal, ValuesSeal};
 use rkyv_btree::map::MapSeal;
 use rkyv_btree_base::map::ArchivedBTreeMap;
 use rkyv_btree_base::numbers::ArchivedU32;
@@ -29,6 +29,26 @@ fn raised(
     Ok(raised)
 }
 
+type Numbers<const E: usize> = ArchivedBTreeMap<ArchivedU32, ArchivedU32, E>;
+
+/// A cursor along entries lends this one next, with so many behind it, and writes its value.
+fn next_entry_is_raised<const E: usize>(
+    rt: &impl Abort,
+    cursor: &mut IterSeal<'_, Numbers<E>>,
+    key: u32,
+    value: u32,
+    left: usize,
+) {
+    assert!(rt; cursor.next());
+    assert_eq!(rt; cursor.size_hint(), (left, Some(left)));
+    assert_eq!(rt; cursor.len(), left);
+    assert_eq!(rt; cursor.key().to_native(), key);
+    assert_eq!(rt; cursor.read(), value);
+    cursor.write(value.wrapping_add(10));
+    assert_eq!(rt; cursor.key().to_native(), key);
+    assert_eq!(rt; cursor.read(), value.wrapping_add(10));
+}
+
 /// A cursor along all entries lends each in order, counts those that are left, and writes each value.
 fn entries_are_raised<const E: usize>(
     rt: &impl Abort,
@@ -40,20 +60,27 @@ fn entries_are_raised<const E: usize>(
     let mut left = entries.len();
     assert_eq!(rt; cursor.size_hint(), (left, Some(left)));
     for (key, value) in entries {
-        assert!(rt; cursor.next());
         left = left.wrapping_sub(1);
-        assert_eq!(rt; cursor.size_hint(), (left, Some(left)));
-        assert_eq!(rt; cursor.len(), left);
-        assert_eq!(rt; cursor.key().to_native(), *key);
-        assert_eq!(rt; cursor.read(), *value);
-        cursor.write(value.wrapping_add(10));
-        assert_eq!(rt; cursor.key().to_native(), *key);
-        assert_eq!(rt; cursor.read(), value.wrapping_add(10));
+        next_entry_is_raised::<E>(rt, &mut cursor, *key, *value, left);
     }
     for _ in 0..3 {
         assert!(rt; !cursor.next());
         assert_eq!(rt; cursor.size_hint(), (0, Some(0)));
     }
+}
+
+/// A cursor along values lends this one next, with so many behind it, and writes it.
+fn next_value_is_raised<const E: usize>(
+    rt: &impl Abort,
+    cursor: &mut ValuesSeal<'_, Numbers<E>>,
+    value: u32,
+    left: usize,
+) {
+    assert!(rt; cursor.next());
+    assert_eq!(rt; cursor.size_hint(), (left, Some(left)));
+    assert_eq!(rt; cursor.read(), value);
+    cursor.write(value.wrapping_add(10));
+    assert_eq!(rt; cursor.read(), value.wrapping_add(10));
 }
 
 /// The same along all values.
@@ -67,12 +94,8 @@ fn values_are_raised<const E: usize>(
     let mut left = entries.len();
     assert_eq!(rt; cursor.size_hint(), (left, Some(left)));
     for (_, value) in entries {
-        assert!(rt; cursor.next());
         left = left.wrapping_sub(1);
-        assert_eq!(rt; cursor.size_hint(), (left, Some(left)));
-        assert_eq!(rt; cursor.read(), *value);
-        cursor.write(value.wrapping_add(10));
-        assert_eq!(rt; cursor.read(), value.wrapping_add(10));
+        next_value_is_raised::<E>(rt, &mut cursor, *value, left);
     }
     for _ in 0..3 {
         assert!(rt; !cursor.next());
@@ -104,7 +127,7 @@ fn each_value_is_written_by_a_cursor(rt: HostRuntime) -> Result<(), Fail> {
     cursors_write_all_values::<5>(&rt, rt.alloc())
 }
 
-type Range<'a, const E: usize> = RangeSeal<'a, ArchivedBTreeMap<ArchivedU32, ArchivedU32, E>>;
+type Range<'a, const E: usize> = RangeSeal<'a, Numbers<E>>;
 
 /// A cursor between bounds lends the entries within in order, and raises their values.
 fn are_raised<const E: usize>(
