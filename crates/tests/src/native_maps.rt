@@ -381,24 +381,38 @@ fn a_damaged_set_in_a_map_is_a_bad_entry(rt: HostRuntime) -> Result<(), Fail> {
     Ok(())
 }
 
-#[test]
-fn entries_are_made_pairs(rt: HostRuntime) -> Result<(), Fail> {
-    let alloc = rt.alloc();
-    let text = String::from_str(alloc, "b")?;
+type Key = Entry<ArchivedU32, ArchivedText>;
+
+type Value = Entry<ArchivedText, bool>;
+
+/// The archive of the map from 1 and a text to the text and `false`, and where it stands.
+fn archived_pairs(rt: &impl Abort, alloc: Global, text: &str) -> Result<(Vec<u8>, u32), Fail> {
+    let text = String::from_str(alloc, text)?;
     let key = EntryAdapter::new(&1u32, &text);
     let value = EntryAdapter::new(&text, &false);
     let mut writer = VecWriter::new(alloc);
-    type Key = Entry<ArchivedU32, ArchivedText>;
-    type Value = Entry<ArchivedText, bool>;
-    let pos = archive::<_, _, Key, Value, 2>(&rt, alloc, &[(key, value)], &mut writer)?;
+    let pos = archive::<_, _, Key, Value, 2>(rt, alloc, &[(key, value)], &mut writer)?;
+    Ok((writer.into_vec(), pos))
+}
+
+/// The native map that is made of an archived one, which is the same.
+fn made_of_pairs(
+    rt: &impl Abort,
+    alloc: Global,
+    bytes: &[u8],
+    pos: u32,
+) -> Result<BTreeMap<(u32, String), (String, bool)>, Fail> {
     assert!(rt; layout::fits::<Key, Value, 2>());
-    let map = access::<Key, Value, 2>(writer.bytes(), pos).expect(&rt, "a map");
-    let made: BTreeMap<(u32, String), (String, bool)> = ArchivedBTreeMap::<
-        Key,
-        Value,
-        2,
-    >::deserialize(alloc, &map)?;
+    let map = access::<Key, Value, 2>(bytes, pos).expect(rt, "a map");
+    let made = ArchivedBTreeMap::<Key, Value, 2>::deserialize(alloc, &map)?;
     assert!(rt; map.eq_map(&made));
+    Ok(made)
+}
+
+#[test]
+fn entries_are_made_pairs(rt: HostRuntime) -> Result<(), Fail> {
+    let (bytes, pos) = archived_pairs(&rt, rt.alloc(), "b")?;
+    let made = made_of_pairs(&rt, rt.alloc(), &bytes, pos)?;
     let (key, value) = made.first_key_value().ok_or("no entry")?;
     assert_eq!(rt; (key.0, key.1.as_str()), (1, "b"));
     assert_eq!(rt; (value.0.as_str(), value.1), ("b", false));
