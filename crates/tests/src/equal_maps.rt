@@ -21,13 +21,58 @@ use std::process::Abort;
 use std::test::Fail;
 
 /// The map of numbers at a position.
-fn opened<'a, const E: usize>(
+pub(crate) fn opened<'a, const E: usize>(
     rt: &impl Abort,
     bytes: &'a [u8],
     pos: u32,
 ) -> View<'a, ArchivedBTreeMap<ArchivedU32, ArchivedU32, E>> {
     assert!(rt; layout::fits::<ArchivedU32, ArchivedU32, E>());
     access::<ArchivedU32, ArchivedU32, E>(bytes, pos).expect(rt, "a map")
+}
+
+/// The archive of numbers behind some bytes, and where the map stands.
+fn archived<const E: usize>(
+    rt: &impl Abort,
+    alloc: Global,
+    start: &[u8],
+    entries: &[(u32, u32)],
+) -> Result<(Vec<u8>, u32), Fail> {
+    let mut writer = VecWriter::from_vec(start.to_vec(alloc)?);
+    let pos = archive::<E>(rt, alloc, entries.len(), entries, &mut writer)?;
+    Ok((writer.into_vec(), pos))
+}
+
+type Numbers<const E: usize> = ArchivedBTreeMap<ArchivedU32, ArchivedU32, E>;
+
+/// Asserts whether two maps are equal.
+fn views_are_equal(rt: &impl Abort, left: &View<Numbers<5>>, alike: &View<Numbers<5>>, want: bool) {
+    assert_eq!(rt; *left == *alike, want);
+    assert_eq!(rt; *alike == *left, want);
+}
+
+/// Asserts whether the entries of a map are those of two others.
+fn entries_are_equal(
+    rt: &impl Abort,
+    left: &View<Numbers<5>>,
+    alike: &View<Numbers<5>>,
+    other: &View<Numbers<1>>,
+    want: bool,
+) {
+    assert_eq!(rt; left.eq_entries(*alike), want);
+    assert_eq!(rt; left.eq_entries(*other), want);
+    assert_eq!(rt; other.eq_entries(*left), want);
+}
+
+/// Asserts whether the hash of a map is that of two others.
+fn hashes_are_equal(
+    rt: &impl Abort,
+    left: &View<Numbers<5>>,
+    alike: &View<Numbers<5>>,
+    other: &View<Numbers<1>>,
+    want: bool,
+) {
+    assert_eq!(rt; hashed(alike), hashed(other));
+    assert_eq!(rt; hashed(left) == hashed(alike), want);
 }
 
 /// Archives two lists, the second behind three bytes and also with other nodes, and asserts whether their maps are equal.
@@ -38,22 +83,15 @@ fn maps_are_equal(
     right: &[(u32, u32)],
     want: bool,
 ) -> Result<(), Fail> {
-    let mut first = VecWriter::new(alloc);
-    let pos = archive::<5>(rt, alloc, left.len(), left, &mut first)?;
-    let left = opened::<5>(rt, first.bytes(), pos);
-    let mut second = VecWriter::from_vec([7, 8, 9].to_vec(alloc)?);
-    let pos = archive::<5>(rt, alloc, right.len(), right, &mut second)?;
-    let alike = opened::<5>(rt, second.bytes(), pos);
-    let mut third = VecWriter::new(alloc);
-    let pos = archive::<1>(rt, alloc, right.len(), right, &mut third)?;
-    let other = opened::<1>(rt, third.bytes(), pos);
-    assert_eq!(rt; left == alike, want);
-    assert_eq!(rt; alike == left, want);
-    assert_eq!(rt; left.eq_entries(alike), want);
-    assert_eq!(rt; left.eq_entries(other), want);
-    assert_eq!(rt; other.eq_entries(left), want);
-    assert_eq!(rt; hashed(&alike), hashed(&other));
-    assert_eq!(rt; hashed(&left) == hashed(&alike), want);
+    let (first, pos) = archived::<5>(rt, alloc, &[], left)?;
+    let left = opened::<5>(rt, &first, pos);
+    let (second, pos) = archived::<5>(rt, alloc, &[7, 8, 9], right)?;
+    let alike = opened::<5>(rt, &second, pos);
+    let (third, pos) = archived::<1>(rt, alloc, &[], right)?;
+    let other = opened::<1>(rt, &third, pos);
+    views_are_equal(rt, &left, &alike, want);
+    entries_are_equal(rt, &left, &alike, &other, want);
+    hashes_are_equal(rt, &left, &alike, &other, want);
     Ok(())
 }
 
