@@ -1,5 +1,6 @@
 //! Ranges, and iterators over keys and over values.
 
+use crate::equal_maps::opened;
 use crate::numbers::{archive, tens};
 use crate::texts::archive_texts;
 use rkyv_btree::map::access;
@@ -29,6 +30,8 @@ pub(crate) fn is_between(low: Bound<u32>, high: Bound<u32>, key: u32) -> bool {
             Bound::Unbounded => true,
         }
 }
+
+type Numbers<const E: usize> = ArchivedBTreeMap<ArchivedU32, ArchivedU32, E>;
 
 /// The ranges of a map of numbers between these bounds have these keys.
 fn have_keys<const E: usize>(
@@ -170,29 +173,44 @@ fn a_list_out_of_order_is_walked(rt: HostRuntime) -> Result<(), Fail> {
     Ok(())
 }
 
+/// The keys of the map of nine entries are these, each with as many behind it as are left.
+fn keys_count_down(rt: &impl Abort, map: &View<Numbers<2>>, entries: &[(u32, u32)]) {
+    let mut keys = map.keys();
+    let mut left = 9;
+    for (key, _) in entries {
+        assert_eq!(rt; keys.len(), left);
+        left = left.wrapping_sub(1);
+        assert_eq!(rt; keys.next().map(|k| k.to_native()), Some(*key));
+    }
+    for _ in 0..2 {
+        assert_eq!(rt; keys.len(), 0);
+        assert!(rt; keys.next().is_none());
+    }
+}
+
+/// The same of its values.
+fn values_count_down(rt: &impl Abort, map: &View<Numbers<2>>, entries: &[(u32, u32)]) {
+    let mut values = map.values();
+    let mut left = 9;
+    for (_, value) in entries {
+        assert_eq!(rt; values.size_hint(), (left, Some(left)));
+        left = left.wrapping_sub(1);
+        assert_eq!(rt; values.next().map(|v| v.to_native()), Some(*value));
+    }
+    for _ in 0..2 {
+        assert_eq!(rt; values.len(), 0);
+        assert!(rt; values.next().is_none());
+    }
+}
+
 #[test]
 fn keys_and_values_are_counted(rt: HostRuntime) -> Result<(), Fail> {
     let entries = tens(rt.alloc(), 9)?;
     let mut writer = VecWriter::new(rt.alloc());
     let root = archive::<2>(&rt, rt.alloc(), 9, entries.as_slice(), &mut writer)?;
-    assert!(rt; layout::fits::<ArchivedU32, ArchivedU32, 2>());
-    let map = access::<ArchivedU32, ArchivedU32, 2>(writer.bytes(), root).expect(&rt, "a map");
-    let mut keys = map.keys();
-    let mut values = map.values();
-    let mut left = 9;
-    for (key, value) in &entries {
-        assert_eq!(rt; keys.len(), left);
-        assert_eq!(rt; values.size_hint(), (left, Some(left)));
-        left = left.wrapping_sub(1);
-        assert_eq!(rt; keys.next().map(|k| k.to_native()), Some(*key));
-        assert_eq!(rt; values.next().map(|v| v.to_native()), Some(*value));
-    }
-    for _ in 0..2 {
-        assert_eq!(rt; keys.len(), 0);
-        assert_eq!(rt; values.len(), 0);
-        assert!(rt; keys.next().is_none());
-        assert!(rt; values.next().is_none());
-    }
+    let map = opened::<2>(&rt, writer.bytes(), root);
+    keys_count_down(&rt, &map, &entries);
+    values_count_down(&rt, &map, &entries);
     Ok(())
 }
 
@@ -253,19 +271,27 @@ fn ranges_of_characters(rt: HostRuntime) -> Result<(), Fail> {
     Ok(())
 }
 
-// By the first character of each text, and by views of texts.
-#[test]
-fn ranges_of_texts(rt: HostRuntime) -> Result<(), Fail> {
-    let mut entries = Vec::new(rt.alloc());
+/// The letters from a to y, each with its number.
+fn letters(alloc: Global) -> Result<Vec<(String, u32)>, Fail> {
+    let mut entries = Vec::new(alloc);
     for letter in 'a'..='y' {
-        let mut text = String::new(rt.alloc());
+        let mut text = String::new(alloc);
         text.push(letter)?;
         entries.push((text, u32::from(letter)))?;
     }
-    let mut writer = VecWriter::new(rt.alloc());
-    let root = archive_texts::<u32, ArchivedU32, 5>(&rt, rt.alloc(), &entries, &mut writer)?;
+    Ok(entries)
+}
+
+type Letters = ArchivedBTreeMap<ArchivedText, ArchivedU32, 5>;
+
+/// Opens the map of letters at a position.
+fn opened_letters<'a>(rt: &impl Abort, bytes: &'a [u8], pos: u32) -> View<'a, Letters> {
     assert!(rt; layout::fits::<ArchivedText, ArchivedU32, 5>());
-    let map = access::<ArchivedText, ArchivedU32, 5>(writer.bytes(), root).expect(&rt, "a map");
+    access::<ArchivedText, ArchivedU32, 5>(bytes, pos).expect(rt, "a map")
+}
+
+/// The range of letters from d to before w has their numbers.
+fn has_range_by_first_characters(rt: &impl Abort, map: &View<Letters>) {
     let mut range = map.range_with(
         Bound::Included(&'d'),
         Bound::Excluded(&'w'),
@@ -276,11 +302,26 @@ fn ranges_of_texts(rt: HostRuntime) -> Result<(), Fail> {
         assert_eq!(rt; met, Some(u32::from(letter)));
     }
     assert!(rt; range.next().is_none());
-    let (low, _) = map.iter().nth(2).expect(&rt, "a third entry");
-    let (high, _) = map.iter().nth(3).expect(&rt, "a fourth entry");
+}
+
+/// The range behind the third letter up to the fourth has the fourth alone.
+fn has_range_between_views(rt: &impl Abort, map: &View<Letters>) {
+    let (low, _) = map.iter().nth(2).expect(rt, "a third entry");
+    let (high, _) = map.iter().nth(3).expect(rt, "a fourth entry");
     let mut range = map.range(Bound::Excluded(low), Bound::Included(high));
     assert_eq!(rt; range.next().map(|(k, _)| k.as_str()), Some("d"));
     assert!(rt; range.next().is_none());
+}
+
+// By the first character of each text, and by views of texts.
+#[test]
+fn ranges_of_texts(rt: HostRuntime) -> Result<(), Fail> {
+    let entries = letters(rt.alloc())?;
+    let mut writer = VecWriter::new(rt.alloc());
+    let root = archive_texts::<u32, ArchivedU32, 5>(&rt, rt.alloc(), &entries, &mut writer)?;
+    let map = opened_letters(&rt, writer.bytes(), root);
+    has_range_by_first_characters(&rt, &map);
+    has_range_between_views(&rt, &map);
     let mut range = map.range_by(Bound::Excluded("wz"), Bound::Unbounded);
     assert_eq!(rt; range.next().map(|(k, _)| k.as_str()), Some("x"));
     Ok(())
