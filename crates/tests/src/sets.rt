@@ -125,26 +125,44 @@ fn an_iterator_counts_what_is_left(rt: HostRuntime) -> Result<(), Fail> {
     Ok(())
 }
 
-#[test]
-fn a_set_of_texts_is_read(rt: HostRuntime) -> Result<(), Fail> {
-    let mut texts = Vec::new(rt.alloc());
-    for text in ["", "a", "b", "\u{E9}"] {
-        texts.push(String::from_str(rt.alloc(), text)?)?;
+/// The archive of texts, and where their set stands.
+fn archived_texts(rt: &impl Abort, alloc: Global, texts: &[&str]) -> Result<(Vec<u8>, u32), Fail> {
+    let mut keys = Vec::new(alloc);
+    for text in texts {
+        keys.push(String::from_str(alloc, text)?)?;
     }
-    let mut writer = VecWriter::new(rt.alloc());
-    let pos = archive::<String, _, 2>(&rt, rt.alloc(), texts.as_slice(), &mut writer)?;
-    let set = opened::<ArchivedText, 2>(&rt, writer.bytes(), pos);
-    assert_eq!(rt; set.len(), 4);
+    let mut writer = VecWriter::new(alloc);
+    let pos = archive::<String, _, 2>(rt, alloc, keys.as_slice(), &mut writer)?;
+    Ok((writer.into_vec(), pos))
+}
+
+type Texts = ArchivedBTreeSet<ArchivedText, 2>;
+
+/// The last two of the four texts are found, and no other.
+fn texts_are_found(rt: &impl Abort, set: &View<Texts>) {
     assert!(rt; set.contains_by("b"));
     assert!(rt; !set.contains_by("ab"));
     assert_eq!(rt;
         set.get_by("\u{E9}").map(|key| key.as_str()),
         Some("\u{E9}")
     );
+}
+
+/// The range behind the second of the four texts has the last two.
+fn has_range_of_texts(rt: &impl Abort, set: &View<Texts>) {
     let mut within = set.range_by(Bound::Excluded("a"), Bound::Unbounded);
     assert_eq!(rt; within.next().map(|key| key.as_str()), Some("b"));
     assert_eq!(rt; within.next().map(|key| key.as_str()), Some("\u{E9}"));
     assert!(rt; within.next().is_none());
+}
+
+#[test]
+fn a_set_of_texts_is_read(rt: HostRuntime) -> Result<(), Fail> {
+    let (bytes, pos) = archived_texts(&rt, rt.alloc(), &["", "a", "b", "\u{E9}"])?;
+    let set = opened::<ArchivedText, 2>(&rt, &bytes, pos);
+    assert_eq!(rt; set.len(), 4);
+    texts_are_found(&rt, &set);
+    has_range_of_texts(&rt, &set);
     let told = format!(in rt.alloc(); "{set:?}")?;
     assert_eq!(rt; told.as_str(), "{\"\", \"a\", \"b\", \"\u{E9}\"}");
     Ok(())
