@@ -185,6 +185,37 @@ fn replace<N: Copy + Drop, V: InPlace<Native = N>, const E: usize>(
     }
 }
 
+/// Writes 170 over each byte of padding outside the own bytes of the value that begins at a position.
+fn fill_outside<V: Portable>(rt: &impl Abort, bytes: &mut [u8], padding: &[bool], from: usize) {
+    assert!(rt; V::fits());
+    let own = from..from.saturating_add(V::size() as usize);
+    for ((at, byte), is_padding) in bytes.iter_mut().enumerate().zip(padding) {
+        if *is_padding && !own.contains(&at) {
+            *byte = 170;
+        }
+    }
+}
+
+/// Each way replaces the value of a key: the archive has these bytes then, and the value is where it was.
+fn each_way_replaces<N: Copy + Drop, V: InPlace<Native = N>, const E: usize>(
+    rt: &impl Abort,
+    alloc: Global,
+    before: &mut [u8],
+    pos: u32,
+    key: u32,
+    value: N,
+    want: &[u8],
+) -> Result<(), Fail> {
+    let place = place_of::<V, E>(rt, before, pos, key);
+    for way in [Way::Seal, Way::Key, Way::Entries, Way::Values] {
+        let mut bytes = before.to_vec(alloc)?;
+        replace::<N, V, E>(rt, &mut bytes, pos, way, key, value);
+        assert_eq!(rt; bytes.as_slice(), want, "{key} by {way:?} at {pos}");
+        assert_eq!(rt; place_of::<V, E>(rt, &mut bytes, pos, key), place);
+    }
+    Ok(())
+}
+
 /// In the map of so many keys, with padding filled, the values of the first, the middle and the last key are replaced in
 /// each way: the archive is that of the new list, with the padding outside the value's own bytes as it was.
 fn values_are_replaced<VU, N, V, const E: usize>(
@@ -199,30 +230,14 @@ where
     N: Copy + Drop + PartialEq,
     V: InPlace<Native = N>,
 {
-    assert!(rt; V::fits());
-    let size = V::size() as usize;
     let (mut before, pos) = archived::<VU, V, E>(rt, alloc, values, count, None)?;
     let padding = fill_padding::<N, V, E>(rt, alloc, &mut before, pos, natives, count)?;
     for key in [0, count / 2, count.saturating_sub(1)] {
+        let (_, from) = place_of::<V, E>(rt, &mut before, pos, key);
         let (mut want, _) = archived::<VU, V, E>(rt, alloc, values, count, Some(key))?;
-        let (place, from) = place_of::<V, E>(rt, &mut before, pos, key);
-        let own = from..from.saturating_add(size);
-        for ((at, byte), is_padding) in want.iter_mut().enumerate().zip(&padding) {
-            if *is_padding && !own.contains(&at) {
-                *byte = 170;
-            }
-        }
+        fill_outside::<V>(rt, &mut want, &padding, from);
         let value = *by_turns(rt, natives, turn_of(key, Some(key)));
-        for way in [Way::Seal, Way::Key, Way::Entries, Way::Values] {
-            let mut bytes = before.as_slice().to_vec(alloc)?;
-            replace::<N, V, E>(rt, &mut bytes, pos, way, key, value);
-            assert_eq!(rt;
-                bytes.as_slice(),
-                want.as_slice(),
-                "{key} of {count} by {way:?}"
-            );
-            assert_eq!(rt; place_of::<V, E>(rt, &mut bytes, pos, key), (place, from));
-        }
+        each_way_replaces::<N, V, E>(rt, alloc, &mut before, pos, key, value, &want)?;
     }
     Ok(())
 }
