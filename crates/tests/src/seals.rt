@@ -126,13 +126,9 @@ fn has_own_bytes(rt: &impl Abort, bytes: &[u8], before: &[u8], own: [u8; 16]) {
     assert_eq!(rt; bytes.get(72..), before.get(72..));
 }
 
-#[test]
-fn values_of_texts_are_edited(rt: HostRuntime) -> Result<(), Fail> {
-    let before = four_texts(&rt, rt.alloc())?;
-    let mut bytes = before.as_slice().to_vec(rt.alloc())?;
-    let own = [20, 0, 0, 0, 80, 0, 0, 0, 40, 0, 0, 0, 10, 0, 0, 0];
-    has_texts(&rt, &bytes, &before, &FOUR, own);
-    let mut map = opened_texts(&rt, &mut bytes);
+/// A visit adds 10 to the value of each text.
+fn add_ten_to_each(rt: &impl Abort, bytes: &mut [u8]) {
+    let mut map = opened_texts(rt, bytes);
     let broken = map.visit_seal(
         |_: LentKey<ArchivedText>, value: &mut Seal<ArchivedI32>|
             requires { StandsAlone i32_kind value.old.buf.now value.old.pos }
@@ -142,22 +138,76 @@ fn values_of_texts_are_edited(rt: HostRuntime) -> Result<(), Fail> {
         },
     );
     assert_eq!(rt; broken, None);
+}
+
+/// A seal at the place of a text writes its value.
+fn write_at_its_place(rt: &impl Abort, bytes: &mut [u8], text: &str, value: i32) {
+    let map = opened_texts(rt, bytes);
+    let place = map.find_with(&text, compare).expect(rt, "an entry");
+    assert_eq!(rt; map.find_by(text), Some(place));
+    let MapSeal { buf, pos, of: _ } = map;
+    let mut seal = MapSeal::<Texts>::seal_at(buf, pos, place);
+    seal.write(value);
+    assert_eq!(rt; seal.read(), value);
+}
+
+#[test]
+fn values_of_texts_are_edited(rt: HostRuntime) -> Result<(), Fail> {
+    let before = four_texts(&rt, rt.alloc())?;
+    let mut bytes = before.as_slice().to_vec(rt.alloc())?;
+    let own = [20, 0, 0, 0, 80, 0, 0, 0, 40, 0, 0, 0, 10, 0, 0, 0];
+    has_texts(&rt, &bytes, &before, &FOUR, own);
+    add_ten_to_each(&rt, &mut bytes);
     let want = [("bar", 30), ("bat", 90), ("baz", 50), ("foo", 20)];
     let own = [30, 0, 0, 0, 90, 0, 0, 0, 50, 0, 0, 0, 20, 0, 0, 0];
     has_texts(&rt, &bytes, &before, &want, own);
     for (text, value) in [("foo", 123), ("bat", 456)] {
-        let map = opened_texts(&rt, &mut bytes);
-        let place = map.find_with(&text, compare).expect(&rt, "an entry");
-        assert_eq!(rt; map.find_by(text), Some(place));
-        let MapSeal { buf, pos, of: _ } = map;
-        let mut seal = MapSeal::<Texts>::seal_at(buf, pos, place);
-        seal.write(value);
-        assert_eq!(rt; seal.read(), value);
+        write_at_its_place(&rt, &mut bytes, text, value);
     }
     let want = [("bar", 30), ("bat", 456), ("baz", 50), ("foo", 123)];
     let own = [30, 0, 0, 0, 0xC8, 1, 0, 0, 50, 0, 0, 0, 123, 0, 0, 0];
     has_texts(&rt, &bytes, &before, &want, own);
     Ok(())
+}
+
+/// Writes the bytes of −2 from a position on.
+fn write_minus_two(rt: &impl Abort, bytes: &mut [u8], at: usize) {
+    for (index, byte) in [0xFE, 0xFF, 0xFF, 0xFF].iter().enumerate() {
+        *bytes.get_mut(at.saturating_add(index)).expect(rt, "a byte") = *byte;
+    }
+}
+
+/// The archive of the four texts with −2 as the value at a position, if there is one.
+fn with_minus_two(
+    rt: &impl Abort,
+    alloc: Global,
+    before: &[u8],
+    at: Option<usize>,
+) -> Result<Vec<u8>, Fail> {
+    let mut want = before.to_vec(alloc)?;
+    assert_eq!(rt; want.len(), 88);
+    if let Some(at) = at {
+        write_minus_two(rt, &mut want, at);
+    }
+    Ok(want)
+}
+
+/// Sets the value of a text to −2, and tells whether it has one.
+fn is_set_by(rt: &impl Abort, bytes: &mut [u8], text: &str) -> bool {
+    opened_texts(rt, bytes).set_by(text, -2)
+}
+
+/// The same by the view of a text.
+fn is_set_by_view(
+    rt: &impl Abort,
+    alloc: Global,
+    bytes: &mut [u8],
+    text: &str,
+) -> Result<bool, Fail> {
+    let (key, pos) = archived_text(rt, alloc, text.as_bytes())?;
+    assert!(rt; ArchivedText::fits());
+    let view = View::<ArchivedText>::check(&key, pos).expect(rt, "a text");
+    Ok(opened_texts(rt, bytes).set(view, -2))
 }
 
 #[test]
@@ -175,24 +225,13 @@ fn the_value_of_a_text_is_set(rt: HostRuntime) -> Result<(), Fail> {
         ("fop", None),
     ];
     for (text, at) in rows {
-        let mut want = before.as_slice().to_vec(rt.alloc())?;
-        assert_eq!(rt; want.len(), 88);
-        if let Some(at) = at {
-            want[at] = 0xFE;
-            want[at + 1] = 0xFF;
-            want[at + 2] = 0xFF;
-            want[at + 3] = 0xFF;
-        }
+        let want = with_minus_two(&rt, rt.alloc(), &before, at)?;
         let mut bytes = before.as_slice().to_vec(rt.alloc())?;
-        let mut map = opened_texts(&rt, &mut bytes);
-        assert_eq!(rt; map.set_by(text, -2), at.is_some(), "{text}");
+        assert_eq!(rt; is_set_by(&rt, &mut bytes, text), at.is_some(), "{text}");
         assert_eq!(rt; bytes.as_slice(), want.as_slice(), "{text}");
-        let (key, pos) = archived_text(&rt, rt.alloc(), text.as_bytes())?;
-        assert!(rt; ArchivedText::fits());
-        let view = View::<ArchivedText>::check(&key, pos).expect(&rt, "a text");
         let mut bytes = before.as_slice().to_vec(rt.alloc())?;
-        let mut map = opened_texts(&rt, &mut bytes);
-        assert_eq!(rt; map.set(view, -2), at.is_some(), "{text}");
+        let is_set = is_set_by_view(&rt, rt.alloc(), &mut bytes, text)?;
+        assert_eq!(rt; is_set, at.is_some(), "{text}");
         assert_eq!(rt; bytes.as_slice(), want.as_slice(), "{text}");
     }
     Ok(())
@@ -214,6 +253,63 @@ fn with_value(
     Ok(changed)
 }
 
+/// Sets the value of a key to 7 by its view, and tells whether there is one.
+fn is_set_by_number_view<const E: usize>(
+    rt: &impl Abort,
+    bytes: &mut [u8],
+    pos: u32,
+    key: u32,
+) -> bool {
+    let query = u32::to_le_bytes(key);
+    let view = View::<ArchivedU32>::at(&query, 0);
+    opened::<E>(rt, bytes, pos).set(view, 7)
+}
+
+/// Replaces the value of a key by 7, and answers the key and the value that were met.
+fn replaced<const E: usize>(
+    rt: &impl Abort,
+    bytes: &mut [u8],
+    pos: u32,
+    key: u32,
+) -> Option<(u32, u32)> {
+    let write = |lent: LentKey<ArchivedU32>, value: &mut Seal<ArchivedU32>|
+        requires key { IsTrue (stands u32_kind lent.buf.now lent.pos) }
+        requires value { StandsAlone u32_kind value.old.buf.now value.old.pos }
+    {
+        let old = value.read();
+        value.write(7);
+        (lent.view().to_native(), old)
+    };
+    opened::<E>(rt, bytes, pos).with_seal_by(key, write)
+}
+
+/// In an archive of so many numbers the value of a key is set, in each of the ways there are: its bytes are then these.
+fn a_key_sets_its_value<const E: usize>(
+    rt: &impl Abort,
+    alloc: Global,
+    before: &[u8],
+    pos: u32,
+    want: &[u8],
+    key: u32,
+    count: u32,
+) -> Result<(), Fail> {
+    let is_there = (1..=count).contains(&key);
+    let mut bytes = before.to_vec(alloc)?;
+    assert_eq!(rt;
+        is_set_by_number_view::<E>(rt, &mut bytes, pos, key),
+        is_there
+    );
+    assert_eq!(rt; bytes.as_slice(), want, "{key} of {count}");
+    let mut bytes = before.to_vec(alloc)?;
+    assert_eq!(rt; opened::<E>(rt, &mut bytes, pos).set_by(key, 7), is_there);
+    assert_eq!(rt; bytes.as_slice(), want, "{key} of {count}");
+    let mut bytes = before.to_vec(alloc)?;
+    let met = replaced::<E>(rt, &mut bytes, pos, key);
+    assert_eq!(rt; met, is_there.then_some((key, key.wrapping_mul(10))));
+    assert_eq!(rt; bytes.as_slice(), want, "{key} of {count}");
+    Ok(())
+}
+
 /// In a map of so many numbers each value is set by its key, in each of the ways there are, and no other is.
 fn keys_set_their_values<const E: usize>(
     rt: &impl Abort,
@@ -223,29 +319,9 @@ fn keys_set_their_values<const E: usize>(
     let entries = tens(alloc, count)?;
     let (before, pos) = archived::<E>(rt, alloc, &entries)?;
     for key in 0..=count.wrapping_add(1) {
-        let is_there = (1..=count).contains(&key);
         let changed = with_value(&entries, alloc, key, 7)?;
         let (want, _) = archived::<E>(rt, alloc, &changed)?;
-        let query = u32::to_le_bytes(key);
-        let view = View::<ArchivedU32>::at(&query, 0);
-        let mut bytes = before.as_slice().to_vec(alloc)?;
-        assert_eq!(rt; opened::<E>(rt, &mut bytes, pos).set(view, 7), is_there);
-        assert_eq!(rt; bytes.as_slice(), want.as_slice(), "{key} of {count}");
-        let mut bytes = before.as_slice().to_vec(alloc)?;
-        assert_eq!(rt; opened::<E>(rt, &mut bytes, pos).set_by(key, 7), is_there);
-        assert_eq!(rt; bytes.as_slice(), want.as_slice(), "{key} of {count}");
-        let mut bytes = before.as_slice().to_vec(alloc)?;
-        let write = |lent: LentKey<ArchivedU32>, value: &mut Seal<ArchivedU32>|
-            requires key { IsTrue (stands u32_kind lent.buf.now lent.pos) }
-            requires value { StandsAlone u32_kind value.old.buf.now value.old.pos }
-        {
-            let old = value.read();
-            value.write(7);
-            (lent.view().to_native(), old)
-        };
-        let met = opened::<E>(rt, &mut bytes, pos).with_seal_by(key, write);
-        assert_eq!(rt; met, is_there.then_some((key, key.wrapping_mul(10))));
-        assert_eq!(rt; bytes.as_slice(), want.as_slice(), "{key} of {count}");
+        a_key_sets_its_value::<E>(rt, alloc, &before, pos, &want, key, count)?;
     }
     Ok(())
 }
