@@ -3,10 +3,10 @@ ghost use Rattle.std.specs.Prelude.{◌≡◌, ◌≤◌, ◌<◌, ◌^◌};
 ghost use Rattle.std.specs.Ordering.{nat_cmp};
 ghost use Rattle.rkyv_btree.specs.View.{reads};
 
+use crate::equal_maps::opened;
 use crate::numbers::archive;
-use rkyv_btree::map::access;
 use rkyv_btree::view::{Shows, View};
-use rkyv_btree_base::layout::{self, entries_to_height};
+use rkyv_btree_base::layout::entries_to_height;
 use rkyv_btree_base::map::ArchivedBTreeMap;
 use rkyv_btree_base::numbers::ArchivedU32;
 use rkyv_btree_base::place::VecWriter;
@@ -94,9 +94,7 @@ fn built_finds<const E: usize>(
 ) -> Result<(), Fail> {
     let mut writer = VecWriter::new(alloc);
     let root = archive::<E>(rt, alloc, entries.len(), entries, &mut writer)?;
-    assert!(rt; layout::fits::<ArchivedU32, ArchivedU32, E>());
-    let opened = access::<ArchivedU32, ArchivedU32, E>(writer.bytes(), root);
-    let map = opened.expect(rt, "a map");
+    let map = opened::<E>(rt, writer.bytes(), root);
     for (key, want) in rows {
         finds::<E>(rt, map, *key, *want);
     }
