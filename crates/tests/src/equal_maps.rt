@@ -1,5 +1,6 @@
 //! Maps are compared, hashed and shown as their lists.
 
+use crate::convert;
 use crate::entries::Recorder;
 use crate::foreign::{CHILDLESS, OVER_EMPTY};
 use crate::numbers::archive;
@@ -178,15 +179,9 @@ fn is_taken_and_shown_as<T: ViewHash + ViewDebug>(
 #[test]
 fn a_map_feeds_a_hasher_its_entries_and_no_length(rt: HostRuntime) -> Result<(), Fail> {
     let entries = [(1u8, 2u8), (3, 4)];
-    assert!(rt; layout::fits::<u8, u8, 1>());
     let mut writer = VecWriter::new(rt.alloc());
-    let root = ArchivedBTreeMap::<u8, u8, 1>::serialize_from_ordered_iter(
-        rt.alloc(),
-        2,
-        entries.iter().map(|entry| (&entry.0, &entry.1)),
-        &mut writer,
-    )?;
-    let pos = ArchivedBTreeMap::<u8, u8, 1>::write_root(2, root, &mut writer)?;
+    let pos = convert::archive::<u8, u8, _, _, 1>(&rt, rt.alloc(), &entries, &mut writer)?;
+    assert!(rt; layout::fits::<u8, u8, 1>());
     let map = access::<u8, u8, 1>(writer.bytes(), pos).expect(&rt, "a map");
     is_taken_and_shown_as(
         &rt,
