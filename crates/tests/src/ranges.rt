@@ -1,5 +1,6 @@
 //! Ranges, and iterators over keys and over values.
 
+use crate::convert;
 use crate::equal_maps::opened;
 use crate::numbers::{archive, tens};
 use crate::texts::archive_texts;
@@ -42,8 +43,7 @@ fn have_keys<const E: usize>(
 ) -> Result<(), Fail> {
     let mut writer = VecWriter::new(alloc);
     let root = archive::<E>(rt, alloc, entries.len(), entries, &mut writer)?;
-    assert!(rt; layout::fits::<ArchivedU32, ArchivedU32, E>());
-    let map = access::<ArchivedU32, ArchivedU32, E>(writer.bytes(), root).expect(rt, "a map");
+    let map = opened::<E>(rt, writer.bytes(), root);
     for (low, high, keys) in ranges {
         let mut range = map.range_by(*low, *high);
         for key in *keys {
@@ -110,8 +110,7 @@ fn are_those_of_lists<const E: usize>(rt: &impl Abort, alloc: Global) -> Result<
         let entries = tens(alloc, count)?;
         let mut writer = VecWriter::new(alloc);
         let root = archive::<E>(rt, alloc, entries.len(), entries.as_slice(), &mut writer)?;
-        assert!(rt; layout::fits::<ArchivedU32, ArchivedU32, E>());
-        let map = access::<ArchivedU32, ArchivedU32, E>(writer.bytes(), root).expect(rt, "a map");
+        let map = opened::<E>(rt, writer.bytes(), root);
         let mut bounds = Vec::new(alloc);
         bounds.push(Bound::Unbounded)?;
         for at in 0..=count.wrapping_add(1) {
@@ -158,8 +157,7 @@ fn a_list_out_of_order_is_walked(rt: HostRuntime) -> Result<(), Fail> {
     let entries = [(3, 30), (1, 10), (2, 20)];
     let mut writer = VecWriter::new(rt.alloc());
     let root = archive::<5>(&rt, rt.alloc(), 3, &entries, &mut writer)?;
-    assert!(rt; layout::fits::<ArchivedU32, ArchivedU32, 5>());
-    let map = access::<ArchivedU32, ArchivedU32, 5>(writer.bytes(), root).expect(&rt, "a map");
+    let map = opened::<5>(&rt, writer.bytes(), root);
     let mut all = map.iter();
     let mut open = map.range_by(Bound::<u32>::Unbounded, Bound::Unbounded);
     for entry in entries {
@@ -238,21 +236,9 @@ fn ranges_of_characters(rt: HostRuntime) -> Result<(), Fail> {
     for letter in 'a'..='y' {
         entries.push((letter, letter))?;
     }
-    assert!(rt; layout::fits::<ArchivedChar, ArchivedChar, 5>());
     let mut writer = VecWriter::new(rt.alloc());
-    let tree = ArchivedBTreeMap::<ArchivedChar, ArchivedChar, 5>::serialize_from_ordered_iter(
-        rt.alloc(),
-        entries.len(),
-        entries
-            .iter()
-            .map(|entry: &(char, char)| (&entry.0, &entry.1)),
-        &mut writer,
-    )?;
-    let root = ArchivedBTreeMap::<ArchivedChar, ArchivedChar, 5>::write_root(
-        entries.len(),
-        tree,
-        &mut writer,
-    )?;
+    let root = convert::archive::<char, char, _, _, 5>(&rt, rt.alloc(), &entries, &mut writer)?;
+    assert!(rt; layout::fits::<ArchivedChar, ArchivedChar, 5>());
     let map = access::<ArchivedChar, ArchivedChar, 5>(writer.bytes(), root).expect(&rt, "a map");
     assert!(rt;
         map.range_by(Bound::Unbounded, Bound::Excluded('a'))
