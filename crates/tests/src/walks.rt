@@ -4,6 +4,7 @@ ghost use Rattle.rkyv_btree_base.specs.Scalars.{u32_kind};
 ghost use Rattle.rkyv_btree_base.specs.Read.{read_map};
 ghost use Rattle.rkyv_btree.specs.Visit.{first_given};
 
+use crate::convert::archive;
 use rkyv_btree::map::{access, access_valid};
 use rkyv_btree::view::View;
 use rkyv_btree_base::layout;
@@ -72,21 +73,9 @@ fn written_texts_are_read(rt: HostRuntime) -> Result<(), Fail> {
     for text in texts {
         entries.push((String::from_str(rt.alloc(), text)?, text.len() as u64))?;
     }
-    assert!(rt; layout::fits::<ArchivedText, ArchivedU64, 2>());
     let mut writer = VecWriter::new(rt.alloc());
-    let tree = ArchivedBTreeMap::<ArchivedText, ArchivedU64, 2>::serialize_from_ordered_iter(
-        rt.alloc(),
-        entries.len(),
-        entries
-            .iter()
-            .map(|entry: &(String, u64)| (&entry.0, &entry.1)),
-        &mut writer,
-    )?;
-    let root = ArchivedBTreeMap::<ArchivedText, ArchivedU64, 2>::write_root(
-        entries.len(),
-        tree,
-        &mut writer,
-    )?;
+    let root = archive::<String, u64, _, _, 2>(&rt, rt.alloc(), &entries, &mut writer)?;
+    assert!(rt; layout::fits::<ArchivedText, ArchivedU64, 2>());
     let opened = access::<ArchivedText, ArchivedU64, 2>(writer.bytes(), root);
     let mut read = opened.expect(&rt, "a map").iter();
     for text in texts {
