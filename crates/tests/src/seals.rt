@@ -170,13 +170,6 @@ fn values_of_texts_are_edited(rt: HostRuntime) -> Result<(), Fail> {
     Ok(())
 }
 
-/// Writes the bytes of −2 from a position on.
-fn write_minus_two(rt: &impl Abort, bytes: &mut [u8], at: usize) {
-    for (index, byte) in [0xFE, 0xFF, 0xFF, 0xFF].iter().enumerate() {
-        *bytes.get_mut(at.saturating_add(index)).expect(rt, "a byte") = *byte;
-    }
-}
-
 /// The archive of the four texts with −2 as the value at a position, if there is one.
 fn with_minus_two(
     rt: &impl Abort,
@@ -184,11 +177,14 @@ fn with_minus_two(
     before: &[u8],
     at: Option<usize>,
 ) -> Result<Vec<u8>, Fail> {
-    let mut want = before.to_vec(alloc)?;
-    assert_eq!(rt; want.len(), 88);
-    if let Some(at) = at {
-        write_minus_two(rt, &mut want, at);
-    }
+    assert_eq!(rt; before.len(), 88);
+    let Some(at) = at else {
+        return Ok(before.to_vec(alloc)?);
+    };
+    let mut want = before.get(..at).expect(rt, "a value").to_vec(alloc)?;
+    want.extend_from_slice(&[0xFE, 0xFF, 0xFF, 0xFF])?;
+    let end = at.saturating_add(4);
+    want.extend_from_slice(before.get(end..).expect(rt, "a value's end"))?;
     Ok(want)
 }
 
