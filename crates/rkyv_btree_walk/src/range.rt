@@ -1,16 +1,18 @@
 //! Walks between two bounds: where they begin, and the entry before which they stop.
-ghost use Rattle.std.specs.Prelude.{◌≡◌, ℕ, ◌+◌, ◌≤◌, [], length, IfSome, IsTrue, None, Some, false};
+ghost use Rattle.std.specs.Prelude.{◌≡◌, ℕ, ◌+◌, ◌≤◌, ◌<◌, [], length, IfSome, IsTrue, None, Some, false};
 ghost use Rattle.std.specs.Range.Bound.{bound_map};
 ghost use Rattle.std.specs.declared.cmp.Ordering.{Ordering as Answer};
 ghost use Rattle.std.specs.declared.ops.Bound.TheVariants.{Unbounded};
+ghost use Rattle.rkyv_btree_base.specs.Bytes.{place_at};
 ghost use Rattle.rkyv_btree_base.specs.Layout.{layout_of, are_fitting};
+ghost use Rattle.rkyv_btree_base.specs.Map.{map_kind};
 ghost use Rattle.rkyv_btree_base.specs.Read.{map_tree, read_map};
 ghost use Rattle.rkyv_btree_base.specs.Tree.{list};
 ghost use Rattle.rkyv_btree_base.specs.Views.{stands};
 ghost use Rattle.rkyv_btree_walk.specs.Bounds.{IsRun, IsWithin, ByBounds};
 ghost use Rattle.rkyv_btree_walk.specs.Search.{ComparesBy, shown};
 ghost use Rattle.rkyv_btree_walk.specs.mirror.Below.{root_place, PartBelow, PathStaysBelow, StepStaysBelow};
-ghost use Rattle.rkyv_btree_walk.specs.mirror.Node.{TreeStands, RunStands};
+ghost use Rattle.rkyv_btree_walk.specs.mirror.Node.{natural, TreeStands, RunStands};
 ghost use Rattle.rkyv_btree_walk.specs.mirror.Path.{path_rest, IsPath, LeafStands, StepStands};
 ghost use Rattle.rkyv_btree_walk.specs.mirror.Range.{reached_at, from_at, past_at, IsKept, IsEnd, IsFound, IsMiddle, first_of, first_passes, is_stop as stops_at, take_before, range_rest, tree_list, part_rest, part_range, read_range, PartStands, StepsBefore};
 
@@ -346,6 +348,22 @@ fn between_in<
     (Part { node, next, end }, stop)
 }
 
+/// Where the root of a map with entries stands, and a tree with it.
+#[inline(always)]
+fn tree_root<K: Portable, V: Portable, M: ArchivedMap<Key = K, Mapped = V>>(
+    buf: &[u8],
+    pos: u32,
+) -> u32
+    requires stands { IsTrue (stands (map_kind K.kind V.kind M.E) buf.now pos) }
+    requires some { 0 < length (read_map K.kind V.kind M.E buf.now pos) }
+    ensures fitting { IsTrue (are_fitting K.kind V.kind M.E) }
+    ensures short { length buf.now ≤ 4294967295 }
+    ensures tree { TreeStands K.kind V.kind M.E buf.now 32 result }
+    ensures root { natural (Some (place_at buf.now pos)) ≡ Some result }
+{
+    root(buf, pos)
+}
+
 /// Begins a walk between the bounds, of the map at `pos` with an empty path. Where its keys are ordered for both queries,
 /// it goes along all entries within them; else along some that stand one behind the other.
 pub fn between<
@@ -384,7 +402,8 @@ pub fn between<
 {
     M::opened(buf, pos);
     if map_len::<K, V, M>(buf, pos) > 0 {
-        return between_in::<Q, K, V, M, W, C>(buf, root(buf, pos), low, high, cmp, path);
+        let start = tree_root::<K, V, M>(buf, pos);
+        return between_in::<Q, K, V, M, W, C>(buf, start, low, high, cmp, path);
     }
     (nothing(), None)
 }

@@ -1,56 +1,38 @@
--- A map that stands has a root where it has entries; and what the places of a range mean is a range of what all mean.
-use Rattle.std.proofs.Common.{◌≤◌, [], ◌∙◌, length, refl, ap, map, arith, rules}
+-- What the places of a range mean is a range of what all mean.
+use Rattle.std.proofs.Common.{[], ◌∙◌, refl, ap, map}
 use Rattle.std.specs.Range.Bound.{bound_map}
 use Rattle.rkyv_btree_base.specs.Layout.{layout_of}
 use Rattle.rkyv_btree_base.specs.Read.{entry_at, map_tree, read_map}
 use Rattle.rkyv_btree_base.specs.Tree.{list}
-use Rattle.rkyv_btree_base.proofs.MapLaws.{map_room, map_short}
-use Rattle.rkyv_btree_walk.specs.mirror.Node.{TreeStands}
 use Rattle.rkyv_btree_walk.proofs.Below.{root_placed}
 use Rattle.rkyv_btree_walk.proofs.Ranges.{from_rises, past_rises, within_means, run_means}
-use Rattle.rkyv_btree_walk.proofs.Roots.{root_leads, root_stands, root_list}
+use Rattle.rkyv_btree_walk.proofs.Roots.{root_list}
 use Rattle.rkyv_btree_walk.proofs.range.between.Goals as goal
-
-pub root-requires-clause-inside : goal.root-requires-clause-inside
-root-requires-clause-inside g c =
-    let room = map_room _ _ _ g.met.K.Portable.laws g.met.V.Portable.laws _ _ c.opened.ensures in
-    omega arith
-
-pub root-requires-clause-leads : goal.root-requires-clause-leads
-root-requires-clause-leads g c =
-    root_leads _ _ _ g.met.K.Portable.laws g.met.V.Portable.laws _ _ c.opened.ensures (rw c.map_len.ensures at c.if-map_len-gt0.true)
-
-pub between_in-requires : goal.between_in-requires
-between_in-requires g c κs =
-    let short : length c.args.buf.now ≤ 4294967295 = map_short _ _ _ g.met.K.Portable.laws g.met.V.Portable.laws _ _ c.opened.ensures in
-    let tree : TreeStands g.K.Portable.kind g.V.Portable.kind g.M.ArchivedMap.E c.args.buf.now 32 c.root.result =
-    root_stands _ _ _ g.met.K.Portable.laws g.met.V.Portable.laws _ _ c.opened.ensures (rw c.map_len.ensures at c.if-map_len-gt0.true) c.root.result c.root.ensures in
-    search rules
 
 pub returns-then-map_len-gt0-clause-run : goal.returns-then-map_len-gt0-clause-run
 returns-then-map_len-gt0-clause-run g c =
     let K = g.K.Portable.kind in let V = g.V.Portable.kind in let E = g.M.ArchivedMap.E in
     let b = c.args.buf.now in
-    let all = root_list K V E g.met.K.Portable.laws g.met.V.Portable.laws b _ c.opened.ensures (rw c.map_len.ensures at c.if-map_len-gt0.true) c.root.result c.root.ensures in
+    let all = root_list K V E g.met.K.Portable.laws g.met.V.Portable.laws b _ c.opened.ensures (rw c.map_len.ensures at c.if-map_len-gt0.true) c.tree_root-start.result c.tree_root-start.ensures.root in
     run_means (entry_at K V E b) _ (list (map_tree (layout_of K V E) b c.args.pos)) (rw all at c.between_in.ensures.run)
 
 pub returns-then-map_len-gt0-clause-places : goal.returns-then-map_len-gt0-clause-places
 returns-then-map_len-gt0-clause-places g c =
-    let all = root_list g.K.Portable.kind g.V.Portable.kind g.M.ArchivedMap.E g.met.K.Portable.laws g.met.V.Portable.laws c.args.buf.now _ c.opened.ensures (rw c.map_len.ensures at c.if-map_len-gt0.true) c.root.result c.root.ensures in
+    let all = root_list g.K.Portable.kind g.V.Portable.kind g.M.ArchivedMap.E g.met.K.Portable.laws g.met.V.Portable.laws c.args.buf.now _ c.opened.ensures (rw c.map_len.ensures at c.if-map_len-gt0.true) c.tree_root-start.result c.tree_root-start.ensures.root in
     rw all at c.between_in.ensures.run
 
 pub returns-then-map_len-gt0-clause-whole : goal.returns-then-map_len-gt0-clause-whole
 returns-then-map_len-gt0-clause-whole g c low high =
     let K = g.K.Portable.kind in let V = g.V.Portable.kind in let E = g.M.ArchivedMap.E in
     let b = c.args.buf.now in
-    let all = root_list K V E g.met.K.Portable.laws g.met.V.Portable.laws b _ c.opened.ensures (rw c.map_len.ensures at c.if-map_len-gt0.true) c.root.result c.root.ensures in
+    let all = root_list K V E g.met.K.Portable.laws g.met.V.Portable.laws b _ c.opened.ensures (rw c.map_len.ensures at c.if-map_len-gt0.true) c.tree_root-start.result c.tree_root-start.ensures.root in
     ap (map (entry_at K V E b)) (c.between_in.ensures.whole low high ∙ all)
 
 pub returns-then-map_len-gt0-clause-within : goal.returns-then-map_len-gt0-clause-within
 returns-then-map_len-gt0-clause-within g c f p low high =
     let K = g.K.Portable.kind in let V = g.V.Portable.kind in let E = g.M.ArchivedMap.E in
     let b = c.args.buf.now in
-    let all = root_list K V E g.met.K.Portable.laws g.met.V.Portable.laws b _ c.opened.ensures (rw c.map_len.ensures at c.if-map_len-gt0.true) c.root.result c.root.ensures in
+    let all = root_list K V E g.met.K.Portable.laws g.met.V.Portable.laws b _ c.opened.ensures (rw c.map_len.ensures at c.if-map_len-gt0.true) c.tree_root-start.result c.tree_root-start.ensures.root in
     let means = entry_at K V E b in
     let places = list (map_tree (layout_of K V E) b c.args.pos) in
     let from = bound_map (λ q. f q.now) c.args.low in
@@ -60,7 +42,7 @@ returns-then-map_len-gt0-clause-within g c f p low high =
 
 pub returns-then-map_len-gt0-clause-below : goal.returns-then-map_len-gt0-clause-below
 returns-then-map_len-gt0-clause-below g c =
-    rw (root_placed _ _ _ g.met.K.Portable.laws g.met.V.Portable.laws _ _ c.opened.ensures (rw c.map_len.ensures at c.if-map_len-gt0.true) c.root.result c.root.ensures) c.between_in.ensures.below
+    rw (root_placed _ _ _ g.met.K.Portable.laws g.met.V.Portable.laws _ _ c.opened.ensures (rw c.map_len.ensures at c.if-map_len-gt0.true) c.tree_root-start.result c.tree_root-start.ensures.root) c.between_in.ensures.below
 
 pub returns-clause-run : goal.returns-clause-run
 returns-clause-run g c =
