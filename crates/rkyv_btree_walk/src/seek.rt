@@ -1,11 +1,12 @@
 //! Ways down to the first entry of a tree that reaches a query, beside which a range begins or stops.
-ghost use Rattle.std.specs.Prelude.{◌≡◌, ℕ, ◌≤◌, [], length, IsTrue, Some};
+ghost use Rattle.std.specs.Prelude.{◌≡◌, ℕ, ◌+◌, ◌≤◌, [], length, IsTrue, Some, true, false};
 ghost use Rattle.std.specs.declared.cmp.Ordering.{Ordering as Answer};
-ghost use Rattle.rkyv_btree_base.specs.Layout.{layout_of, are_fitting};
+ghost use Rattle.rkyv_btree_base.specs.Bytes.{number_at};
+ghost use Rattle.rkyv_btree_base.specs.Layout.{layout_of, len_at, are_fitting};
 ghost use Rattle.rkyv_btree_base.specs.Views.{stands};
 ghost use Rattle.rkyv_btree_walk.specs.Search.{ComparesBy, shown};
 ghost use Rattle.rkyv_btree_walk.specs.mirror.Below.{PartBelow};
-ghost use Rattle.rkyv_btree_walk.specs.mirror.Node.{TreeStands, RunStands};
+ghost use Rattle.rkyv_btree_walk.specs.mirror.Node.{is_leaf as is_leaf_at, NodeStands, TreeStands, RunStands};
 ghost use Rattle.rkyv_btree_walk.specs.mirror.Path.{IsPath};
 ghost use Rattle.rkyv_btree_walk.specs.mirror.Range.{is_reached, reached_at, IsFirst, IsKept, IsEnd, tree_list, part_rest, PartStands};
 
@@ -78,6 +79,38 @@ fn seek_node<
     count
 }
 
+/// The number of entries in the leaf at `node`, all of which stand.
+#[inline(always)]
+fn leaf_end<K: Portable, V: Portable, M: ArchivedMap<Key = K, Mapped = V>>(
+    buf: &[u8],
+    node: u32,
+) -> u32
+    requires fitting { IsTrue (are_fitting K.kind V.kind M.E) }
+    requires short { length buf.now ≤ 4294967295 }
+    requires node { NodeStands K.kind V.kind M.E buf.now node }
+    requires leaf { is_leaf_at (layout_of K.kind V.kind M.E) buf.now node ≡ true }
+    ensures count { result ≡ number_at buf.now (node + len_at (layout_of K.kind V.kind M.E)) 4 }
+    ensures stands { RunStands K.kind V.kind M.E buf.now node 0 result }
+{
+    leaf_count::<K, V, M>(buf, node)
+}
+
+/// The number of entries in the inner node at `_node`, all of which stand.
+#[inline(always)]
+fn inner_end<K: Portable, V: Portable, M: ArchivedMap<Key = K, Mapped = V>>(
+    _buf: &[u8],
+    _node: u32,
+) -> u32
+    requires fitting { IsTrue (are_fitting K.kind V.kind M.E) }
+    requires node { NodeStands K.kind V.kind M.E _buf.now _node }
+    requires inner { is_leaf_at (layout_of K.kind V.kind M.E) _buf.now _node ≡ false }
+    ensures count { result ≡ M.E }
+    ensures stands { RunStands K.kind V.kind M.E _buf.now _node 0 result }
+{
+    let count = M::entries_per_node() as u32;
+    count
+}
+
 /// Goes down from the node at `root` beside the first entry whose key reaches the query, and puts the inner nodes met on
 /// the empty path: left are that entry and all behind it, where the keys are ordered for the query.
 pub(crate) fn seek<
@@ -109,11 +142,11 @@ pub(crate) fn seek<
     let mut node = root;
     'down: loop {
         if is_leaf::<K, V, M>(buf, node) {
-            let end = leaf_count::<K, V, M>(buf, node);
+            let end = leaf_end::<K, V, M>(buf, node);
             let next = seek_node::<Q, K, V, M, W, C>(buf, node, end, key, cmp, past);
             return Part { node, next, end };
         }
-        let count = M::entries_per_node() as u32;
+        let count = inner_end::<K, V, M>(buf, node);
         let next = seek_node::<Q, K, V, M, W, C>(buf, node, count, key, cmp, past);
         path.push((node, next));
         match child::<K, V, M>(buf, node, next as usize) {

@@ -1,13 +1,11 @@
 -- Each node that is met stands, and the way goes on beside its first entry that reaches the query.
-use Rattle.std.proofs.Common.{◌≡◌, ◌+◌, ◌-◌, ◌≤◌, [], ◌∙◌, length, refl, sym, arith, rules, true, false, Some}
+use Rattle.std.proofs.Common.{◌≡◌, ◌+◌, ◌-◌, ◌≤◌, [], ◌∙◌, length, refl, sym, arith, Some}
 use Rattle.std.proofs.lemmas.List.{append-nil}
 use Rattle.rkyv_btree_base.specs.Layout.{layout_of}
-use Rattle.rkyv_btree_base.proofs.Sizes.{room_of}
-use Rattle.rkyv_btree_walk.specs.mirror.Node.{RunStands, is_leaf, entry_count}
 use Rattle.rkyv_btree_walk.proofs.Below.{put_below}
 use Rattle.rkyv_btree_walk.proofs.Nodes.{tree_node, child_before}
-use Rattle.rkyv_btree_walk.proofs.Paths.{put_short, put_path, put_child, leaf_run}
-use Rattle.rkyv_btree_walk.proofs.Searches.{node_run, leaf_counted, inner_counted}
+use Rattle.rkyv_btree_walk.proofs.Paths.{put_short, put_path, put_child}
+use Rattle.rkyv_btree_walk.proofs.Searches.{leaf_counted, inner_counted}
 use Rattle.rkyv_btree_walk.proofs.Seeks.{kept_behind, leaves_leaf, leaves_absent, leaves_child}
 use Rattle.rkyv_btree_walk.proofs.seek.seek.Goals as goal
 
@@ -17,51 +15,34 @@ down-init g c = rw c.requires.empty (record { path = tt; tree = c.requires.tree;
 pub is_leaf-requires-clause-node : goal.is_leaf-requires-clause-node
 is_leaf-requires-clause-node g c = tree_node _ _ _ _ _ c.down.node c.down.invariant.tree
 
-pub leaf_count-end-requires-clause-node : goal.leaf_count-end-requires-clause-node
-leaf_count-end-requires-clause-node g c = tree_node _ _ _ _ _ c.down.node c.down.invariant.tree
-
-pub seek_node-next-requires : goal.seek_node-next-requires
-seek_node-next-requires g c κs =
-    let stands : RunStands g.K.Portable.kind g.V.Portable.kind g.M.ArchivedMap.E c.args.buf.now c.down.node 0 c.leaf_count-end.result =
-    rw c.leaf_count-end.ensures (leaf_run _ _ _ _ c.down.node (tree_node _ _ _ _ _ c.down.node c.down.invariant.tree) (sym c.is_leaf.ensures ∙ c.if-is_leaf.true)) in
-    search rules
+pub leaf_end-end-requires-clause-node : goal.leaf_end-end-requires-clause-node
+leaf_end-end-requires-clause-node g c = tree_node _ _ _ _ _ c.down.node c.down.invariant.tree
 
 pub returns-then-is_leaf-clause-path : goal.returns-then-is_leaf-clause-path
 returns-then-is_leaf-clause-path g c = c.down.invariant.path
 
 pub returns-then-is_leaf-clause-stands : goal.returns-then-is_leaf-clause-stands
-returns-then-is_leaf-clause-stands g c =
-    λ j low high. leaf_run _ _ _ _ c.down.node (tree_node _ _ _ _ _ c.down.node c.down.invariant.tree) (sym c.is_leaf.ensures ∙ c.if-is_leaf.true) j (omega arith) (rw (← c.leaf_count-end.ensures) high)
+returns-then-is_leaf-clause-stands g c = λ j low high. c.leaf_end-end.ensures.stands j (omega arith) high
 
 pub returns-then-is_leaf-clause-run : goal.returns-then-is_leaf-clause-run
 returns-then-is_leaf-clause-run g c =
     let leaf = sym c.is_leaf.ensures ∙ c.if-is_leaf.true in
-    let counted = leaf_counted (layout_of g.K.Portable.kind g.V.Portable.kind g.M.ArchivedMap.E) c.args.buf.now c.down.node leaf c.leaf_count-end.ensures in
+    let counted = leaf_counted (layout_of g.K.Portable.kind g.V.Portable.kind g.M.ArchivedMap.E) c.args.buf.now c.down.node leaf c.leaf_end-end.ensures.count in
     let inv = c.down.invariant in
-    let leaves = leaves_leaf _ _ _ _ c.down.node _ _ c.down.path.items _ inv.skipped inv.path inv.tree counted c.seek_node-next.ensures.within inv.run leaf _ c.leaf_count-end.ensures in
+    let leaves = leaves_leaf _ _ _ _ c.down.node _ _ c.down.path.items _ inv.skipped inv.path inv.tree counted c.seek_node-next.ensures.within inv.run leaf _ c.leaf_end-end.ensures.count in
     (leaves.0, leaves.1)
 
 pub returns-then-is_leaf-clause-from : goal.returns-then-is_leaf-clause-from
 returns-then-is_leaf-clause-from g c f p rises =
     let leaf = sym c.is_leaf.ensures ∙ c.if-is_leaf.true in
-    let counted = leaf_counted (layout_of g.K.Portable.kind g.V.Portable.kind g.M.ArchivedMap.E) c.args.buf.now c.down.node leaf c.leaf_count-end.ensures in
+    let counted = leaf_counted (layout_of g.K.Portable.kind g.V.Portable.kind g.M.ArchivedMap.E) c.args.buf.now c.down.node leaf c.leaf_end-end.ensures.count in
     let inv = c.down.invariant in
-    let leaves = leaves_leaf _ _ _ _ c.down.node _ _ c.down.path.items _ inv.skipped inv.path inv.tree counted c.seek_node-next.ensures.within inv.run leaf _ c.leaf_count-end.ensures in
+    let leaves = leaves_leaf _ _ _ _ c.down.node _ _ c.down.path.items _ inv.skipped inv.path inv.tree counted c.seek_node-next.ensures.within inv.run leaf _ c.leaf_end-end.ensures.count in
     let pass = leaves.2 _ rises (c.seek_node-next.ensures.first f p) (inv.from f p rises) in
     kept_behind _ _ leaves.0 _ leaves.1 pass.0 pass.1
 
-pub overflow_cast-count : goal.overflow_cast-count
-overflow_cast-count g c =
-    let room = room_of _ _ _ g.met.K.Portable.laws g.met.V.Portable.laws c.requires.fitting in
-    omega (arith, room.entries)
-
-pub seek_node-next-requires-in-down : goal.seek_node-next-requires-in-down
-seek_node-next-requires-in-down g c κs =
-    let inner = sym c.is_leaf.ensures ∙ c.if-is_leaf.false in
-    let counted = inner_counted (layout_of g.K.Portable.kind g.V.Portable.kind g.M.ArchivedMap.E) c.args.buf.now c.down.node inner c.entries_per_node-count.ensures in
-    let stands : RunStands g.K.Portable.kind g.V.Portable.kind g.M.ArchivedMap.E c.args.buf.now c.down.node 0 c.entries_per_node-count.result =
-    rw counted (node_run _ _ _ _ c.down.node (tree_node _ _ _ _ _ c.down.node c.down.invariant.tree)) in
-    search rules
+pub inner_end-count-requires-clause-node : goal.inner_end-count-requires-clause-node
+inner_end-count-requires-clause-node g c = tree_node _ _ _ _ _ c.down.node c.down.invariant.tree
 
 pub push-requires : goal.push-requires
 push-requires g c =
@@ -74,13 +55,13 @@ child-requires-clause-node g c = tree_node _ _ _ _ _ c.down.node c.down.invarian
 pub returns-in-None-clause-path : goal.returns-in-None-clause-path
 returns-in-None-clause-path g c =
     let inner = sym c.is_leaf.ensures ∙ c.if-is_leaf.false in
-    let low : c.seek_node-next-in-down.result ≤ g.M.ArchivedMap.E = rw c.entries_per_node-count.ensures at c.seek_node-next-in-down.ensures.within in
+    let low : c.seek_node-next-in-down.result ≤ g.M.ArchivedMap.E = rw c.inner_end-count.ensures.count at c.seek_node-next-in-down.ensures.within in
     rw c.push.ensures.items (put_path _ _ _ _ 32 _ _ c.down.path.items c.down.invariant.path c.down.invariant.tree inner low)
 
 pub returns-in-None-clause-run : goal.returns-in-None-clause-run
 returns-in-None-clause-run g c =
     let inner = sym c.is_leaf.ensures ∙ c.if-is_leaf.false in
-    let counted = inner_counted (layout_of g.K.Portable.kind g.V.Portable.kind g.M.ArchivedMap.E) c.args.buf.now c.down.node inner c.entries_per_node-count.ensures in
+    let counted = inner_counted (layout_of g.K.Portable.kind g.V.Portable.kind g.M.ArchivedMap.E) c.args.buf.now c.down.node inner c.inner_end-count.ensures.count in
     let inv = c.down.invariant in
     let none = sym c.child.ensures ∙ c.in-None.is in
     let leaves = leaves_absent _ _ _ _ c.down.node _ _ c.down.path.items _ inv.skipped inv.path inv.tree counted c.seek_node-next-in-down.ensures.within inv.run none _ c.push.ensures.items in
@@ -89,7 +70,7 @@ returns-in-None-clause-run g c =
 pub returns-in-None-clause-from : goal.returns-in-None-clause-from
 returns-in-None-clause-from g c f p rises =
     let inner = sym c.is_leaf.ensures ∙ c.if-is_leaf.false in
-    let counted = inner_counted (layout_of g.K.Portable.kind g.V.Portable.kind g.M.ArchivedMap.E) c.args.buf.now c.down.node inner c.entries_per_node-count.ensures in
+    let counted = inner_counted (layout_of g.K.Portable.kind g.V.Portable.kind g.M.ArchivedMap.E) c.args.buf.now c.down.node inner c.inner_end-count.ensures.count in
     let inv = c.down.invariant in
     let none = sym c.child.ensures ∙ c.in-None.is in
     let leaves = leaves_absent _ _ _ _ c.down.node _ _ c.down.path.items _ inv.skipped inv.path inv.tree counted c.seek_node-next-in-down.ensures.within inv.run none _ c.push.ensures.items in
@@ -100,7 +81,7 @@ pub returns-in-None-clause-below : goal.returns-in-None-clause-below
 returns-in-None-clause-below g c =
     let s = layout_of g.K.Portable.kind g.V.Portable.kind g.M.ArchivedMap.E in
     let inner = sym c.is_leaf.ensures ∙ c.if-is_leaf.false in
-    let low : c.seek_node-next-in-down.result ≤ g.M.ArchivedMap.E = rw c.entries_per_node-count.ensures at c.seek_node-next-in-down.ensures.within in
+    let low : c.seek_node-next-in-down.result ≤ g.M.ArchivedMap.E = rw c.inner_end-count.ensures.count at c.seek_node-next-in-down.ensures.within in
     let way = c.down.invariant.below in
     let put = put_below s c.args.buf.now (Some c.args.root) c.down.node _ c.down.path.items c.push.new.self.items c.push.ensures.items way.0 way.1 inner low c.push.ensures.len in
     (λ less. absurd (omega arith), put.0)
@@ -108,7 +89,7 @@ returns-in-None-clause-below g c =
 pub down-smaller : goal.down-smaller
 down-smaller g c =
     let node = tree_node _ _ _ _ _ c.down.node c.down.invariant.tree in
-    let low : c.seek_node-next-in-down.result ≤ g.M.ArchivedMap.E = rw c.entries_per_node-count.ensures at c.seek_node-next-in-down.ensures.within in
+    let low : c.seek_node-next-in-down.result ≤ g.M.ArchivedMap.E = rw c.inner_end-count.ensures.count at c.seek_node-next-in-down.ensures.within in
     child_before _ _ _ _ c.down.node node _ c.in-Some.below low (sym c.child.ensures ∙ c.in-Some.is)
 
 pub down-preserved : goal.down-preserved
@@ -119,9 +100,9 @@ down-preserved g c =
     let within = c.seek_node-next-in-down.ensures.within in
     let s = layout_of g.K.Portable.kind g.V.Portable.kind g.M.ArchivedMap.E in
     let inner = sym c.is_leaf.ensures ∙ c.if-is_leaf.false in
-    let counted = inner_counted s c.args.buf.now c.down.node inner c.entries_per_node-count.ensures in
+    let counted = inner_counted s c.args.buf.now c.down.node inner c.inner_end-count.ensures.count in
     let inv = c.down.invariant in
-    let low : j ≤ E = rw c.entries_per_node-count.ensures at within in
+    let low : j ≤ E = rw c.inner_end-count.ensures.count at within in
     let levels = 32 - length c.push.new.self.items in
     let less : levels ≡ 32 - (length c.down.path.items + 1) = omega (arith, c.push.ensures.len) in
     let some = sym c.child.ensures ∙ c.in-Some.is in
