@@ -107,8 +107,7 @@ fn inner_end<K: Portable, V: Portable, M: ArchivedMap<Key = K, Mapped = V>>(
     ensures count { result ≡ M.E }
     ensures stands { RunStands K.kind V.kind M.E _buf.now _node 0 result }
 {
-    let count = M::entries_per_node() as u32;
-    count
+    M::entries_per_node() as u32
 }
 
 /// Goes down from the node at `root` beside the first entry whose key reaches the query, and puts the inner nodes met on
