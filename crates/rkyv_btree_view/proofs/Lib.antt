@@ -1,4 +1,5 @@
 -- The lemmas of views.
+pub mod Agreed
 pub mod Bounds
 pub mod Drained
 pub mod Lookups
