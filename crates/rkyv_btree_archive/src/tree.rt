@@ -159,6 +159,16 @@ where
     Ok(root)
 }
 
+/// Does nothing. Its contract says that the entries which wait for the nodes below a child, of fewer entries than the
+/// parent's base allows, and the parent's own find room together where those of the whole parent do.
+fn child_is_lower<const E: usize>(len: usize, child_len: usize, base: usize)
+    requires some { 1 ≤ E }
+    requires more { E < len }
+    requires base { base ≡ (E + 1) ^ (ilog (E + 1) len - 1) }
+    requires small { child_len < base * (E + 1) }
+    ensures room { E * ilog (E + 1) child_len + E ≤ E * ilog (E + 1) len }
+{}
+
 /// Writes the tree of these entries with what they write, and answers where its root node stands; nothing for no
 /// entries. `waiting` and `children` have room for what waits on each level until a node's children are written.
 pub(crate) fn write_child<'x, KU, VU, K, V, W, A, const E: usize>(
@@ -209,26 +219,20 @@ where
     while left > 0 {
         let taken = taken_by_child::<E>(on_last, base);
         let end = start + (base - 1 + taken);
+        let part = &items[start..end];
+        child_is_lower::<E>(items.len(), part.len(), base);
         let child = write_child::<KU, VU, K, V, W, A, E>(
-            alloc,
-            scratch,
-            waiting,
-            children,
-            &items[start..end],
-            writer,
+            alloc, scratch, waiting, children, part, writer,
         )?;
         wait(waiting, children, child, items[end]);
         start = end + 1;
         on_last -= taken;
         left -= 1;
     }
+    let part = &items[start..];
+    child_is_lower::<E>(items.len(), part.len(), base);
     let last = write_child::<KU, VU, K, V, W, A, E>(
-        alloc,
-        scratch,
-        waiting,
-        children,
-        &items[start..],
-        writer,
+        alloc, scratch, waiting, children, part, writer,
     )?;
     let root = write_above::<KU, VU, K, V, W, A, E>(
         alloc,

@@ -1,14 +1,13 @@
-use Rattle.std.proofs.Common.{◌≡◌, ◌+◌, ◌*◌, ◌-◌, ◌≤◌, ◌<◌, ◌∙◌, [], ◌∷◌, ◌++◌, length, map, drop, take, arith, Some, ap, sym, subst}
-use Rattle.std.proofs.lemmas.List.{length-take, length-drop, map_push}
+use Rattle.std.proofs.Common.{◌≡◌, ◌+◌, ◌*◌, ◌-◌, ◌≤◌, ◌<◌, ◌∙◌, [], ◌∷◌, ◌++◌, length, map, drop, arith, Some, ap, sym, subst}
+use Rattle.std.proofs.lemmas.List.{map_push}
 use Rattle.std.proofs.lemmas.Result.{err_from_is_err_and}
-use mathlib.Core.List.{not-mem-nil}
 use Rattle.rkyv_btree_format.specs.Layout.{layout_of}
 use Rattle.rkyv_btree_shape.specs.Plan.{planned_alone}
 use Rattle.rkyv_btree_image.specs.Entries.{now_of}
 use Rattle.rkyv_btree_image.specs.Written.{ChildWritten, ChildStopped}
 use Rattle.rkyv_btree_format.proofs.Sizes.{room_of}
 use Rattle.rkyv_btree_shape.proofs.Alone.{alone_inner, waiting}
-use Rattle.rkyv_btree_shape.proofs.Rows.{turn-inside, turn-rest, drop-push, take-push, length-pushed, child_small, less_on_last, some_item, last_rest, last_fits}
+use Rattle.rkyv_btree_shape.proofs.Rows.{turn-inside, turn-rest, drop-push, take-push, length-pushed, child_small, less_on_last, some_item}
 use Rattle.rkyv_btree_image.proofs.RowsWritten.{row-more, row-stopped, last-stopped, inner-stopped, inner-written, turn-so-far, last-so-far, so-far-as}
 use Rattle.rkyv_btree_archive.proofs.tree.+write_child.Goals as goal
 
@@ -181,129 +180,3 @@ wait-requires-clause-waiting_room g t c =
     let size_is : size ≡ (base - 1) + took = omega arith in
     let wait = waiting E (length items) size base room.some c.in-Some.ensures.more c.in-Some.ensures.value (subst (λ n. n < base * (E + 1)) (sym size_is) (child_small base E c.loop-left.on_last took c.taken_by_child-taken.ensures c.in-Some.ensures.positive)) in
     omega (arith, wait, before.waiting_count, before.left, before.waiting_room, c.requires.waiting_room, ap length c.in_ok-child.ensures.kept.0, c.in_ok-child.ensures.room.0, c.loop-left-test.true)
-
-pub write_child-requires : goal.write_child-requires
-write_child-requires g t c κs within =
-    let E = g.row.E in
-    let items = c.args.items.now in
-    let room = room_of _ _ g.row.E g.met.K.Portable.laws g.met.V.Portable.laws c.requires.fitting in
-    let base = c.in-Some.base in
-    let start = c.loop-left.start in
-    let before = c.loop-left.invariant in
-    let took = c.taken_by_child-taken.result in
-    let end = start + (base - 1 + took) in
-    let size = end - start in
-    let few : took ≤ c.loop-left.on_last = omega (arith, c.taken_by_child-taken.ensures) in
-    let inside : end < length items = turn-inside (length items) start c.loop-left.left base c.loop-left.on_last took before.rest c.loop-left-test.true c.in-Some.ensures.positive few in
-    let size_is : size ≡ (base - 1) + took = omega arith in
-    let part = take size (drop start items) in
-    let len : length part ≡ (base - 1) + took = omega (arith, length-take size (drop start items), length-drop start items, inside, size_is) in
-    let small : length part < base * (E + 1) = subst (λ n. n < base * (E + 1)) (sym len) (child_small base E c.loop-left.on_last took c.taken_by_child-taken.ensures c.in-Some.ensures.positive) in
-    let wait = waiting E (length items) (length part) base room.some c.in-Some.ensures.more c.in-Some.ensures.value small in (
-      omega (arith, len, inside),
-      (
-        within.0,
-        (
-          within.1.0,
-          (
-            within.1.1.0,
-            (
-              within.1.1.1.0,
-              (
-                within.1.1.1.1.0,
-                (
-                  within.1.1.1.1.1.0,
-                  (
-                    λ a m. absurd (not-mem-nil m),
-                    (
-                      within.1.1.1.1.1.1.0,
-                      (
-                        within.1.1.1.1.1.1.1.0,
-                        (
-                          within.1.1.1.1.1.1.1.1,
-                          (
-                            c.requires.fitting,
-                            (
-                              omega (arith, len, inside, c.requires.count),
-                              (
-                                before.free,
-                                (
-                                  omega (arith, wait, before.waiting_count, before.waiting_room, c.requires.waiting_room, c.loop-left-test.true),
-                                  omega (arith, wait, before.child_count, before.child_room, c.requires.child_room, c.loop-left-test.true),
-                                ),
-                              ),
-                            ),
-                          ),
-                        ),
-                      ),
-                    ),
-                  ),
-                ),
-              ),
-            ),
-          ),
-        ),
-      ),
-    )
-
-pub write_child-requires-2 : goal.write_child-requires-2
-write_child-requires-2 g t c κs within =
-    let E = g.row.E in
-    let items = c.args.items.now in
-    let room = room_of _ _ g.row.E g.met.K.Portable.laws g.met.V.Portable.laws c.requires.fitting in
-    let base = c.in-Some.base in
-    let start = c.loop-left.start in
-    let before = c.loop-left.invariant in
-    let part = take (length items - start) (drop start items) in
-    let rest : length items + 1 ≡ start + ((0 + 1) * base + c.loop-left.on_last) = last_rest c.loop-left.left start (length items) base c.loop-left.on_last c.loop-left-test.false before.rest in
-    let fits : c.loop-left.on_last ≤ E * base = last_fits c.loop-left.left c.loop-left.on_last (E * base) c.loop-left-test.false before.on_last in
-    let len : length part ≡ length items - start = omega (arith, length-take (length items - start) (drop start items), length-drop start items) in
-    let many : E < length items = c.in-Some.ensures.more in
-    let passed : 0 < start = omega (arith, before.passed, c.loop-left-test.false, room.some) in
-    let small : length part < base * (E + 1) = omega (arith, len, rest, fits, c.in-Some.ensures.positive) in
-    let wait = waiting E (length items) (length part) base room.some many c.in-Some.ensures.value small in (
-      omega (arith, len, passed, many),
-      (
-        within.0,
-        (
-          within.1.0,
-          (
-            within.1.1.0,
-            (
-              within.1.1.1.0,
-              (
-                within.1.1.1.1.0,
-                (
-                  within.1.1.1.1.1.0,
-                  (
-                    λ a m. absurd (not-mem-nil m),
-                    (
-                      within.1.1.1.1.1.1.0,
-                      (
-                        within.1.1.1.1.1.1.1.0,
-                        (
-                          within.1.1.1.1.1.1.1.1,
-                          (
-                            c.requires.fitting,
-                            (
-                              omega (arith, len, passed, c.requires.count),
-                              (
-                                before.free,
-                                (
-                                  omega (arith, wait, before.waiting_count, before.waiting_room, c.requires.waiting_room, c.loop-left-test.false),
-                                  omega (arith, wait, before.child_count, before.child_room, c.requires.child_room, c.loop-left-test.false),
-                                ),
-                              ),
-                            ),
-                          ),
-                        ),
-                      ),
-                    ),
-                  ),
-                ),
-              ),
-            ),
-          ),
-        ),
-      ),
-    )
