@@ -1,5 +1,5 @@
 //! Building archived maps.
-ghost use Rattle.std.specs.Prelude.{◌≡◌, ℕ, ◌+◌, ◌*◌, ◌<◌, ◌≤◌, ◌↔◌, [], length, map, true, false, vec_capacity, alloc_error, IsOk, OnOk, OnErr, IfOk, IfErr, IsErrOf, IsTrue};
+ghost use Rattle.std.specs.Prelude.{◌≡◌, ℕ, ◌+◌, ◌-◌, ◌*◌, ◌<◌, ◌≤◌, ◌↔◌, List, [], length, map, true, false, vec_capacity, alloc_error, IsOk, OnOk, OnErr, IfOk, IfErr, IsErrOf, IsTrue};
 ghost use Rattle.std.specs.Iterator.{Yields, Drains, IsFinite, UpTo, size};
 ghost use Rattle.rkyv_btree_writer.specs.Archiving.{BeginsWith};
 ghost use Rattle.rkyv_btree_image.specs.Archives.{SerialisedIsAccepted, EmptyIsAccepted, WrittenIsHeld};
@@ -80,6 +80,29 @@ fn take_items<'x, M, N, A: Allocator, I: Iterator<Item = (&'x M, &'x N)>>(
         }
     }
     true
+}
+
+/// Refuses what is left of an iterator that has given `len` items, with all of it counted.
+fn none_left<T: Drop, I: Iterator<Item = T>>(
+    iter: I,
+    len: usize,
+) -> Result<(), IteratorLengthMismatch>
+    requires can { I.can_next iter }
+    requires ends { UpTo (I.remaining iter) (18446744073709551615 - len) }
+    ensures ok { OnOk result (Drains I.next_gives iter []) }
+    ensures expected { IfErr result (λ miscount. miscount.expected ≡ len) }
+    ensures more { IfErr result (λ miscount. len < miscount.actual) }
+    ensures actual { IfErr result (λ miscount.
+        (left : List T) × Drains I.next_gives iter left × (miscount.actual ≡ len + length left)) }
+{
+    let more = iter.count();
+    if more != 0 {
+        return Err(IteratorLengthMismatch {
+            expected: len,
+            actual: len + more,
+        });
+    }
+    Ok(())
 }
 
 /// What building takes: what writing a node takes, and lists of the entries and children that wait for their nodes, and of
@@ -210,12 +233,8 @@ where
         }));
     }
     let root = write_items::<KU, VU, K, V, W, A, E>(alloc, lists, writer)?;
-    let more = iter.count();
-    if more != 0 {
-        return Err(Fault::Length(IteratorLengthMismatch {
-            expected: len,
-            actual: len + more,
-        }));
+    if let Err(miscount) = none_left(iter, len) {
+        return Err(Fault::Length(miscount));
     }
     Ok(BTreeMapResolver {
         root: root.unwrap_or(0),
@@ -276,12 +295,8 @@ impl<K: Portable, V: Portable, const E: usize> ArchivedBTreeMap<K, V, E> {
             return Err(Fault::LengthOverflow);
         }
         if len == 0 {
-            let actual = iter.count();
-            if actual != 0 {
-                return Err(Fault::Length(IteratorLengthMismatch {
-                    expected: 0,
-                    actual,
-                }));
+            if let Err(miscount) = none_left(iter, 0) {
+                return Err(Fault::Length(miscount));
             }
             return Ok(BTreeMapResolver { root: 0 });
         }

@@ -1,4 +1,4 @@
-use Rattle.std.proofs.Common.{◌≡◌, length, map, arith}
+use Rattle.std.proofs.Common.{◌≡◌, [], length, map, inl, refl, arith}
 use Rattle.std.proofs.lemmas.List.{length-map}
 use Rattle.std.proofs.lemmas.Result.{err_from_is_err_and}
 use Rattle.rkyv_btree_format.specs.Layout.{layout_of}
@@ -9,6 +9,9 @@ use Rattle.rkyv_btree_image.proofs.Untold.{unasked}
 use Rattle.rkyv_btree_image.proofs.TreesKept.{stops_begin, child_begins, child_went}
 use Rattle.rkyv_btree_image.proofs.Building.{short_of, drained, miscounted_of, refused_of, meaning_is, spelled_of}
 use Rattle.rkyv_btree_archive.proofs.build.build_some.Goals as goal
+
+pub returns-in_default-clause-err : goal.returns-in_default-clause-err
+returns-in_default-clause-err g c = inl refl
 
 pub returns-then-not-take_items-clause-err : goal.returns-then-not-take_items-clause-err
 returns-then-not-take_items-clause-err g c =
@@ -25,16 +28,16 @@ returns-in_err-root-clause-err g c =
     (c.take_items.ensures.len took)
     c.in_err-root.ensures.err)
 
-pub returns-then-more-ne0-clause-err : goal.returns-then-more-ne0-clause-err
-returns-then-more-ne0-clause-err g c =
+pub returns-in-Err-clause-err : goal.returns-in-Err-clause-err
+returns-in-Err-clause-err g c =
     let steps = g.I.Iterator.next_gives in
     let took = c.if-not-take_items.false in
-    let ran = c.count-more.ensures.ran in
-    miscounted_of g.K.Portable.kind g.V.Portable.kind g.row.E g.KU.Archive.archival g.VU.Archive.archival steps c.args.iter c.args.len c.count-more.result _ _ c.take_items.new.items.items c.take_items.new.iter ran.0 c.in_ok-root.root
+    let left = c.in-Err.ensures.actual in
+    rw (c.in-Err.ensures.expected, left.2) (miscounted_of g.K.Portable.kind g.V.Portable.kind g.row.E g.KU.Archive.archival g.VU.Archive.archival steps c.args.iter c.args.len (length left.0) _ _ c.take_items.new.items.items c.take_items.new.iter left.0 c.in_ok-root.root
     (c.take_items.ensures.all took)
-    ran.1 ran.2 c.if-more-ne0.true
+    left.1 refl (omega (arith, left.2, c.in-Err.ensures.more))
     (c.take_items.ensures.len took)
-    c.in_ok-root.ensures.ok
+    c.in_ok-root.ensures.ok)
 
 pub returns-clause-ok : goal.returns-clause-ok
 returns-clause-ok g c =
@@ -45,7 +48,6 @@ returns-clause-ok g c =
     let to = g.W.Writer.state c.write_items.new.writer in
     let steps = g.I.Iterator.next_gives in
     let took = c.if-not-take_items.false in
-    let ran = c.count-more.ensures.ran in
     let items = c.take_items.new.items.items in
     let count : length items ≡ c.args.len = c.take_items.ensures.len took in
     let n = length-map items (now_of {M = g.row.KU.Denot} {N = g.row.VU.Denot}) in
@@ -58,8 +60,7 @@ returns-clause-ok g c =
     } in
     record {
       items = items;
-      all = drained steps c.args.iter items c.take_items.new.iter ran.0 c.count-more.result
-          (c.take_items.ensures.all took) ran.1 ran.2 c.if-more-ne0.false;
+      all = drained steps c.args.iter items c.take_items.new.iter [] 0 (c.take_items.ensures.all took) c.in_default-none_left.ensures.ok refl refl;
       count = count;
       built = built;
       spelled = λ some key value. spelled_of K V E g.met.K.Portable.laws g.met.V.Portable.laws c.requires.fitting g.KU.Archive.archival g.VU.Archive.archival key value g.met.KU.Archive.archived g.met.VU.Archive.archived from (map now_of items) (map (meaning_of K V g.KU.Archive.archival g.VU.Archive.archival key value) items) c.unwrap_or.result to
@@ -72,8 +73,8 @@ returns-in_err-root-clause-kept g c =
     let p = err_from_is_err_and c.from_residual.result c.from_residual.ensures.1 in
     rw p.1 (stops_begin (layout_of g.K.Portable.kind g.V.Portable.kind g.row.E) g.KU.Archive.archival g.VU.Archive.archival (g.W.Writer.state c.args.writer.now) (planned_alone g.row.E (map now_of c.take_items.new.items.items)) c.in_err-root.field-0.0 (g.W.Writer.state c.write_items.new.writer) c.in_err-root.ensures.err)
 
-pub returns-then-more-ne0-clause-kept : goal.returns-then-more-ne0-clause-kept
-returns-then-more-ne0-clause-kept g c =
+pub returns-in-Err-clause-kept : goal.returns-in-Err-clause-kept
+returns-in-Err-clause-kept g c =
     child_begins (layout_of g.K.Portable.kind g.V.Portable.kind g.row.E) g.KU.Archive.archival g.VU.Archive.archival (g.W.Writer.state c.args.writer.now) (planned_alone g.row.E (map now_of c.take_items.new.items.items)) c.in_ok-root.root (g.W.Writer.state c.write_items.new.writer) c.in_ok-root.ensures.ok
 
 pub returns-clause-went : goal.returns-clause-went
