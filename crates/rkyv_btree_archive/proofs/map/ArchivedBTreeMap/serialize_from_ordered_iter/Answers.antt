@@ -12,13 +12,15 @@ returns-clause-err g c = c.build_some.ensures.err
 
 pub returns-then-len-eq0-clause-ok : goal.returns-then-len-eq0-clause-ok
 returns-then-len-eq0-clause-ok g c =
-    builds_none g.K.Portable.kind g.V.Portable.kind g.row.E g.met.K.Portable.laws g.met.V.Portable.laws c.requires.fitting g.KU.Archive.archival g.VU.Archive.archival g.met.KU.Archive.archived g.met.VU.Archive.archived g.I.Iterator.next_gives c.args.iter c.args.len g.W.Writer.state c.args.writer.now [] c.in_default.ensures.ok (omega arith) refl
+    builds_none g.K.Portable.kind g.V.Portable.kind g.row.E g.met.K.Portable.laws g.met.V.Portable.laws c.requires.fitting
+    g.KU.Archive.archival g.VU.Archive.archival g.met.KU.Archive.archived g.met.VU.Archive.archived
+    g.I.Iterator.next_gives c.args.iter c.args.len g.W.Writer.state c.args.writer.now [] c.in_default.ensures.ok (omega arith) refl
 
 pub returns-then-len-eq0-clause-smallest : goal.returns-then-len-eq0-clause-smallest
 returns-then-len-eq0-clause-smallest g c =
     builds_smallest g.K.Portable.kind g.V.Portable.kind g.row.E g.met.K.Portable.laws g.met.V.Portable.laws c.requires.fitting g.KU.Archive.archival g.VU.Archive.archival g.met.KU.Archive.archived g.met.VU.Archive.archived g.I.Iterator.next_gives c.args.iter c.args.len g.W.Writer.state c.args.writer.now c.args.writer.now 0
     (omega arith)
-    (builds_none g.K.Portable.kind g.V.Portable.kind g.row.E g.met.K.Portable.laws g.met.V.Portable.laws c.requires.fitting g.KU.Archive.archival g.VU.Archive.archival g.met.KU.Archive.archived g.met.VU.Archive.archived g.I.Iterator.next_gives c.args.iter c.args.len g.W.Writer.state c.args.writer.now [] c.in_default.ensures.ok (omega arith) refl)
+    (returns-then-len-eq0-clause-ok g c)
 
 pub returns-clause-smallest : goal.returns-clause-smallest
 returns-clause-smallest g c =
