@@ -1,9 +1,10 @@
 -- What a caller concludes for the headline, over the definitions alone.
-use Rattle.std.proofs.Common.{◌≡◌, ℕ, ◌+◌, ◌≤◌, List, length, map, IsTrue, Option, Some, None, Bor, refl, sym, ap, subst, ◌∙◌, slice_get, true}
+use Rattle.std.proofs.Common.{◌≡◌, ℕ, ◌≤◌, List, length, map, Option, Some, None, Bor, sym, ap, ◌∙◌, slice_get, true, arith}
+use Rattle.std.proofs.Math.ListN.{get_or-map}
 use Rattle.std.proofs.lemmas.List.{length-map}
 use Rattle.std.proofs.lemmas.Option.{slice_get-map}
 use Rattle.std.specs.Option.{option_map}
-use Rattle.std.specs.Prelude.{Bool, Result, Ok, Err, IsOk, is_err}
+use Rattle.std.specs.Prelude.{◌↔◌, Bool, Result, Ok, Err, IsOk, IsSome, IfSome, is_err}
 use Rattle.std.specs.declared.cmp.Ordering.{Ordering}
 use Rattle.rkyv_btree_base.specs.Archiving.{Archival}
 use Rattle.rkyv_btree_base.specs.Archives.{WrittenIsHeld}
@@ -12,7 +13,6 @@ use Rattle.rkyv_btree_base.specs.Image.{root_image}
 use Rattle.rkyv_btree_base.specs.Kept.{OnlyAppended}
 use Rattle.rkyv_btree_base.specs.Kind.{Kind, IsLawful}
 use Rattle.rkyv_btree_base.specs.Layout.{layout_of}
-use Rattle.rkyv_btree_base.specs.Map.{map_kind}
 use Rattle.rkyv_btree_base.specs.Read.{read_map, entry_at, map_tree}
 use Rattle.rkyv_btree_base.specs.Rounding.{round_up}
 use Rattle.rkyv_btree_base.specs.SmallestMaps.{IsSmallestArchive, BuildsSmallest, BuildsSmallestSet}
@@ -24,7 +24,7 @@ use Rattle.rkyv_btree_base.proofs.MapLaws.{map_laws}
 use Rattle.rkyv_btree.specs.Map.{IsMap}
 use Rattle.rkyv_btree.specs.Places.{FindsPlace, PutsEntry}
 use Rattle.rkyv_btree.specs.Put.{entry_places, value_place}
-use Rattle.rkyv_btree.specs.Search.{Answers, OrderedBy, AnyHit}
+use Rattle.rkyv_btree.specs.Search.{Answers, OrderedBy, AnyHit, IsHit}
 use Rattle.examples.specs.Headline.{IsSmallestOf, IsArchiveOfItems, IsArchiveOfKeys, IsLookedUp, IsSealed}
 
 -- what a writer from position 0 on holds, once a tree and its map were appended
@@ -62,7 +62,7 @@ module _ (K V : Kind) (E : ℕ) (k : IsLawful K) (v : IsLawful V) (b : List ℕ)
 
   module _ (answer : K.Value → Ordering) where
     -- what a search answers is what is looked up in the list
-    pub list_looked_up : (found : Option (K.Value × V.Value)) → Answers (λ e. answer e.0) (entry_at K V E b) (map_tree (layout_of K V E) b pos) found → IsLookedUp answer m found
+    pub list_looked_up : (found : Option (K.Value × V.Value)) → Answers (λ e. answer e.0) (entry_at K V E b) (map_tree (layout_of K V E) b pos) found → IsLookedUp (λ e. answer e.0) m found
     list_looked_up found answers = record { hit = rw list_read at answers.hit; complete = rw list_read at answers.complete }
 
     -- where a search finds no entry, none is equal
@@ -76,6 +76,20 @@ module _ (K V : Kind) (E : ℕ) (k : IsLawful K) (v : IsLawful V) (b : List ℕ)
         let number = finds.entry.1 in
         let is_there : slice_get m i ≡ Some (entry_at K V E b e) = ap (λ (xs : List (K.Value × V.Value)). slice_get xs i) (sym list_read) ∙ slice_get-map (entry_at K V E b) (entry_places K V E b pos) i ∙ ap (option_map (entry_at K V E b)) number in
         (i, value_place K V E e, entry_at K V E b e, is_there, finds.answers.hit.0, puts.bytes, (is.0, puts.accepted i 0 pos is.0 m number is.1))
+
+-- what a search finds among the keys of a list of entries is what is looked up in them
+module _ {A : Type 0} (answer : A → Ordering) (m : List (A × Unit {0})) where
+  key_hit : (e : A × Unit {0}) → IsHit (λ x. answer x.0) m e → IsHit answer (map (λ x. x.0) m) e.0
+  key_hit e h = (h.0, h.1, omega (arith, length-map m (λ (x : A × Unit {0}). x.0), h.2), λ d. rw (get_or-map (λ (x : A × Unit {0}). x.0) m h.1 (d, tt)) (ap (λ (x : A × Unit {0}). x.0) (h.3 (d, tt))))
+
+  pub found_key : (found : Option (A × Unit {0})) → IfSome found (IsHit (λ x. answer x.0) m) → IfSome (option_map (λ x. x.0) found) (IsHit answer (map (λ x. x.0) m))
+  found_key None h = tt
+  found_key (Some e) h = key_hit e h
+
+-- whether something is found is also whether what it reads is
+pub found_mapped : {X Y Any : Type 0} (read : X → Y) (found : Option X) → (IsSome found ↔ Any) → (IsSome (option_map read found) ↔ Any)
+found_mapped read None h = h
+found_mapped read (Some x) h = h
 
 -- where a call refuses, and refuses no map, there is none
 pub none_accepted : {T F X : Type 0} {Is : X → Type 0} (result : Result T F) (fault : F) → result ≡ Err fault → ((m : X) → Is m → IsOk result) → (m : X) → Is m → ⊥

@@ -48,11 +48,11 @@ pub record IsArchiveOfKeys {M R P : Type 0} (K : Kind) (E : ℕ) (KA : Archival 
 abbrev pub IsNoMap : Kind → Kind → ℕ → List ℕ → ℕ → Type 0
 IsNoMap K V E b pos = (m : List (K.Value × V.Value)) → IsMap K V E b pos m → ⊥
 
--- What a look-up finds in a list is an entry whose key gives Equal; and where the keys are ordered for the query, one is
--- found exactly if there is one.
-pub record IsLookedUp {A B : Type 0} (answer : A → Ordering) (m : List (A × B)) (found : Option (A × B)) : Type 0 where
-  pub hit : IfSome found (IsHit (λ e. answer e.0) m)
-  pub complete : OrderedBy (λ e. answer e.0) m → (IsSome found ↔ AnyHit (λ e. answer e.0) m)
+-- What a look-up finds in a list, of entries or of keys, is one that gives Equal; and where the list is ordered for the
+-- query, one is found exactly if there is one.
+pub record IsLookedUp {X : Type 0} (answer : X → Ordering) (m : List X) (found : Option X) : Type 0 where
+  pub hit : IfSome found (IsHit answer m)
+  pub complete : OrderedBy answer m → (IsSome found ↔ AnyHit answer m)
 
 -- If a key was found, these own bytes stand for the value of an entry whose key gives Equal: no other byte is another, and
 -- the map has the list with what they mean there. Else no byte is another, and where the keys are ordered for the query

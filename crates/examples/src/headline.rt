@@ -13,6 +13,7 @@ ghost use Rattle.rkyv_btree_base.specs.Whole.{fresh};
 ghost use Rattle.rkyv_btree.specs.Bounds.{IsRun, IsWithin};
 ghost use Rattle.rkyv_btree.specs.Items.{ShowsAll};
 ghost use Rattle.rkyv_btree.specs.Map.{IsMap};
+ghost use Rattle.rkyv_btree.specs.Set.{AreKeysWithin};
 ghost use Rattle.rkyv_btree.specs.View.{reads, reads_both};
 ghost use Rattle.rkyv_btree.specs.Visit.{Visited, shown_both};
 ghost use Rattle.examples.specs.Headline.{HasCause, IsArchiveOfItems, IsArchiveOfKeys, IsNoMap, IsSmallestOf, IsLookedUp, IsSealed};
@@ -28,9 +29,10 @@ use rkyv_btree::base::set::ArchivedBTreeSet;
 use rkyv_btree::compare::ViewOrd;
 use rkyv_btree::iter::Iter;
 use rkyv_btree::keys::{Keys, Values};
+use rkyv_btree::lookup::what_is_found_is_equal;
 use rkyv_btree::map::{ArchivedMap, MapSeal, ShowsEntries, access};
 use rkyv_btree::range::Range;
-use rkyv_btree::set::access as access_set;
+use rkyv_btree::set::{Iter as SetIter, Range as SetRange, access as access_set};
 use rkyv_btree::view::{Shows, View};
 use std::alloc::{AllocError, Global};
 use std::collections::{BTreeMap, BTreeSet};
@@ -220,6 +222,25 @@ pub fn walks<'a, K: CheckBytes, V: CheckBytes, const E: usize>(
     })
 }
 
+/// So does a set: it tells the length of that list, and its walk gives the keys.
+pub fn walk_of_set<'a, K: CheckBytes, const E: usize>(
+    buf: &'a [u8],
+    pos: u32,
+) -> Result<(u32, SetIter<'a, K, E>), Refusal>
+    requires { IsTrue (are_fitting K.kind unit_kind E) }
+    ensures accepted { IfOk result (λ walk. (m : _) × IsMap K.kind unit_kind E buf.now pos m) }
+    ensures refused { IfErr result (λ refusal. IsNoMap K.kind unit_kind E buf.now pos) }
+    ensures len { (m : _) → IsMap K.kind unit_kind E buf.now pos m →
+        IfOk result (λ walk. walk.0 ≡ length m) }
+    ensures keys { (m : _) → IsMap K.kind unit_kind E buf.now pos m → IfOk result (λ walk.
+        ShowsAll ⟦<SetIter<'a, K, E> as Iterator>⟧.next_gives reads walk.1 (map (λ e. e.0) m)) }
+    ensures ends { IfOk result (λ walk.
+        IsFinite (⟦<SetIter<'a, K, E> as Iterator>⟧.remaining walk.1)) }
+{
+    let set = access_set::<K, E>(buf, pos)?;
+    Ok((set.len(), set.iter()))
+}
+
 /// So does a visit: it is called along that list up to the first break, whose value it answers.
 pub fn visited<'a, K, V, M, W, X, T, F>(map: View<'a, M>, visit: F) -> Option<T>
 where
@@ -244,11 +265,27 @@ pub fn looked_up<'a, K: CheckBytes + ViewOrd, V: CheckBytes, const E: usize>(
 ) -> Result<Option<(View<'a, K>, View<'a, V>)>, Refusal>
     requires { IsTrue (are_fitting K.kind V.kind E) }
     ensures found { (m : _) → IsMap K.kind V.kind E buf.now pos m → IfOk result (λ found.
-        IsLookedUp (K.kind.order (reads key.entry)) m (option_map reads_both found)) }
+        IsLookedUp (λ e. K.kind.order (reads key.entry) e.0) m (option_map reads_both found)) }
     ensures refused { IfErr result (λ refusal. IsNoMap K.kind V.kind E buf.now pos) }
 {
     let map = access::<K, V, E>(buf, pos)?;
     Ok(map.get_key_value(key))
+}
+
+/// So it is in a set.
+pub fn looked_up_in_set<'a, K: CheckBytes + ViewOrd, const E: usize>(
+    buf: &'a [u8],
+    pos: u32,
+    key: View<'_, K>,
+) -> Result<Option<View<'a, K>>, Refusal>
+    requires { IsTrue (are_fitting K.kind unit_kind E) }
+    ensures found { (m : _) → IsMap K.kind unit_kind E buf.now pos m → IfOk result (λ found.
+        IsLookedUp (K.kind.order (reads key.entry)) (map (λ e. e.0) m) (option_map reads found)) }
+    ensures refused { IfErr result (λ refusal. IsNoMap K.kind unit_kind E buf.now pos) }
+{
+    what_is_found_is_equal::<K, (), E>();
+    let set = access_set::<K, E>(buf, pos)?;
+    Ok(set.get(key))
 }
 
 /// **A range is that list's, under an ordered comparison.**
@@ -270,6 +307,27 @@ pub fn within<'a, K: CheckBytes + ViewOrd, V: CheckBytes, const E: usize>(
 {
     let map = access::<K, V, E>(buf, pos)?;
     Ok(map.range(low, high))
+}
+
+/// So it is in a set.
+pub fn within_set<'a, K: CheckBytes + ViewOrd, const E: usize>(
+    buf: &'a [u8],
+    pos: u32,
+    low: Bound<View<'_, K>>,
+    high: Bound<View<'_, K>>,
+) -> Result<SetRange<'a, K, E>, Refusal>
+    requires { IsTrue (are_fitting K.kind unit_kind E) }
+    ensures within { (m : _) → IsMap K.kind unit_kind E buf.now pos m → IfOk result (λ range.
+        (given : List K.kind.Value) × IsRun given (map (λ e. e.0) m)
+        × ShowsAll ⟦<SetRange<'a, K, E> as Iterator>⟧.next_gives reads range given
+        × AreKeysWithin (bound_map (λ q. K.kind.order (reads q)) low.entry)
+        (bound_map (λ q. K.kind.order (reads q)) high.entry) (map (λ e. e.0) m) given) }
+    ensures ends { IfOk result (λ range.
+        IsFinite (⟦<SetRange<'a, K, E> as Iterator>⟧.remaining range)) }
+    ensures refused { IfErr result (λ refusal. IsNoMap K.kind unit_kind E buf.now pos) }
+{
+    let set = access_set::<K, E>(buf, pos)?;
+    Ok(set.range(low, high))
 }
 
 /// **Writing a seal changes one value alone.** Tells whether there was an entry of the key.

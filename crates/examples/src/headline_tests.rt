@@ -1,7 +1,7 @@
 //! The headline's functions, at maps of numbers.
 use crate::headline::{
-    ArchiveAt, archived, archived_set, archived_std_map, archived_std_set, looked_up, sealed,
-    visited, walks, within,
+    ArchiveAt, archived, archived_set, archived_std_map, archived_std_set, looked_up,
+    looked_up_in_set, sealed, visited, walk_of_set, walks, within, within_set,
 };
 use rkyv_btree::base::fault::{Fault, IteratorLengthMismatch};
 use rkyv_btree::base::layout;
@@ -38,13 +38,58 @@ fn items_are_archived(rt: HostRuntime) -> Result<(), Fail> {
     Ok(())
 }
 
+const KEYS: [u32; 5] = [1, 3, 5, 7, 9];
+
+/// The archive of the set of the keys, two in a node.
+fn archive_of_keys(rt: &impl Abort, alloc: Global) -> Result<ArchiveAt, Fault<AllocError>> {
+    assert!(rt; layout::fits::<ArchivedU32, (), 2>());
+    archived_set::<ArchivedU32, u32, _, 2>(alloc, KEYS.len(), KEYS.iter())
+}
+
 #[test]
 fn keys_are_archived(rt: HostRuntime) -> Result<(), Fail> {
+    let made = archive_of_keys(&rt, rt.alloc())?;
+    assert_eq!(rt; made.bytes.len(), 2 * 16 + 24 + 8);
     assert!(rt; layout::fits::<ArchivedU32, (), 2>());
-    let keys = [1, 3, 5u32];
-    let made = archived_set::<ArchivedU32, u32, _, 2>(rt.alloc(), 3, keys.iter())?;
-    let set = rkyv_btree::set::access::<ArchivedU32, 2>(made.bytes.as_slice(), made.pos)?;
-    assert_eq!(rt; set.len(), 3);
+    let (len, given) = walk_of_set::<ArchivedU32, 2>(&made.bytes, made.pos)?;
+    assert_eq!(rt; len, 5);
+    let mut left = KEYS.as_slice();
+    for key in given {
+        let (wanted, rest) = left.split_first().ok_or("too many keys")?;
+        assert_eq!(rt; key.to_native(), *wanted);
+        left = rest;
+    }
+    assert!(rt; left.is_empty());
+    Ok(())
+}
+
+#[test]
+fn keys_are_looked_up_in_a_set(rt: HostRuntime) -> Result<(), Fail> {
+    let made = archive_of_keys(&rt, rt.alloc())?;
+    assert!(rt; layout::fits::<ArchivedU32, (), 2>());
+    for (key, is_there) in [(0u32, false), (1, true), (4, false), (9, true), (10, false)] {
+        let bytes = key.to_le_bytes();
+        let key = View::<ArchivedU32>::check(&bytes, 0)?;
+        let found = looked_up_in_set::<ArchivedU32, 2>(&made.bytes, made.pos, key)?;
+        assert_eq!(rt; found.is_some(), is_there);
+    }
+    Ok(())
+}
+
+#[test]
+fn ranges_of_a_set_are_within_their_bounds(rt: HostRuntime) -> Result<(), Fail> {
+    let made = archive_of_keys(&rt, rt.alloc())?;
+    assert!(rt; layout::fits::<ArchivedU32, (), 2>());
+    let (low, high) = (3u32.to_le_bytes(), 8u32.to_le_bytes());
+    let low = Bound::Included(View::<ArchivedU32>::check(&low, 0)?);
+    let high = Bound::Excluded(View::<ArchivedU32>::check(&high, 0)?);
+    let mut left = &KEYS[1..4];
+    for key in within_set::<ArchivedU32, 2>(&made.bytes, made.pos, low, high)? {
+        let (wanted, rest) = left.split_first().ok_or("too many keys")?;
+        assert_eq!(rt; key.to_native(), *wanted);
+        left = rest;
+    }
+    assert!(rt; left.is_empty());
     Ok(())
 }
 

@@ -1,6 +1,4 @@
-use Rattle.std.proofs.Common.{◌≡◌, ◌∙◌}
 use Rattle.std.proofs.lemmas.Result.{err_from_is_err_and}
-use Rattle.rkyv_btree_base.specs.Read.{read_map}
 use Rattle.examples.proofs.Concluded.{list_looked_up, none_accepted}
 use Rattle.examples.proofs.headline.looked_up.Goals as goal
 

@@ -1,6 +1,6 @@
 use Rattle.std.proofs.Common.{◌≡◌, rules, subst, List, ℕ, Some, None, true}
 use Rattle.std.proofs.lemmas.Result.{err_from_is_err_and}
-use Rattle.rkyv_btree.specs.Places.{FindsPlace, IsEntry, PutsEntry, place_of}
+use Rattle.rkyv_btree.specs.Places.{FindsPlace, PutsEntry, place_of}
 use Rattle.rkyv_btree.specs.View.{reads}
 use Rattle.examples.specs.Headline.{IsSealed}
 use Rattle.examples.proofs.Concluded.{none_accepted, none_equal, one_sealed}

@@ -1,0 +1,23 @@
+use Rattle.std.proofs.lemmas.Result.{err_from_is_err_and}
+use Rattle.rkyv_btree_base.specs.Scalars.{unit_kind}
+use Rattle.rkyv_btree_base.specs.laws.Scalars.{unit_laws}
+use Rattle.rkyv_btree.specs.Lookup.{found_at}
+use Rattle.rkyv_btree.specs.View.{reads}
+use Rattle.examples.proofs.Concluded.{list_read, found_key, found_mapped, none_accepted}
+use Rattle.examples.proofs.headline.looked_up_in_set.Goals as goal
+
+pub returns-in_err-set-clause-refused : goal.returns-in_err-set-clause-refused
+returns-in_err-set-clause-refused g c =
+    let p = err_from_is_err_and c.from_residual.result c.from_residual.ensures.1 in
+    rw p.1 (none_accepted c.access.result _ c.in_err-set.was c.access.ensures.all_accepted)
+
+pub returns-clause-found : goal.returns-clause-found
+returns-clause-found g c m is =
+    let K = g.K.Portable.kind in
+    let answer = K.order (reads c.args.key) in
+    let list = list_read K unit_kind g.row.E g.met.K.Portable.laws unit_laws c.args.buf.now c.args.pos m is in
+    let hit = rw list at (c.what_is_found_is_equal.ensures c.args.buf.now c.args.pos answer).hit in
+    record {
+      hit = rw (c.get.ensures.found, c.in_ok-set.ensures.buffer, c.in_ok-set.ensures.position) (found_key answer m (found_at K unit_kind g.row.E c.args.buf.now c.args.pos answer) hit);
+      complete = λ ordered. found_mapped reads c.get.result (rw list at (rw (c.in_ok-set.ensures.buffer, c.in_ok-set.ensures.position) at c.get.ensures.complete) ordered);
+    }
