@@ -1,4 +1,6 @@
-use Rattle.std.proofs.Common.{length, Some, sym, subst, refl}
+use Rattle.std.proofs.Common.{◌≡◌, ℕ, zero, suc, true, nat_eq, [], length, Some, sym, subst, refl, arith}
+use Rattle.std.proofs.lemmas.Bool.Decides.{nat_tests}
+use Rattle.std.proofs.lemmas.List.{nil_from_length}
 use Rattle.std.proofs.lemmas.Result.{err_from_is_err_and}
 use Rattle.rkyv_btree_format.specs.Layout.{layout_of}
 use Rattle.rkyv_btree_image.specs.Entries.{now_of}
@@ -7,6 +9,16 @@ use Rattle.rkyv_btree_format.proofs.Sizes.{room_of}
 use Rattle.rkyv_btree_shape.proofs.Alone.{alone_leaf}
 use Rattle.rkyv_btree_shape.proofs.Rows.{not-empty}
 use Rattle.rkyv_btree_archive.proofs.tree.write_few.Goals as goal
+
+empty : (n : ℕ) → true ≡ nat_eq n 0 → n ≡ 0
+empty zero h = refl
+empty (suc n) h = absurd (grind (arith, nat_tests))
+
+pub returns-then-is_empty-clause-ok : goal.returns-then-is_empty-clause-ok
+returns-then-is_empty-clause-ok g c =
+    let items = c.args.items.now in
+    let none : items ≡ [] = nil_from_length items (empty (length items) c.if-is_empty.ensures) in
+    rw none (refl, refl)
 
 pub returns-in_err-root-clause-err : goal.returns-in_err-root-clause-err
 returns-in_err-root-clause-err g c =
