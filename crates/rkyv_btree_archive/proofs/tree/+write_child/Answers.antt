@@ -1,4 +1,4 @@
-use Rattle.std.proofs.Common.{◌≡◌, ◌+◌, ◌*◌, ◌-◌, ◌≤◌, ◌<◌, ◌∙◌, [], ◌∷◌, ◌++◌, length, map, drop, arith, Some, ap, sym, subst}
+use Rattle.std.proofs.Common.{◌≡◌, ℕ, ◌+◌, ◌*◌, ◌-◌, ◌≤◌, ◌<◌, min, ◌∙◌, [], ◌∷◌, ◌++◌, length, map, drop, arith, Some, ap, sym, subst}
 use Rattle.std.proofs.lemmas.List.{map_push}
 use Rattle.std.proofs.lemmas.Result.{err_from_is_err_and}
 use Rattle.rkyv_btree_format.specs.Layout.{layout_of}
@@ -10,6 +10,99 @@ use Rattle.rkyv_btree_shape.proofs.Alone.{alone_inner, waiting}
 use Rattle.rkyv_btree_shape.proofs.Rows.{turn-inside, turn-rest, drop-push, take-push, length-pushed, child_small, less_on_last, some_item}
 use Rattle.rkyv_btree_image.proofs.RowsWritten.{row-more, row-stopped, last-stopped, inner-stopped, inner-written, turn-so-far, last-so-far, so-far-as}
 use Rattle.rkyv_btree_archive.proofs.tree.+write_child.Goals as goal
+
+-- what a number of entries bounds is a number of the machine
+one_more_fits : (n : ℕ) → n ≤ 4294967295 → n + 1 < 18446744073709551616
+one_more_fits n few = omega arith
+
+up_to_fits : (m n : ℕ) → m ≤ n → n ≤ 4294967295 → m < 18446744073709551616
+up_to_fits m n low few = omega arith
+
+below_fits : (m n : ℕ) → m < n → n ≤ 4294967295 → m < 18446744073709551616
+below_fits m n low few = omega arith
+
+behind_fits : (m n : ℕ) → m < n → n ≤ 4294967295 → m + 1 < 18446744073709551616
+behind_fits m n low few = omega arith
+
+part_fits : (start m n : ℕ) → start + m < n → n ≤ 4294967295 → m < 18446744073709551616
+part_fits start m n low few = omega arith
+
+one_more : (m n : ℕ) → m ≤ n → m ≤ n + 1
+one_more m n low = omega arith
+
+behind : (m n : ℕ) → m ≤ m + n
+behind m n = omega arith
+
+taken_low : (taken rest full : ℕ) → taken ≡ min rest full → taken ≤ rest
+taken_low taken rest full is = omega arith
+
+-- behind the last child that waits nothing more is to come
+none_to_come : (n left first E : ℕ) → n + left ≡ first + E → left ≤ 0 → n ≡ first + E
+none_to_come n left first E is none = omega arith
+
+pub overflow_add-on_last : goal.overflow_add-on_last
+overflow_add-on_last g t c = record { fits = one_more_fits (length c.args.items.now) c.requires.count }
+
+pub overflow_add-on_last-2 : goal.overflow_add-on_last-2
+overflow_add-on_last-2 g t c = record { fits = behind_fits g.row.E (length c.args.items.now) c.in-Some.ensures.more c.requires.count }
+
+pub overflow_mul-on_last : goal.overflow_mul-on_last
+overflow_mul-on_last g t c = record { fits = up_to_fits (c.in-Some.base * (g.row.E + 1)) (length c.args.items.now) c.in-Some.ensures.below c.requires.count }
+
+pub overflow_sub-on_last : goal.overflow_sub-on_last
+overflow_sub-on_last g t c = one_more (c.in-Some.base * (g.row.E + 1)) (length c.args.items.now) c.in-Some.ensures.below
+
+pub overflow_sub-end : goal.overflow_sub-end
+overflow_sub-end g t c = c.in-Some.ensures.positive
+
+pub overflow_add-end : goal.overflow_add-end
+overflow_add-end g t c =
+    let n = length c.args.items.now in
+    let start = c.loop-left.start in
+    let before = c.loop-left.invariant in
+    let took = c.taken_by_child-taken.result in
+    let few = taken_low took c.loop-left.on_last (g.row.E * c.in-Some.base) c.taken_by_child-taken.ensures in
+    let inside = turn-inside n start c.loop-left.left c.in-Some.base c.loop-left.on_last took before.rest c.loop-left-test.true c.in-Some.ensures.positive few in
+    record { fits = part_fits start (c.in-Some.base - 1 + took) n inside c.requires.count }
+
+pub overflow_add-end-in-loop-left : goal.overflow_add-end-in-loop-left
+overflow_add-end-in-loop-left g t c =
+    let n = length c.args.items.now in
+    let start = c.loop-left.start in
+    let before = c.loop-left.invariant in
+    let took = c.taken_by_child-taken.result in
+    let few = taken_low took c.loop-left.on_last (g.row.E * c.in-Some.base) c.taken_by_child-taken.ensures in
+    let inside = turn-inside n start c.loop-left.left c.in-Some.base c.loop-left.on_last took before.rest c.loop-left-test.true c.in-Some.ensures.positive few in
+    record { fits = below_fits (start + (c.in-Some.base - 1 + took)) n inside c.requires.count }
+
+pub slice_bounds-part-count : goal.slice_bounds-part-count
+slice_bounds-part-count g t c = behind c.loop-left.start (c.in-Some.base - 1 + c.taken_by_child-taken.result)
+
+pub overflow_sub-on_last-in-loop-left : goal.overflow_sub-on_last-in-loop-left
+overflow_sub-on_last-in-loop-left g t c = taken_low c.taken_by_child-taken.result c.loop-left.on_last (g.row.E * c.in-Some.base) c.taken_by_child-taken.ensures
+
+pub overflow_add-start : goal.overflow_add-start
+overflow_add-start g t c =
+    let n = length c.args.items.now in
+    let start = c.loop-left.start in
+    let before = c.loop-left.invariant in
+    let took = c.taken_by_child-taken.result in
+    let few = taken_low took c.loop-left.on_last (g.row.E * c.in-Some.base) c.taken_by_child-taken.ensures in
+    let inside = turn-inside n start c.loop-left.left c.in-Some.base c.loop-left.on_last took before.rest c.loop-left-test.true c.in-Some.ensures.positive few in
+    record { fits = behind_fits (start + (c.in-Some.base - 1 + took)) n inside c.requires.count }
+
+pub write_above-requires-clause-waiting : goal.write_above-requires-clause-waiting
+write_above-requires-clause-waiting g t c =
+    ap length c.in_ok-last.ensures.kept.0
+    ∙ none_to_come (length c.loop-left.waiting.items) c.loop-left.left c.len-first.result g.row.E c.loop-left.invariant.waiting_count c.loop-left-test.false
+
+pub write_above-requires-clause-children : goal.write_above-requires-clause-children
+write_above-requires-clause-children g t c =
+    ap length c.in_ok-last.ensures.kept.1
+    ∙ none_to_come (length c.loop-left.children.items) c.loop-left.left c.len-first_child.result g.row.E c.loop-left.invariant.child_count c.loop-left-test.false
+
+pub returns-clause-last : goal.returns-clause-last
+returns-clause-last g t c = λ _. c.in_ok-root.ensures.last
 
 pub inner_base-requires-clause-some : goal.inner_base-requires-clause-some
 inner_base-requires-clause-some g t c =
