@@ -192,6 +192,10 @@ less_is Greater e f = cc
 pub node_run : (K V : Kind) (E : ℕ) (b : List ℕ) (p : ℕ) → NodeStands K V E b p → RunStands K V E b p 0 (entry_count (layout_of K V E) b p)
 node_run K V E b p node j low high = let count = node.count in (node.entries j high, node.leaf_inside, omega arith)
 
+-- a search that begins has asked nothing
+pub search_begins : {A : Type 0} (whole : A × ℕ) → ◌≡◌ {A = A × ℕ} whole (whole.0, 0 + whole.1)
+search_begins whole = let e : whole.1 ≡ 0 + whole.1 = omega arith in pair-path refl e
+
 -- a search that goes on below finds what is found there, and has asked as many more
 pub search_then : {A : Type 0} {whole below : A × ℕ} {found : A} (asked more k : ℕ) → whole ≡ (below.0, asked + below.1) → below ≡ (found, k) → more ≡ k → ◌≡◌ {A = A × ℕ} (found, asked + more) whole
 search_then asked more k is here same = rw (is, here, same) refl

@@ -2,11 +2,12 @@
 ghost use Rattle.std.specs.Prelude.{◌≡◌, ◌+◌, ◌*◌, ◌≤◌, length, IfSome, IsTrue};
 ghost use Rattle.std.specs.declared.cmp.Ordering.{Ordering as Answer};
 ghost use Rattle.rkyv_btree_base.specs.Layout.{layout_of, are_fitting};
-ghost use Rattle.rkyv_btree_base.specs.Read.{read_map, tree_at, map_tree};
+ghost use Rattle.rkyv_btree_base.specs.Read.{read_map, map_tree};
 ghost use Rattle.rkyv_btree_base.specs.Tree.{list};
 ghost use Rattle.rkyv_btree_base.specs.Views.{stands};
 ghost use Rattle.rkyv_btree_walk.specs.Search.{compared_of, shown};
 ghost use Rattle.rkyv_btree_walk.specs.mirror.Node.{TreeStands, RunStands};
+ghost use Rattle.rkyv_btree_walk.specs.mirror.Path.{tree_rest};
 ghost use Rattle.rkyv_btree_walk.specs.mirror.Search.{StopsAt, StopsWithin, IsListed, asked_by, answers_at, searched, searched_map, TellsBy};
 
 use crate::map::{ArchivedMap, map_len};
@@ -131,7 +132,7 @@ fn search_tree<
         → result ≡ searched (layout_of K.kind V.kind M.E) buf.now
         (answers_at K.kind V.kind M.E buf.now (c key.now)) 32 from }
     ensures listed { let s = layout_of K.kind V.kind M.E in
-        IfSome result.0 (λ e. IsListed e (list (tree_at s buf.now 32 from))) }
+        IfSome result.0 (λ e. IsListed e (tree_rest s buf.now 32 from 0)) }
     ensures few { result.1 ≤ M.E * 32 }
 {
     let mut node = from;

@@ -3,7 +3,6 @@ use Rattle.std.proofs.Common.{◌≡◌, ◌≤◌, length, ◌∙◌, arith, ru
 use Rattle.rkyv_btree_base.proofs.MapLaws.{map_room, map_short}
 use Rattle.rkyv_btree_base.specs.Layout.{layout_of}
 use Rattle.rkyv_btree_walk.specs.mirror.Node.{TreeStands}
-use Rattle.rkyv_btree_walk.proofs.Paths.{tree_from}
 use Rattle.rkyv_btree_walk.proofs.Roots.{root_leads, root_stands, root_list, root_searched, none_searched}
 use Rattle.rkyv_btree_walk.proofs.search.search.Goals as goal
 
@@ -35,5 +34,5 @@ returns-clause-found g c f p =
 
 pub returns-then-map_len-gt0-clause-listed : goal.returns-then-map_len-gt0-clause-listed
 returns-then-map_len-gt0-clause-listed g c =
-    let whole = tree_from (layout_of g.K.Portable.kind g.V.Portable.kind g.M.ArchivedMap.E) c.args.buf.now 31 c.root.result ∙ root_list _ _ _ g.met.K.Portable.laws g.met.V.Portable.laws _ _ c.opened.ensures (rw c.map_len.ensures at c.if-map_len-gt0.true) c.root.result c.root.ensures in
+    let whole = root_list _ _ _ g.met.K.Portable.laws g.met.V.Portable.laws _ _ c.opened.ensures (rw c.map_len.ensures at c.if-map_len-gt0.true) c.root.result c.root.ensures in
     rw whole at c.search_tree.ensures.listed

@@ -5,8 +5,11 @@ use Rattle.rkyv_btree_base.specs.Layout.{layout_of}
 use Rattle.rkyv_btree_walk.specs.mirror.Node.{RunStands, entry_count}
 use Rattle.rkyv_btree_walk.proofs.Listed.{child_listed, entry_listed}
 use Rattle.rkyv_btree_walk.proofs.Nodes.{tree_node, tree_levels, child_before, child_stands}
-use Rattle.rkyv_btree_walk.proofs.Searches.{node_run, leaf_counted, inner_counted, leaf_alone, search_finds, search_ends, search_down, search_then, search_on, asked_within}
+use Rattle.rkyv_btree_walk.proofs.Searches.{node_run, leaf_counted, inner_counted, leaf_alone, search_finds, search_ends, search_down, search_begins, search_then, search_on, asked_within}
 use Rattle.rkyv_btree_walk.proofs.search.search_tree.Goals as goal
+
+pub down-init : goal.down-init
+down-init g c = (32, c.requires.tree, omega arith, λ e there. there, λ f p. search_begins _)
 
 pub is_leaf-requires-clause-node : goal.is_leaf-requires-clause-node
 is_leaf-requires-clause-node g c = tree_node _ _ _ _ _ c.down.node c.down.invariant.1
