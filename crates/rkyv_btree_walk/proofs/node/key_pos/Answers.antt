@@ -1,5 +1,5 @@
 -- A key stands within its node.
-use Rattle.std.proofs.Common.{arith}
+use Rattle.std.proofs.Common.{arith, refl}
 use Rattle.rkyv_btree_base.proofs.Sizes.{sound_of, key_inside}
 use Rattle.rkyv_btree_walk.proofs.node.key_pos.Goals as goal
 
@@ -8,3 +8,6 @@ overflow_add-result g c =
     let sound = sound_of _ _ _ g.met.K.Portable.laws g.met.V.Portable.laws c.requires.fitting in
     let inside = key_inside _ c.args.i sound c.requires.within in
     omega arith
+
+pub returns : goal.returns
+returns g c = rw c.key_at.ensures refl
