@@ -214,3 +214,7 @@ run_means means range all run = (
 -- a range through a leaf
 pub range_more : (s : NodeLayout) (b : List ℕ) (stop : Option (ℕ × ℕ)) (p i n : ℕ) (fs : List (ℕ × ℕ)) → i < n → range_rest s b stop p i n fs ≡ (p, i) ∷ range_rest s b stop p (i + 1) n fs
 range_more s b stop p i n fs less = let z : n - i ≡ suc (n - (i + 1)) = omega arith in rw z refl
+
+-- a step to an entry that isn't the stop takes the first entry of the range
+pub step_before : {old rest left : List (ℕ × ℕ)} (stop : Option (ℕ × ℕ)) (e : ℕ × ℕ) → old ≡ e ∷ rest → is_stop stop e ≡ false → left ≡ take_before stop rest → take_before stop old ≡ e ∷ left
+step_before stop e is off same = rw (is, off, same) refl

@@ -185,7 +185,8 @@ pub fn search<
     ensures few { result.1 ≤ M.E * 32 }
 {
     M::opened(buf, pos);
-    if map_len::<K, V, M>(buf, pos) > 0 {
+    let count = map_len::<K, V, M>(buf, pos);
+    if count > 0 {
         return search_tree::<Q, K, V, M, W, C>(buf, root(buf, pos), key, cmp);
     }
     (None, 0)

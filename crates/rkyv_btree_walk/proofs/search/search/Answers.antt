@@ -13,26 +13,26 @@ root-requires-clause-inside g c =
 
 pub root-requires-clause-leads : goal.root-requires-clause-leads
 root-requires-clause-leads g c =
-    root_leads _ _ _ g.met.K.Portable.laws g.met.V.Portable.laws _ _ c.opened.ensures (rw c.map_len.ensures at c.if-map_len-gt0.true)
+    root_leads _ _ _ g.met.K.Portable.laws g.met.V.Portable.laws _ _ c.opened.ensures (rw c.map_len-count.ensures at c.if-count-gt0.true)
 
 pub search_tree-requires : goal.search_tree-requires
 search_tree-requires g c =
     let short : length c.args.buf.now ≤ 4294967295 = map_short _ _ _ g.met.K.Portable.laws g.met.V.Portable.laws _ _ c.opened.ensures in
     let tree : TreeStands g.K.Portable.kind g.V.Portable.kind g.M.ArchivedMap.E c.args.buf.now 32 c.root.result =
-    root_stands _ _ _ g.met.K.Portable.laws g.met.V.Portable.laws _ _ c.opened.ensures (rw c.map_len.ensures at c.if-map_len-gt0.true) c.root.result c.root.ensures in
+    root_stands _ _ _ g.met.K.Portable.laws g.met.V.Portable.laws _ _ c.opened.ensures (rw c.map_len-count.ensures at c.if-count-gt0.true) c.root.result c.root.ensures in
     search rules
 
-pub returns-then-map_len-gt0-clause-found : goal.returns-then-map_len-gt0-clause-found
-returns-then-map_len-gt0-clause-found g c f p =
+pub returns-then-count-gt0-clause-found : goal.returns-then-count-gt0-clause-found
+returns-then-count-gt0-clause-found g c f p =
     c.search_tree.ensures.found f p
-    ∙ root_searched _ _ _ g.met.K.Portable.laws g.met.V.Portable.laws _ _ c.opened.ensures (rw c.map_len.ensures at c.if-map_len-gt0.true) c.root.result c.root.ensures _
+    ∙ root_searched _ _ _ g.met.K.Portable.laws g.met.V.Portable.laws _ _ c.opened.ensures (rw c.map_len-count.ensures at c.if-count-gt0.true) c.root.result c.root.ensures _
 
 pub returns-clause-found : goal.returns-clause-found
 returns-clause-found g c f p =
-    let empty : length _ ≡ 0 = omega (arith, c.map_len.ensures, c.if-map_len-gt0.false) in
+    let empty : length _ ≡ 0 = omega (arith, c.map_len-count.ensures, c.if-count-gt0.false) in
     none_searched _ _ _ g.met.K.Portable.laws g.met.V.Portable.laws _ _ c.opened.ensures empty _
 
-pub returns-then-map_len-gt0-clause-listed : goal.returns-then-map_len-gt0-clause-listed
-returns-then-map_len-gt0-clause-listed g c =
-    let whole = root_list _ _ _ g.met.K.Portable.laws g.met.V.Portable.laws _ _ c.opened.ensures (rw c.map_len.ensures at c.if-map_len-gt0.true) c.root.result c.root.ensures in
+pub returns-then-count-gt0-clause-listed : goal.returns-then-count-gt0-clause-listed
+returns-then-count-gt0-clause-listed g c =
+    let whole = root_list _ _ _ g.met.K.Portable.laws g.met.V.Portable.laws _ _ c.opened.ensures (rw c.map_len-count.ensures at c.if-count-gt0.true) c.root.result c.root.ensures in
     rw whole at c.search_tree.ensures.listed
