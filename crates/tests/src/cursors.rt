@@ -1,4 +1,6 @@
 //! Cursors along the entries of maps, whose values they write in place.
+ghost use Rattle.std.specs.Prelude.{IsSome};
+ghost use Rattle.rkyv_btree.specs.Cursor.{lent_place, range_lent_place};
 
 use crate::lookups::compare;
 use crate::numbers::tens;
@@ -6,6 +8,8 @@ use crate::ranges::is_between;
 use crate::seals::{archived, opened};
 use rkyv_btree::cursor::{IterSeal, RangeSeal, ValuesSeal};
 use rkyv_btree::map::MapSeal;
+use rkyv_btree::native::ToNative;
+use rkyv_btree_base::check::{InPlace, Portable};
 use rkyv_btree_base::map::ArchivedBTreeMap;
 use rkyv_btree_base::numbers::ArchivedU32;
 use std::alloc::Global;
@@ -29,93 +33,112 @@ fn raised(
     Ok(raised)
 }
 
-type Numbers<const E: usize> = ArchivedBTreeMap<ArchivedU32, ArchivedU32, E>;
+type Map<K, V, const E: usize> = ArchivedBTreeMap<K, V, E>;
 
-/// A cursor along entries lends this one next, with so many behind it, and writes its value.
-fn next_entry_is_raised<const E: usize>(
+/// The key of the entry that a cursor lends.
+fn key_of<K: ToNative<Native = u32>, V: InPlace, const E: usize>(
+    cursor: &IterSeal<'_, Map<K, V, E>>,
+) -> u32
+    requires { IsSome (lent_place cursor.now) }
+{
+    cursor.key().to_native()
+}
+
+/// The value of the entry that a cursor lends.
+fn value_of<K: Portable, V: InPlace<Native = u32>, const E: usize>(
+    cursor: &IterSeal<'_, Map<K, V, E>>,
+) -> u32
+    requires { IsSome (lent_place cursor.now) }
+{
+    cursor.read()
+}
+
+/// A cursor lends an entry with this key and this value.
+fn has<K: ToNative<Native = u32>, V: InPlace<Native = u32>, const E: usize>(
     rt: &impl Abort,
-    cursor: &mut IterSeal<'_, Numbers<E>>,
+    cursor: &IterSeal<'_, Map<K, V, E>>,
+    key: u32,
+    value: u32,
+)
+    requires { IsSome (lent_place cursor.now) }
+{
+    assert_eq!(rt; key_of::<K, V, E>(cursor), key);
+    assert_eq!(rt; value_of::<K, V, E>(cursor), value);
+}
+
+/// A cursor lends this entry next, with so many behind it, and writes its value.
+fn next_is_raised<K: ToNative<Native = u32>, V: InPlace<Native = u32>, const E: usize>(
+    rt: &impl Abort,
+    cursor: &mut IterSeal<'_, Map<K, V, E>>,
     key: u32,
     value: u32,
     left: usize,
 ) {
     assert!(rt; cursor.next());
+    has::<K, V, E>(rt, cursor, key, value);
+    let raised = value.wrapping_add(10);
+    cursor.write(raised);
+    has::<K, V, E>(rt, cursor, key, raised);
     assert_eq!(rt; cursor.size_hint(), (left, Some(left)));
     assert_eq!(rt; cursor.len(), left);
-    assert_eq!(rt; cursor.key().to_native(), key);
-    assert_eq!(rt; cursor.read(), value);
-    cursor.write(value.wrapping_add(10));
-    assert_eq!(rt; cursor.key().to_native(), key);
-    assert_eq!(rt; cursor.read(), value.wrapping_add(10));
 }
 
-/// A cursor along all entries lends each in order, counts those that are left, and writes each value.
+/// A cursor lends all entries in order, counts those that are left, and writes each value.
+fn all_are_raised<K: ToNative<Native = u32>, V: InPlace<Native = u32>, const E: usize>(
+    rt: &impl Abort,
+    cursor: &mut IterSeal<'_, Map<K, V, E>>,
+    entries: &[(u32, u32)],
+) {
+    let mut left = entries.len();
+    assert_eq!(rt; cursor.size_hint(), (left, Some(left)));
+    for (key, value) in entries {
+        left = left.wrapping_sub(1);
+        next_is_raised::<K, V, E>(rt, cursor, *key, *value, left);
+    }
+    for _ in 0..3 {
+        assert!(rt; !cursor.next());
+        assert_eq!(rt; cursor.size_hint(), (0, Some(0)));
+    }
+}
+
+type Numbers<const E: usize> = Map<ArchivedU32, ArchivedU32, E>;
+
+/// A cursor along the entries makes these bytes of those.
 fn entries_are_raised<const E: usize>(
     rt: &impl Abort,
     bytes: &mut [u8],
     pos: u32,
     entries: &[(u32, u32)],
+    want: &[u8],
 ) {
-    let mut cursor = opened::<E>(rt, bytes, pos).iter_seal();
-    let mut left = entries.len();
-    assert_eq!(rt; cursor.size_hint(), (left, Some(left)));
-    for (key, value) in entries {
-        left = left.wrapping_sub(1);
-        next_entry_is_raised::<E>(rt, &mut cursor, *key, *value, left);
-    }
-    for _ in 0..3 {
-        assert!(rt; !cursor.next());
-        assert_eq!(rt; cursor.size_hint(), (0, Some(0)));
-    }
+    let mut cursor: IterSeal<'_, Numbers<E>> = opened::<E>(rt, bytes, pos).iter_seal();
+    all_are_raised::<ArchivedU32, ArchivedU32, E>(rt, &mut cursor, entries);
+    assert_eq!(rt; &*bytes, want);
 }
 
-/// A cursor along values lends this one next, with so many behind it, and writes it.
-fn next_value_is_raised<const E: usize>(
-    rt: &impl Abort,
-    cursor: &mut ValuesSeal<'_, Numbers<E>>,
-    value: u32,
-    left: usize,
-) {
-    assert!(rt; cursor.next());
-    assert_eq!(rt; cursor.size_hint(), (left, Some(left)));
-    assert_eq!(rt; cursor.read(), value);
-    cursor.write(value.wrapping_add(10));
-    assert_eq!(rt; cursor.read(), value.wrapping_add(10));
-}
-
-/// The same along all values.
+/// The same along the values.
 fn values_are_raised<const E: usize>(
     rt: &impl Abort,
     bytes: &mut [u8],
     pos: u32,
     entries: &[(u32, u32)],
+    want: &[u8],
 ) {
-    let mut cursor = opened::<E>(rt, bytes, pos).values_seal();
-    let mut left = entries.len();
-    assert_eq!(rt; cursor.size_hint(), (left, Some(left)));
-    for (_, value) in entries {
-        left = left.wrapping_sub(1);
-        next_value_is_raised::<E>(rt, &mut cursor, *value, left);
-    }
-    for _ in 0..3 {
-        assert!(rt; !cursor.next());
-        assert_eq!(rt; cursor.size_hint(), (0, Some(0)));
-    }
+    let mut cursor: ValuesSeal<'_, Numbers<E>> = opened::<E>(rt, bytes, pos).values_seal();
+    all_are_raised::<ArchivedU32, ArchivedU32, E>(rt, &mut cursor, entries);
+    assert_eq!(rt; &*bytes, want);
 }
 
 /// Cursors along maps of 0 to 40 numbers raise each value.
 fn cursors_write_all_values<const E: usize>(rt: &impl Abort, alloc: Global) -> Result<(), Fail> {
     for count in 0..=40u32 {
         let entries = tens(alloc, count)?;
-        let (before, pos) = archived::<E>(rt, alloc, &entries)?;
+        let (mut before, pos) = archived::<E>(rt, alloc, &entries)?;
         let changed = raised(alloc, &entries, Bound::Unbounded, Bound::Unbounded)?;
         let (want, _) = archived::<E>(rt, alloc, &changed)?;
         let mut bytes = before.as_slice().to_vec(alloc)?;
-        entries_are_raised::<E>(rt, &mut bytes, pos, &entries);
-        assert_eq!(rt; bytes.as_slice(), want.as_slice(), "{count} entries");
-        let mut bytes = before;
-        values_are_raised::<E>(rt, &mut bytes, pos, &entries);
-        assert_eq!(rt; bytes.as_slice(), want.as_slice(), "{count} entries");
+        entries_are_raised::<E>(rt, &mut bytes, pos, &entries, &want);
+        values_are_raised::<E>(rt, &mut before, pos, &entries, &want);
     }
     Ok(())
 }
@@ -129,26 +152,86 @@ fn each_value_is_written_by_a_cursor(rt: HostRuntime) -> Result<(), Fail> {
 
 type Range<'a, const E: usize> = RangeSeal<'a, Numbers<E>>;
 
-/// A cursor between bounds lends the entries within in order, and raises their values.
-fn are_raised<const E: usize>(
+/// The key of the entry that a cursor between bounds lends.
+fn key_within<K: ToNative<Native = u32>, V: InPlace, const E: usize>(
+    cursor: &RangeSeal<'_, Map<K, V, E>>,
+) -> u32
+    requires { IsSome (range_lent_place cursor.now) }
+{
+    cursor.key().to_native()
+}
+
+/// The value of the entry that a cursor between bounds lends.
+fn value_within<K: Portable, V: InPlace<Native = u32>, const E: usize>(
+    cursor: &RangeSeal<'_, Map<K, V, E>>,
+) -> u32
+    requires { IsSome (range_lent_place cursor.now) }
+{
+    cursor.read()
+}
+
+/// A cursor between bounds lends this entry next, and raises its value.
+fn next_within_is_raised<K: ToNative<Native = u32>, V: InPlace<Native = u32>, const E: usize>(
     rt: &impl Abort,
-    cursor: &mut Range<'_, E>,
+    cursor: &mut RangeSeal<'_, Map<K, V, E>>,
+    key: u32,
+    value: u32,
+) {
+    assert!(rt; cursor.next());
+    assert_eq!(rt; key_within::<K, V, E>(cursor), key);
+    assert_eq!(rt; value_within::<K, V, E>(cursor), value);
+    cursor.write(value.wrapping_add(10));
+    assert_eq!(rt; cursor.size_hint(), (0, None));
+}
+
+/// A cursor between bounds lends the entries within in order, and raises their values.
+fn are_raised<K: ToNative<Native = u32>, V: InPlace<Native = u32>, const E: usize>(
+    rt: &impl Abort,
+    cursor: &mut RangeSeal<'_, Map<K, V, E>>,
     entries: &[(u32, u32)],
     low: Bound<u32>,
     high: Bound<u32>,
 ) {
     for (key, value) in entries {
         if is_between(low, high, *key) {
-            assert!(rt; cursor.next());
-            assert_eq!(rt; cursor.size_hint(), (0, None));
-            assert_eq!(rt; cursor.key().to_native(), *key);
-            assert_eq!(rt; cursor.read(), *value);
-            cursor.write(value.wrapping_add(10));
+            next_within_is_raised::<K, V, E>(rt, cursor, *key, *value);
         }
     }
     for _ in 0..3 {
         assert!(rt; !cursor.next());
     }
+}
+
+/// A cursor between two bounds of numbers makes these bytes of those.
+fn numbers_are_raised<const E: usize>(
+    rt: &impl Abort,
+    bytes: &mut [u8],
+    pos: u32,
+    entries: &[(u32, u32)],
+    (low, high): (Bound<u32>, Bound<u32>),
+    want: &[u8],
+) {
+    let MapSeal { buf, pos, of: _ } = opened::<E>(rt, bytes, pos);
+    let mut cursor = Range::<E>::by(buf, pos, low, high);
+    are_raised::<ArchivedU32, ArchivedU32, E>(rt, &mut cursor, entries, low, high);
+    assert_eq!(rt; &*bytes, want);
+}
+
+/// The same where the bounds are compared by a function of one's own.
+fn compared_are_raised<const E: usize>(
+    rt: &impl Abort,
+    bytes: &mut [u8],
+    pos: u32,
+    entries: &[(u32, u32)],
+    (low, high): (Bound<u32>, Bound<u32>),
+    want: &[u8],
+) {
+    let map = opened::<E>(rt, bytes, pos);
+    let walk = map.walk_between(low.as_ref(), high.as_ref(), compare);
+    let MapSeal { buf, pos, of: _ } = map;
+    let mut cursor = Range::<E>::over(buf, pos, walk);
+    are_raised::<ArchivedU32, ArchivedU32, E>(rt, &mut cursor, entries, low, high);
+    assert_eq!(rt; &*bytes, want);
 }
 
 /// Cursors between two bounds raise the values of the entries within, and no others, however the bounds are compared.
@@ -159,21 +242,12 @@ fn a_range_is_raised<const E: usize>(
     low: Bound<u32>,
     high: Bound<u32>,
 ) -> Result<(), Fail> {
-    let (before, pos) = archived::<E>(rt, alloc, entries)?;
+    let (mut before, pos) = archived::<E>(rt, alloc, entries)?;
     let changed = raised(alloc, entries, low, high)?;
     let (want, _) = archived::<E>(rt, alloc, &changed)?;
     let mut bytes = before.as_slice().to_vec(alloc)?;
-    let MapSeal { buf, pos, of: _ } = opened::<E>(rt, &mut bytes, pos);
-    let mut cursor = Range::<E>::by(buf, pos, low, high);
-    are_raised::<E>(rt, &mut cursor, entries, low, high);
-    assert_eq!(rt; bytes.as_slice(), want.as_slice());
-    let mut bytes = before;
-    let map = opened::<E>(rt, &mut bytes, pos);
-    let walk = map.walk_between(low.as_ref(), high.as_ref(), compare);
-    let MapSeal { buf, pos, of: _ } = map;
-    let mut cursor = Range::<E>::over(buf, pos, walk);
-    are_raised::<E>(rt, &mut cursor, entries, low, high);
-    assert_eq!(rt; bytes.as_slice(), want.as_slice());
+    numbers_are_raised::<E>(rt, &mut bytes, pos, entries, (low, high), &want);
+    compared_are_raised::<E>(rt, &mut before, pos, entries, (low, high), &want);
     Ok(())
 }
 
