@@ -9,13 +9,11 @@ ghost use Rattle.rkyv_btree_base.specs.laws.Refusing.{whole_refusals};
 ghost use Rattle.rkyv_btree_base.specs.laws.Scalars.{u8_laws};
 ghost use Rattle.tests.specs.Coded.{of_code};
 
-use crate::convert::archive;
+use crate::convert::{archive, opened};
 use rkyv_btree::deserialize::{Deserialize, DeserializeFault, DeserializeKey};
-use rkyv_btree::map::access;
 use rkyv_btree::view::View;
 use rkyv_btree_base::check::{CheckBytes, Portable, Window};
 use rkyv_btree_base::fault::EntryFault;
-use rkyv_btree_base::layout;
 use rkyv_btree_base::map::ArchivedBTreeMap;
 use rkyv_btree_base::place::VecWriter;
 use rkyv_btree_base::refusal::Refusal;
@@ -93,11 +91,12 @@ fn fault_of<K: CheckBytes + DeserializeKey<u8>, V: CheckBytes + Deserialize<u8>,
 ) -> Result<Result<usize, u32>, Fail> {
     let mut writer = VecWriter::new(alloc);
     let pos = archive::<u8, u8, u8, u8, E>(rt, alloc, entries, &mut writer)?;
-    assert!(rt; layout::fits::<K, V, E>());
-    let map = access::<K, V, E>(writer.bytes(), pos).expect(rt, "a map");
-    let made: Result<BTreeMap<u8, u8>, DeserializeFault> = ArchivedBTreeMap::<K, V, E>::deserialize(
-        alloc, &map,
-    );
+    let map = opened::<K, V, E>(rt, writer.bytes(), pos);
+    code_of(ArchivedBTreeMap::<K, V, E>::deserialize(alloc, &map))
+}
+
+/// The code of the fault, or how many entries were made.
+fn code_of(made: Result<BTreeMap<u8, u8>, DeserializeFault>) -> Result<Result<usize, u32>, Fail> {
     match made {
         Ok(made) => Ok(Ok(made.len())),
         Err(DeserializeFault::Entry(fault)) => Ok(Err(fault.code)),

@@ -3,6 +3,7 @@
 use rkyv_btree::deserialize::{Deserialize, DeserializeKey};
 use rkyv_btree::map::access;
 use rkyv_btree::same_as::SameAs;
+use rkyv_btree::view::View;
 use rkyv_btree_base::archive::{Archive, Serialize};
 use rkyv_btree_base::check::{CheckBytes, Portable};
 use rkyv_btree_base::layout;
@@ -41,8 +42,31 @@ where
     Ok(ArchivedBTreeMap::<K, V, E>::write_root(entries.len(), root, writer)?)
 }
 
+/// The map at a position.
+pub(crate) fn opened<'a, K: CheckBytes, V: CheckBytes, const E: usize>(
+    rt: &impl Abort,
+    bytes: &'a [u8],
+    pos: u32,
+) -> View<'a, ArchivedBTreeMap<K, V, E>> {
+    assert!(rt; layout::fits::<K, V, E>());
+    access::<K, V, E>(bytes, pos).expect(rt, "a map")
+}
+
+/// Whether an archived map is the same as a native one.
+fn is_same<KU, VU, K, V, const E: usize>(
+    map: &View<ArchivedBTreeMap<K, V, E>>,
+    native: &BTreeMap<KU, VU>,
+) -> bool
+where
+    KU: Ord + Drop,
+    K: CheckBytes + SameAs<KU>,
+    V: CheckBytes + SameAs<VU>,
+{
+    map.eq_map(native)
+}
+
 /// The native map that is made of an archived one, which has so many entries and is the same.
-fn made<KU, VU, K, V, const E: usize>(
+pub(crate) fn made<KU, VU, K, V, const E: usize>(
     rt: &impl Abort,
     alloc: Global,
     bytes: &[u8],
@@ -55,11 +79,10 @@ where
     K: CheckBytes + DeserializeKey<KU> + SameAs<KU>,
     V: CheckBytes + Deserialize<VU> + SameAs<VU>,
 {
-    assert!(rt; layout::fits::<K, V, E>());
-    let map = access::<K, V, E>(bytes, pos).expect(rt, "a map");
+    let map = opened::<K, V, E>(rt, bytes, pos);
     let made: BTreeMap<KU, VU> = ArchivedBTreeMap::<K, V, E>::deserialize(alloc, &map)?;
     assert_eq!(rt; made.len(), len);
-    assert!(rt; map.eq_map(&made));
+    assert!(rt; is_same::<KU, VU, K, V, E>(&map, &made));
     Ok(made)
 }
 

@@ -6,11 +6,9 @@ use crate::foreign::{CHILDLESS, OVER_EMPTY};
 use crate::numbers::archive;
 use crate::texts::{archive_texts, with_texts};
 use crate::views::hashed;
-use rkyv_btree::compare::ViewHash;
+use rkyv_btree::compare::{ViewEq, ViewHash};
 use rkyv_btree::debug::ViewDebug;
-use rkyv_btree::map::access;
 use rkyv_btree::view::View;
-use rkyv_btree_base::layout;
 use rkyv_btree_base::map::ArchivedBTreeMap;
 use rkyv_btree_base::numbers::ArchivedU32;
 use rkyv_btree_base::place::VecWriter;
@@ -27,8 +25,7 @@ pub(crate) fn opened<'a, const E: usize>(
     bytes: &'a [u8],
     pos: u32,
 ) -> View<'a, ArchivedBTreeMap<ArchivedU32, ArchivedU32, E>> {
-    assert!(rt; layout::fits::<ArchivedU32, ArchivedU32, E>());
-    access::<ArchivedU32, ArchivedU32, E>(bytes, pos).expect(rt, "a map")
+    convert::opened::<ArchivedU32, ArchivedU32, E>(rt, bytes, pos)
 }
 
 /// The archive of numbers behind some bytes, and where the map stands.
@@ -45,23 +42,25 @@ fn archived<const E: usize>(
 
 type Numbers<const E: usize> = ArchivedBTreeMap<ArchivedU32, ArchivedU32, E>;
 
-/// Asserts whether two maps are equal.
-fn views_are_equal(rt: &impl Abort, left: &View<Numbers<5>>, alike: &View<Numbers<5>>, want: bool) {
+/// Asserts whether two views are equal.
+fn views_are_equal<T: ViewEq>(rt: &impl Abort, left: &View<T>, alike: &View<T>, want: bool) {
     assert_eq!(rt; *left == *alike, want);
     assert_eq!(rt; *alike == *left, want);
 }
 
-/// Asserts whether the entries of a map are those of two others.
-fn entries_are_equal(
+/// Asserts whether the entries of a map are those of another.
+fn entries_are_equal<K: ViewEq, V: ViewEq, const D: usize, const E: usize>(
     rt: &impl Abort,
-    left: &View<Numbers<5>>,
-    alike: &View<Numbers<5>>,
-    other: &View<Numbers<1>>,
+    left: &View<ArchivedBTreeMap<K, V, D>>,
+    other: &View<ArchivedBTreeMap<K, V, E>>,
     want: bool,
 ) {
-    assert_eq!(rt; left.eq_entries(*alike), want);
     assert_eq!(rt; left.eq_entries(*other), want);
-    assert_eq!(rt; other.eq_entries(*left), want);
+}
+
+/// What a hasher answers that was fed a view.
+fn hash_of<T: ViewHash>(view: &View<T>) -> u64 {
+    hashed(view)
 }
 
 /// Asserts whether the hash of a map is that of two others.
@@ -72,8 +71,9 @@ fn hashes_are_equal(
     other: &View<Numbers<1>>,
     want: bool,
 ) {
-    assert_eq!(rt; hashed(alike), hashed(other));
-    assert_eq!(rt; hashed(left) == hashed(alike), want);
+    let hash = hash_of(alike);
+    assert_eq!(rt; hash, hash_of(other));
+    assert_eq!(rt; hash_of(left) == hash, want);
 }
 
 /// Archives two lists, the second behind three bytes and also with other nodes, and asserts whether their maps are equal.
@@ -91,7 +91,9 @@ fn maps_are_equal(
     let (third, pos) = archived::<1>(rt, alloc, &[], right)?;
     let other = opened::<1>(rt, &third, pos);
     views_are_equal(rt, &left, &alike, want);
-    entries_are_equal(rt, &left, &alike, &other, want);
+    entries_are_equal(rt, &left, &alike, want);
+    entries_are_equal(rt, &left, &other, want);
+    entries_are_equal(rt, &other, &left, want);
     hashes_are_equal(rt, &left, &alike, &other, want);
     Ok(())
 }
@@ -136,8 +138,8 @@ fn maps_of_other_lists_are_not_equal(rt: HostRuntime) -> Result<(), Fail> {
 fn maps_of_one_list_in_two_trees_are_equal(rt: HostRuntime) {
     let left = opened::<1>(&rt, &OVER_EMPTY, 36);
     let right = opened::<1>(&rt, &CHILDLESS, 20);
-    assert!(rt; left == right);
-    assert_eq!(rt; hashed(&left), hashed(&right));
+    views_are_equal(&rt, &left, &right, true);
+    assert_eq!(rt; hash_of(&left), hash_of(&right));
 }
 
 #[test]
@@ -145,15 +147,13 @@ fn a_map_of_texts_is_hashed_and_shown_entry_by_entry(rt: HostRuntime) -> Result<
     let entries = with_texts(rt.alloc(), &[("a", 1), ("b", 2)])?;
     let mut writer = VecWriter::new(rt.alloc());
     let pos = archive_texts::<i32, ArchivedI32, 5>(&rt, rt.alloc(), &entries, &mut writer)?;
-    assert!(rt; layout::fits::<ArchivedText, ArchivedI32, 5>());
-    let opened = access::<ArchivedText, ArchivedI32, 5>(writer.bytes(), pos);
-    let map = opened.expect(&rt, "a map");
+    let map = convert::opened::<ArchivedText, ArchivedI32, 5>(&rt, writer.bytes(), pos);
     let mut state = DefaultHasher::new();
     "a".hash(&mut state);
     1i32.hash(&mut state);
     "b".hash(&mut state);
     2i32.hash(&mut state);
-    assert_eq!(rt; hashed(&map), state.finish());
+    assert_eq!(rt; hash_of(&map), state.finish());
     let told = format!(in rt.alloc(); "{map:?}")?;
     assert_eq!(rt; told.as_str(), "{\"a\": 1, \"b\": 2}");
     Ok(())
@@ -181,8 +181,7 @@ fn a_map_feeds_a_hasher_its_entries_and_no_length(rt: HostRuntime) -> Result<(),
     let entries = [(1u8, 2u8), (3, 4)];
     let mut writer = VecWriter::new(rt.alloc());
     let pos = convert::archive::<u8, u8, _, _, 1>(&rt, rt.alloc(), &entries, &mut writer)?;
-    assert!(rt; layout::fits::<u8, u8, 1>());
-    let map = access::<u8, u8, 1>(writer.bytes(), pos).expect(&rt, "a map");
+    let map = convert::opened::<u8, u8, 1>(&rt, writer.bytes(), pos);
     is_taken_and_shown_as(
         &rt,
         rt.alloc(),

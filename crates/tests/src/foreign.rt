@@ -1,9 +1,9 @@
 //! Trees of several nodes that anybody wrote.
 ghost use Rattle.std.specs.Prelude.{◌≤◌};
 
-use crate::opening::{begun, changed, no_such_length, opens, refuses};
-use rkyv_btree::map::access;
-use rkyv_btree_base::layout;
+use crate::convert::opened;
+use crate::opening::{begun, changed, no_such_length, opens, refusal_of, refuses};
+use rkyv_btree::view::View;
 use rkyv_btree_base::numbers::ArchivedU32;
 use rkyv_btree_base::refusal::{InvalidLength, Refusal};
 use rkyv_btree_base::text::ArchivedText;
@@ -132,20 +132,23 @@ const TEXTS: [u8; 60] = [
     232, 255, 255, 255, 2, 0, 0, 0, // map
 ];
 
+/// The text and the number of an entry.
+fn text_and_number<'a>(entry: (View<'a, ArchivedText>, View<'a, ArchivedU32>)) -> (&'a str, u32) {
+    (entry.0.as_str(), entry.1.to_native())
+}
+
 #[test]
 fn no_two_keys_share_a_text(rt: HostRuntime) {
-    assert!(rt; layout::fits::<ArchivedText, ArchivedU32, 1>());
-    let opened = access::<ArchivedText, ArchivedU32, 1>(&TEXTS, 52);
-    let mut entries = opened.expect(&rt, "a map").iter();
+    let map = opened::<ArchivedText, ArchivedU32, 1>(&rt, &TEXTS, 52);
+    let mut entries = map.iter();
     for (key, value) in [("a", 1), ("bc", 2)] {
-        let met = entries.next().map(|(k, v)| (k.as_str(), v.to_native()));
-        assert_eq!(rt; met, Some((key, value)));
+        assert_eq!(rt; entries.next().map(text_and_number), Some((key, value)));
     }
     assert!(rt; entries.next().is_none());
     // The first text in its own leaf, and the second from the first's byte on.
     for (at, byte, pos) in [(8, 252, 8), (32, 224, 32)] {
         let bytes = changed(&rt, &TEXTS, &[(at, byte)]);
-        let refused = access::<ArchivedText, ArchivedU32, 1>(&bytes, 52).err();
+        let refused = refusal_of::<ArchivedText, ArchivedU32, 1>(&rt, &bytes, 52);
         assert_eq!(rt; refused, Some(Refusal::BadEntry { pos }));
     }
 }

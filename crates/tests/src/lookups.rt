@@ -5,7 +5,11 @@ ghost use Rattle.rkyv_btree.specs.View.{reads};
 
 use crate::equal_maps::opened;
 use crate::numbers::archive;
+use rkyv_btree::compare::ViewOrd;
+use rkyv_btree::native::ToNative;
+use rkyv_btree::query::CompareWith;
 use rkyv_btree::view::{Shows, View};
+use rkyv_btree_base::check::CheckBytes;
 use rkyv_btree_base::layout::entries_to_height;
 use rkyv_btree_base::map::ArchivedBTreeMap;
 use rkyv_btree_base::numbers::ArchivedU32;
@@ -77,11 +81,39 @@ fn is_told<const E: usize>(
     want: Option<u32>,
 ) {
     let key = view.to_native();
-    assert_eq!(rt; map.contains_by(key), want.is_some(), "{key}");
-    assert_eq!(rt; map.contains_key(*view), want.is_some(), "{key}");
-    if map.contains_key(*view) {
-        let value = map.index(*view).to_native();
-        assert_eq!(rt; Some(value), want, "{key}");
+    let is_told = is_there_by::<u32, ArchivedU32, ArchivedU32, E>(map, key);
+    assert_eq!(rt; is_told, want.is_some(), "{key}");
+    let is_told = is_there::<ArchivedU32, ArchivedU32, E>(map, view);
+    assert_eq!(rt; is_told, want.is_some(), "{key}");
+    let value = indexed::<ArchivedU32, ArchivedU32, E>(map, view);
+    assert_eq!(rt; value, want, "{key}");
+}
+
+/// Whether a key is told to be there.
+pub(crate) fn is_there<K: CheckBytes + ViewOrd, V: CheckBytes, const E: usize>(
+    map: &View<ArchivedBTreeMap<K, V, E>>,
+    key: &View<K>,
+) -> bool {
+    map.contains_key(*key)
+}
+
+/// The same of a native value.
+pub(crate) fn is_there_by<N: Drop, K: CheckBytes + CompareWith<N>, V: CheckBytes, const E: usize>(
+    map: &View<ArchivedBTreeMap<K, V, E>>,
+    key: N,
+) -> bool {
+    map.contains_by(key)
+}
+
+/// The value at the index of a key, if the key is told to be there.
+fn indexed<K: CheckBytes + ViewOrd, V: ToNative<Native = u32>, const E: usize>(
+    map: &View<ArchivedBTreeMap<K, V, E>>,
+    key: &View<K>,
+) -> Option<u32> {
+    if map.contains_key(*key) {
+        Some(map.index(*key).to_native())
+    } else {
+        None
     }
 }
 

@@ -1,7 +1,8 @@
 //! Look-ups of keys of each type, by their views and by native values.
 
+use crate::convert;
+use crate::lookups::{is_there, is_there_by};
 use rkyv_btree::compare::ViewOrd;
-use rkyv_btree::map::access;
 use rkyv_btree::query::CompareWith;
 use rkyv_btree::view::View;
 use rkyv_btree_base::archive::{Archive, Serialize};
@@ -76,8 +77,7 @@ fn opened<'a, K: CheckBytes, const E: usize>(
     bytes: &'a [u8],
     pos: u32,
 ) -> View<'a, Numbered<K, E>> {
-    assert!(rt; layout::fits::<K, ArchivedU32, E>());
-    access::<K, ArchivedU32, E>(bytes, pos).expect(rt, "a map")
+    convert::opened::<K, ArchivedU32, E>(rt, bytes, pos)
 }
 
 /// Asserts that look-ups of a key find its number, unless that is the one left out.
@@ -98,8 +98,10 @@ where
     assert_eq!(rt; found, want, "{number} without {without}");
     let found = map.get_by(query).map(|value| value.to_native());
     assert_eq!(rt; found, want, "{number} without {without}");
-    assert_eq!(rt; map.contains_key(*key), want.is_some());
-    assert_eq!(rt; map.contains_by(query), want.is_some());
+    let is_told = is_there::<K, ArchivedU32, E>(map, key);
+    assert_eq!(rt; is_told, want.is_some());
+    let is_told = is_there_by::<N, K, ArchivedU32, E>(map, query);
+    assert_eq!(rt; is_told, want.is_some());
 }
 
 /// Asserts that each key of the whole map but one is found in the other, by its view and by its query.
@@ -280,8 +282,7 @@ fn pairs_with_a_text_are_found(rt: HostRuntime) -> Result<(), Fail> {
 
 /// Opens the empty map.
 fn nothing<K: CheckBytes>(rt: &impl Abort) -> View<'static, ArchivedBTreeMap<K, (), 1>> {
-    assert!(rt; layout::fits::<K, (), 1>());
-    access::<K, (), 1>(&[0, 0, 0, 0, 0, 0, 0, 0], 0).expect(rt, "a map")
+    convert::opened::<K, (), 1>(rt, &[0, 0, 0, 0, 0, 0, 0, 0], 0)
 }
 
 #[test]
@@ -289,7 +290,12 @@ fn literals_take_the_type_of_the_keys(rt: HostRuntime) {
     assert!(rt; !nothing::<u8>(&rt).contains_by(5));
     assert!(rt; !nothing::<ArchivedI16>(&rt).contains_by(-5));
     assert!(rt; !nothing::<ArchivedU64>(&rt).contains_by(4294967296));
-    assert!(rt; !nothing::<ArchivedChar>(&rt).contains_by('a'));
-    assert!(rt; !nothing::<ArchivedText>(&rt).contains_by("a"));
-    assert!(rt; !nothing::<Entry<u8, ArchivedI64>>(&rt).contains_by((5, -5)));
+    longer_literals_take_the_type_of_the_keys(&rt);
+}
+
+/// The same of characters, texts and pairs.
+fn longer_literals_take_the_type_of_the_keys(rt: &impl Abort) {
+    assert!(rt; !nothing::<ArchivedChar>(rt).contains_by('a'));
+    assert!(rt; !nothing::<ArchivedText>(rt).contains_by("a"));
+    assert!(rt; !nothing::<Entry<u8, ArchivedI64>>(rt).contains_by((5, -5)));
 }

@@ -1,10 +1,9 @@
 //! Native maps and sets of archived ones: equal keys, other lists, maps in maps, damaged archives, and refused growths.
 
-use crate::convert::archive;
+use crate::convert::{self, archive, made};
 use crate::numbers::Numbers;
 use crate::opening::no_such_length;
 use rkyv_btree::deserialize::{Deserialize, DeserializeFault};
-use rkyv_btree::map::access;
 use rkyv_btree::same_as::SameAs;
 use rkyv_btree::view::View;
 use rkyv_btree::whole::{ArchiveFault, from_archive, open};
@@ -38,8 +37,7 @@ fn archived(
 
 /// The map of numbers at a position.
 fn opened<'a>(rt: &impl Abort, bytes: &'a [u8], pos: u32) -> View<'a, Numbers> {
-    assert!(rt; layout::fits::<ArchivedU32, ArchivedU32, 5>());
-    access::<ArchivedU32, ArchivedU32, 5>(bytes, pos).expect(rt, "a map")
+    convert::opened::<ArchivedU32, ArchivedU32, 5>(rt, bytes, pos)
 }
 
 #[test]
@@ -125,9 +123,7 @@ fn map_in_map(rt: &impl Abort, alloc: Global) -> Result<(Vec<u8>, u32), Fail> {
 #[test]
 fn maps_in_maps_are_made(rt: HostRuntime) -> Result<(), Fail> {
     let (bytes, pos) = map_in_map(&rt, rt.alloc())?;
-    assert!(rt; layout::fits::<ArchivedU32, Numbers, 1>());
-    let opened = access::<ArchivedU32, Numbers, 1>(bytes.as_slice(), pos);
-    let map = opened.expect(&rt, "a map");
+    let map = convert::opened::<ArchivedU32, Numbers, 1>(&rt, &bytes, pos);
     let made: BTreeMap<u32, BTreeMap<u32, u32>> = Keyed::<Numbers>::deserialize(rt.alloc(), &map)?;
     let inner = BTreeMap::from_array(rt.alloc(), [(1, 20), (2, 30)])?;
     assert_eq!(rt; made.len(), 1);
@@ -195,37 +191,52 @@ fn numbers(alloc: Global, count: u32) -> Result<BTreeSet<u32>, Fail> {
     Ok(keys)
 }
 
+/// A number's digits.
+fn text_of(alloc: Global, number: u32) -> Result<String, Fail> {
+    Ok(format!(in alloc; "{number}")?)
+}
+
 /// The numbers below a count, each with a text, of which no two are equal.
 fn pairs(alloc: Global, count: u32) -> Result<BTreeSet<(u32, String)>, Fail> {
     let mut keys = BTreeSet::new(alloc);
     for number in 0..count {
-        keys.insert((number / 2, format!(in alloc; "{number}")?))?;
+        keys.insert((number / 2, text_of(alloc, number)?))?;
     }
     Ok(keys)
+}
+
+/// The map of the numbers below a count to another number.
+fn map_to(alloc: Global, count: u32, value: u32) -> Result<BTreeMap<u32, u32>, Fail> {
+    let mut map = BTreeMap::new(alloc);
+    for key in 0..count {
+        map.insert(key, value)?;
+    }
+    Ok(map)
 }
 
 /// The numbers below a count, each with the map of those below it to the count.
 fn maps(alloc: Global, count: u32) -> Result<BTreeMap<u32, BTreeMap<u32, u32>>, Fail> {
     let mut maps = BTreeMap::new(alloc);
     for number in 0..count {
-        let mut inner = BTreeMap::new(alloc);
-        for key in 0..number {
-            inner.insert(key, count)?;
-        }
-        maps.insert(number, inner)?;
+        maps.insert(number, map_to(alloc, number, count)?)?;
     }
     Ok(maps)
+}
+
+/// The numbers below a count as texts.
+fn texts(alloc: Global, count: u32) -> Result<BTreeSet<String>, Fail> {
+    let mut texts = BTreeSet::new(alloc);
+    for number in 0..count {
+        texts.insert(text_of(alloc, number)?)?;
+    }
+    Ok(texts)
 }
 
 /// The numbers below a count, each with the set of those below it as texts.
 fn sets(alloc: Global, count: u32) -> Result<BTreeMap<u32, BTreeSet<String>>, Fail> {
     let mut sets = BTreeMap::new(alloc);
     for number in 0..count {
-        let mut inner = BTreeSet::new(alloc);
-        for key in 0..number {
-            inner.insert(format!(in alloc; "{key}")?)?;
-        }
-        sets.insert(number, inner)?;
+        sets.insert(number, texts(alloc, number)?)?;
     }
     Ok(sets)
 }
@@ -402,11 +413,7 @@ fn made_of_pairs(
     bytes: &[u8],
     pos: u32,
 ) -> Result<BTreeMap<(u32, String), (String, bool)>, Fail> {
-    assert!(rt; layout::fits::<Key, Value, 2>());
-    let map = access::<Key, Value, 2>(bytes, pos).expect(rt, "a map");
-    let made = ArchivedBTreeMap::<Key, Value, 2>::deserialize(alloc, &map)?;
-    assert!(rt; map.eq_map(&made));
-    Ok(made)
+    made::<(u32, String), (String, bool), Key, Value, 2>(rt, alloc, bytes, pos, 1)
 }
 
 #[test]
@@ -425,8 +432,7 @@ fn texts_made(
     alloc: Global,
     bytes: &[u8],
 ) -> Result<BTreeMap<String, String>, DeserializeFault> {
-    assert!(rt; layout::fits::<ArchivedText, ArchivedText, 1>());
-    let map = access::<ArchivedText, ArchivedText, 1>(bytes, 28).expect(rt, "a map");
+    let map = convert::opened::<ArchivedText, ArchivedText, 1>(rt, bytes, 28);
     ArchivedBTreeMap::<ArchivedText, ArchivedText, 1>::deserialize(alloc, &map)
 }
 

@@ -1,8 +1,9 @@
 //! Maps whose bytes anybody wrote, of a node at most.
 
+use crate::convert::opened;
 use rkyv_btree::map::access;
 use rkyv_btree::view::View;
-use rkyv_btree_base::check::Window;
+use rkyv_btree_base::check::{CheckBytes, Window};
 use rkyv_btree_base::layout;
 use rkyv_btree_base::numbers::ArchivedU32;
 use rkyv_btree_base::refusal::{EntriesLengthMismatch, InvalidLength, Refusal};
@@ -33,9 +34,7 @@ pub(crate) fn opens<const E: usize>(
     pos: u32,
     entries: &[(u32, u32)],
 ) {
-    assert!(rt; layout::fits::<ArchivedU32, ArchivedU32, E>());
-    let opened = access::<ArchivedU32, ArchivedU32, E>(bytes, pos);
-    let map = opened.expect(rt, "a map");
+    let map = opened::<ArchivedU32, ArchivedU32, E>(rt, bytes, pos);
     assert_eq!(rt; map.len() as usize, entries.len());
     let mut left = entries;
     let other = map.visit(|k: View<ArchivedU32>, v: View<ArchivedU32>| {
@@ -53,12 +52,18 @@ pub(crate) fn opens<const E: usize>(
 
 /// Asserts that the bytes are refused so, with so many checks of nodes begun.
 pub(crate) fn refuses<const E: usize>(rt: &impl Abort, bytes: &[u8], pos: u32, refusal: Refusal) {
-    assert!(rt; layout::fits::<ArchivedU32, ArchivedU32, E>());
-    let told = match access::<ArchivedU32, ArchivedU32, E>(bytes, pos) {
-        Ok(_) => None,
-        Err(told) => Some(told),
-    };
+    let told = refusal_of::<ArchivedU32, ArchivedU32, E>(rt, bytes, pos);
     assert_eq!(rt; told, Some(refusal));
+}
+
+/// Why there is no map at a position, unless there is one.
+pub(crate) fn refusal_of<K: CheckBytes, V: CheckBytes, const E: usize>(
+    rt: &impl Abort,
+    bytes: &[u8],
+    pos: u32,
+) -> Option<Refusal> {
+    assert!(rt; layout::fits::<K, V, E>());
+    access::<K, V, E>(bytes, pos).err()
 }
 
 /// How many checks of nodes are begun.
@@ -110,7 +115,6 @@ fn one_entry_that_is_damaged_is_refused(rt: HostRuntime) {
 
 #[test]
 fn keys_other_than_0_and_no_keys_are_checked(rt: HostRuntime) {
-    assert!(rt; layout::fits::<ArchivedNonZeroU32, ArchivedU32, 5>());
     let zero = changed(&rt, &ONE, &[(4, 0)]);
     let rows = [
         (ONE, None),
@@ -118,13 +122,12 @@ fn keys_other_than_0_and_no_keys_are_checked(rt: HostRuntime) {
         (changed(&rt, &zero, &[(44, 0)]), Some(no_such_length(0, 1))),
     ];
     for (bytes, refusal) in rows {
-        let opened = access::<ArchivedNonZeroU32, ArchivedU32, 5>(&bytes, 48);
-        assert_eq!(rt; opened.err(), refusal);
+        let told = refusal_of::<ArchivedNonZeroU32, ArchivedU32, 5>(&rt, &bytes, 48);
+        assert_eq!(rt; told, refusal);
     }
-    assert!(rt; layout::fits::<(), (), 5>());
     let bytes = [0, 0, 0, 0, 3, 0, 0, 0, 248, 255, 255, 255, 3, 0, 0, 0];
-    let opened = access::<(), (), 5>(&bytes, 8);
-    assert_eq!(rt; opened.expect(&rt, "a map").iter().count(), 3);
+    let map = opened::<(), (), 5>(&rt, &bytes, 8);
+    assert_eq!(rt; map.iter().count(), 3);
 }
 
 #[test]

@@ -4,9 +4,9 @@ use crate::convert;
 use crate::equal_maps::opened;
 use crate::numbers::{archive, tens};
 use crate::texts::archive_texts;
-use rkyv_btree::map::access;
+use rkyv_btree::range::Range;
 use rkyv_btree::view::View;
-use rkyv_btree_base::layout;
+use rkyv_btree_base::check::Portable;
 use rkyv_btree_base::map::ArchivedBTreeMap;
 use rkyv_btree_base::numbers::ArchivedU32;
 use rkyv_btree_base::place::VecWriter;
@@ -215,19 +215,31 @@ fn keys_and_values_are_counted(rt: HostRuntime) -> Result<(), Fail> {
 #[test]
 fn an_empty_map_has_nothing_to_walk(rt: HostRuntime) {
     let buf = [0u8, 0, 0, 0, 0, 0, 0, 0];
-    assert!(rt; layout::fits::<ArchivedU32, ArchivedU32, 1>());
-    let map = access::<ArchivedU32, ArchivedU32, 1>(&buf, 0).expect(&rt, "a map");
+    let map = opened::<1>(&rt, &buf, 0);
+    has_no_keys::<ArchivedU32, ArchivedU32, 1>(&rt, &map);
+    let mut range = map.range_by(Bound::Included(0), Bound::Excluded(9));
+    ends::<ArchivedU32, ArchivedU32, 1>(&rt, &mut range);
+    let mut all = map.range(Bound::Unbounded, Bound::Unbounded);
+    ends::<ArchivedU32, ArchivedU32, 1>(&rt, &mut all);
+}
+
+/// A map has no keys and no values.
+fn has_no_keys<K: Portable, V: Portable, const E: usize>(
+    rt: &impl Abort,
+    map: &View<ArchivedBTreeMap<K, V, E>>,
+) {
     assert_eq!(rt; map.keys().len(), 0);
     assert!(rt; map.keys().next().is_none());
     assert!(rt; map.values().next().is_none());
-    let mut range = map.range_by(Bound::Included(0), Bound::Excluded(9));
+}
+
+/// A range has no more entries, however often it is asked.
+fn ends<K: Portable, V: Portable, const E: usize>(
+    rt: &impl Abort,
+    range: &mut Range<'_, ArchivedBTreeMap<K, V, E>>,
+) {
     assert!(rt; range.next().is_none());
     assert!(rt; range.next().is_none());
-    assert!(rt;
-        map.range(Bound::Unbounded, Bound::Unbounded)
-            .next()
-            .is_none()
-    );
 }
 
 #[test]
@@ -238,23 +250,24 @@ fn ranges_of_characters(rt: HostRuntime) -> Result<(), Fail> {
     }
     let mut writer = VecWriter::new(rt.alloc());
     let root = convert::archive::<char, char, _, _, 5>(&rt, rt.alloc(), &entries, &mut writer)?;
-    assert!(rt; layout::fits::<ArchivedChar, ArchivedChar, 5>());
-    let map = access::<ArchivedChar, ArchivedChar, 5>(writer.bytes(), root).expect(&rt, "a map");
-    assert!(rt;
-        map.range_by(Bound::Unbounded, Bound::Excluded('a'))
-            .next()
-            .is_none()
-    );
-    assert!(rt;
-        map.range_by(Bound::Included('|'), Bound::Unbounded)
-            .next()
-            .is_none()
-    );
+    let map = convert::opened::<ArchivedChar, ArchivedChar, 5>(&rt, writer.bytes(), root);
+    has_last_characters(&rt, &map);
+    let mut before = map.range_by(Bound::Unbounded, Bound::Excluded('a'));
+    ends::<ArchivedChar, ArchivedChar, 5>(&rt, &mut before);
+    let mut behind = map.range_by(Bound::Included('|'), Bound::Unbounded);
+    ends::<ArchivedChar, ArchivedChar, 5>(&rt, &mut behind);
+    Ok(())
+}
+
+/// The range of characters from x on has x and y.
+fn has_last_characters(
+    rt: &impl Abort,
+    map: &View<ArchivedBTreeMap<ArchivedChar, ArchivedChar, 5>>,
+) {
     let mut range = map.range_by(Bound::Included('x'), Bound::Unbounded);
     assert_eq!(rt; range.next().map(|(k, _)| k.to_native()), Some('x'));
     assert_eq!(rt; range.next().map(|(_, v)| v.to_native()), Some('y'));
     assert!(rt; range.next().is_none());
-    Ok(())
 }
 
 /// The letters from a to y, each with its number.
@@ -272,8 +285,7 @@ type Letters = ArchivedBTreeMap<ArchivedText, ArchivedU32, 5>;
 
 /// Opens the map of letters at a position.
 fn opened_letters<'a>(rt: &impl Abort, bytes: &'a [u8], pos: u32) -> View<'a, Letters> {
-    assert!(rt; layout::fits::<ArchivedText, ArchivedU32, 5>());
-    access::<ArchivedText, ArchivedU32, 5>(bytes, pos).expect(rt, "a map")
+    convert::opened::<ArchivedText, ArchivedU32, 5>(rt, bytes, pos)
 }
 
 /// The range of letters from d to before w has their numbers.
