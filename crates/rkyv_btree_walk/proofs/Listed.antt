@@ -1,6 +1,6 @@
 -- The entries of a node and of its children are those of its tree. These speak of what is left from its
 -- first child on: the list of a tree of 32 levels would unfold, level by level, in each goal that names it.
-use Rattle.std.proofs.Common.{◌≡◌, ℕ, zero, suc, ◌+◌, ◌≤◌, ◌<◌, List, [], ◌∷◌, ◌++◌, refl, sym, subst, arith, Option, Some, None}
+use Rattle.std.proofs.Common.{◌≡◌, ℕ, zero, suc, ◌+◌, ◌≤◌, ◌<◌, List, [], ◌∷◌, ◌++◌, refl, sym, subst, arith, Some}
 use Rattle.rkyv_btree_base.specs.Layout.{NodeLayout}
 use Rattle.rkyv_btree_base.specs.Read.{tree_at}
 use Rattle.rkyv_btree_base.specs.Tree.{list}

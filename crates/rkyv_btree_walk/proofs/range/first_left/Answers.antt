@@ -4,7 +4,7 @@ use Rattle.rkyv_btree_base.specs.Layout.{layout_of}
 use Rattle.rkyv_btree_walk.specs.mirror.Path.{path_rest}
 use Rattle.rkyv_btree_walk.specs.mirror.Range.{first_of}
 use Rattle.rkyv_btree_walk.proofs.Below.{pop_below}
-use Rattle.rkyv_btree_walk.proofs.Paths.{pop_path, pop_tree, pop_node, pop_inner, pop_end, pop_more, put_short, inner_run, walk_end, pop_run, pop_short}
+use Rattle.rkyv_btree_walk.proofs.Paths.{pop_path, pop_end, pop_more, walk_end, pop_run, pop_short}
 use Rattle.rkyv_btree_walk.proofs.range.first_left.Goals as goal
 
 pub push-requires : goal.push-requires

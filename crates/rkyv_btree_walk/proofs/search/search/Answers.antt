@@ -1,7 +1,6 @@
 -- A map that stands has a root where it has entries.
 use Rattle.std.proofs.Common.{◌≡◌, ◌≤◌, length, ◌∙◌, arith, rules}
 use Rattle.rkyv_btree_base.proofs.MapLaws.{map_room, map_short}
-use Rattle.rkyv_btree_base.specs.Layout.{layout_of}
 use Rattle.rkyv_btree_walk.specs.mirror.Node.{TreeStands}
 use Rattle.rkyv_btree_walk.proofs.Roots.{root_leads, root_stands, root_list, root_searched, none_searched}
 use Rattle.rkyv_btree_walk.proofs.search.search.Goals as goal

@@ -2,7 +2,7 @@
 use Rattle.std.proofs.Common.{arith, sym, ◌∙◌, rules}
 use Rattle.rkyv_btree_base.proofs.Sizes.{room_of}
 use Rattle.rkyv_btree_base.specs.Layout.{layout_of}
-use Rattle.rkyv_btree_walk.specs.mirror.Node.{RunStands, entry_count}
+use Rattle.rkyv_btree_walk.specs.mirror.Node.{RunStands}
 use Rattle.rkyv_btree_walk.proofs.Listed.{child_listed, entry_listed}
 use Rattle.rkyv_btree_walk.proofs.Nodes.{tree_node, tree_levels, child_before, child_stands}
 use Rattle.rkyv_btree_walk.proofs.Searches.{node_run, leaf_counted, inner_counted, leaf_alone, search_finds, search_ends, search_down, search_begins, search_then, search_on, asked_within}
