@@ -6,7 +6,7 @@ ghost use Rattle.rkyv_btree_base.specs.Read.{read_map, map_tree};
 ghost use Rattle.rkyv_btree_base.specs.Tree.{list};
 ghost use Rattle.rkyv_btree_base.specs.Views.{stands};
 ghost use Rattle.rkyv_btree_walk.specs.Search.{compared_of, shown};
-ghost use Rattle.rkyv_btree_walk.specs.mirror.Node.{TreeStands, RunStands};
+ghost use Rattle.rkyv_btree_walk.specs.mirror.Node.{TreeStands, RunStands, CanBeSearched};
 ghost use Rattle.rkyv_btree_walk.specs.mirror.Path.{tree_rest};
 ghost use Rattle.rkyv_btree_walk.specs.mirror.Search.{StopsAt, StopsWithin, IsListed, asked_by, answers_at, searched, searched_map, TellsBy};
 
@@ -88,9 +88,7 @@ fn search_node<
     C: Fn(&Q, W) -> Compared,
 >(buf: &'a [u8], node: u32, count: u32, key: &Q, cmp: &C) -> Stop
     requires callable { C.IsAlwaysCallable cmp.now }
-    requires fitting { IsTrue (are_fitting K.kind V.kind M.E) }
-    requires short { length buf.now ≤ 4294967295 }
-    requires stands { RunStands K.kind V.kind M.E buf.now node 0 count }
+    requires node { CanBeSearched K.kind V.kind M.E buf.now node count }
     ensures within { StopsWithin count result }
     ensures stops { (c : Q → K.kind.Value → Answer)
         → TellsBy (C.post cmp.now) (shown K.kind W.Shows) c

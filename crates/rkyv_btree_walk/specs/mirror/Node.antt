@@ -3,7 +3,7 @@
 use Rattle.std.specs.Prelude.{◌≡◌, ℕ, zero, suc, ◌+◌, ◌≤◌, ◌<◌, IsTrue, List, length, Option, Some, None, Bool, false, ℤ, pos, negsuc, slice_index, nat_eq, if◌then◌else◌}
 use Rattle.rkyv_btree_base.specs.Bytes.{number_at, target_at}
 use Rattle.rkyv_btree_base.specs.Kind.{Kind}
-use Rattle.rkyv_btree_base.specs.Layout.{NodeLayout, layout_of, key_at, value_at, len_at, leaf_size, inner_size, pointer_at}
+use Rattle.rkyv_btree_base.specs.Layout.{NodeLayout, are_fitting, layout_of, key_at, value_at, len_at, leaf_size, inner_size, pointer_at}
 use Rattle.rkyv_btree_base.specs.Views.{stands}
 
 -- a place in a buffer, where it isn't before its start
@@ -48,6 +48,12 @@ module _ (K V : Kind) (E : ℕ) (b : List ℕ) where
   -- the entries from number i to before number n stand in a node at p, which lies in the buffer
   abbrev pub RunStands : ℕ → ℕ → ℕ → Type 0
   RunStands p i n = (j : ℕ) → i ≤ j → j < n → EntryStands (p, j) × (p + leaf_size (layout_of K V E) ≤ length b) × (j < E)
+
+  -- the first n keys of the node at p can be read where the layout says that they stand
+  pub record CanBeSearched (p n : ℕ) : Type 0 where
+    pub fitting : IsTrue (are_fitting K V E)
+    pub short : length b ≤ 4294967295
+    pub run : RunStands p 0 n
 
   -- a tree of at most so many levels stands at p
   unfoldable pub TreeStands : ℕ → ℕ → Type 0

@@ -2,7 +2,7 @@
 use Rattle.std.proofs.Common.{arith, sym, ◌∙◌, rules}
 use Rattle.rkyv_btree_base.proofs.Sizes.{room_of}
 use Rattle.rkyv_btree_base.specs.Layout.{layout_of}
-use Rattle.rkyv_btree_walk.specs.mirror.Node.{RunStands}
+use Rattle.rkyv_btree_walk.specs.mirror.Node.{CanBeSearched, RunStands}
 use Rattle.rkyv_btree_walk.proofs.Listed.{child_listed, entry_listed}
 use Rattle.rkyv_btree_walk.proofs.Nodes.{tree_node, tree_levels, child_before, child_stands}
 use Rattle.rkyv_btree_walk.proofs.Searches.{node_run, leaf_counted, inner_counted, leaf_alone, search_finds, search_ends, search_down, search_begins, search_then, search_on, asked_within}
@@ -26,6 +26,7 @@ pub search_node-stop-requires : goal.search_node-stop-requires
 search_node-stop-requires g c =
     let run : RunStands g.K.Portable.kind g.V.Portable.kind g.M.ArchivedMap.E c.args.buf.now c.down.node 0 c.leaf_count-count.result =
     rw (leaf_counted (layout_of g.K.Portable.kind g.V.Portable.kind g.M.ArchivedMap.E) c.args.buf.now c.down.node (sym c.is_leaf.ensures ∙ c.if-is_leaf.true) c.leaf_count-count.ensures) (node_run _ _ _ _ c.down.node (tree_node _ _ _ _ _ c.down.node c.down.invariant.1)) in
+    let node : CanBeSearched g.K.Portable.kind g.V.Portable.kind g.M.ArchivedMap.E c.args.buf.now c.down.node c.leaf_count-count.result = record { fitting = c.requires.fitting; short = c.requires.short; run = run } in
     search rules
 
 pub overflow_add-asked : goal.overflow_add-asked
@@ -73,6 +74,7 @@ pub search_node-stop-requires-in-down : goal.search_node-stop-requires-in-down
 search_node-stop-requires-in-down g c =
     let run : RunStands g.K.Portable.kind g.V.Portable.kind g.M.ArchivedMap.E c.args.buf.now c.down.node 0 c.entries_per_node-count.result =
     rw (inner_counted (layout_of g.K.Portable.kind g.V.Portable.kind g.M.ArchivedMap.E) c.args.buf.now c.down.node (sym c.is_leaf.ensures ∙ c.if-is_leaf.false) c.entries_per_node-count.ensures) (node_run _ _ _ _ c.down.node (tree_node _ _ _ _ _ c.down.node c.down.invariant.1)) in
+    let node : CanBeSearched g.K.Portable.kind g.V.Portable.kind g.M.ArchivedMap.E c.args.buf.now c.down.node c.entries_per_node-count.result = record { fitting = c.requires.fitting; short = c.requires.short; run = run } in
     search rules
 
 pub overflow_add-asked-in-down : goal.overflow_add-asked-in-down
