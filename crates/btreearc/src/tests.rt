@@ -5,6 +5,7 @@ use crate::laws::round_trip;
 use crate::program::run;
 use rkyv_btree_base::fault::{EntryFault, Fault, IteratorLengthMismatch};
 use std::alloc::{AllocError, Global};
+use std::fmt::Debug;
 use std::io::{self, ErrorKind, Read, Write};
 use std::process::Abort;
 use std::test::Fail;
@@ -18,6 +19,11 @@ const SEVEN: [u8; 56] = [
     0, 0, 0, 0, 7, 0, 0, 0, 0, 0, 0, 0, 0, 0, 0, 0, 0, 0, 0, 0, 0, 0, 0, 0, 11, 0, 0, 0, 0, 0, 0,
     0, 0, 0, 0, 0, 0, 0, 0, 0, 0, 0, 0, 0, 1, 0, 0, 0, 0xD0, 0xFF, 0xFF, 0xFF, 1, 0, 0, 0,
 ];
+
+/// Asserts that two values are equal: as a call this is checked sooner than the macro written out.
+fn same<T: PartialEq + Debug + Drop>(rt: &impl Abort, found: T, wanted: T) {
+    assert_eq!(rt; found, wanted);
+}
 
 /// The words as the program gets them.
 fn words_of(alloc: Global, words: &[&str]) -> Result<Vec<String>, AllocError> {
@@ -40,8 +46,8 @@ fn writes(
     let mut input = input;
     let mut output = Vec::new(alloc);
     let status = run(alloc, &args, &mut input, &mut output)?;
-    assert_eq!(rt; status, 0);
-    assert_eq!(rt; output.as_slice(), expected);
+    same(rt, status, 0);
+    same(rt, output.as_slice(), expected);
     Ok(())
 }
 
@@ -67,7 +73,7 @@ fn reads_nothing(rt: &impl Abort, alloc: Global, words: &[&str]) -> Result<(), F
     let mut input = SEVEN.as_slice();
     let mut output = Vec::new(alloc);
     let result = run(alloc, &args, &mut input, &mut output);
-    assert_eq!(rt; input.len(), 56);
+    same(rt, input.len(), 56);
     assert!(rt; output.is_empty());
     says(rt, alloc, result, USAGE)
 }
@@ -83,7 +89,7 @@ fn says(
         Ok(status) => format!(in alloc; "status {status}")?,
         Err(fault) => format!(in alloc; "{fault}")?,
     };
-    assert_eq!(rt; text.as_str(), line);
+    same(rt, text.as_str(), line);
     Ok(())
 }
 
@@ -129,8 +135,8 @@ fn gets(
     let args = words_of(alloc, &["get", key])?;
     let mut input = archive;
     let mut output = Vec::new(alloc);
-    assert_eq!(rt; run(alloc, &args, &mut input, &mut output)?, status);
-    assert_eq!(rt; output.as_slice(), expected);
+    same(rt, run(alloc, &args, &mut input, &mut output)?, status);
+    same(rt, output.as_slice(), expected);
     Ok(())
 }
 
@@ -236,13 +242,13 @@ fn set_in(
     let args = words_of(alloc, &["set", key, value])?;
     let mut input = archive;
     let mut output = Vec::new(alloc);
-    assert_eq!(rt; run(alloc, &args, &mut input, &mut output)?, 0);
+    same(rt, run(alloc, &args, &mut input, &mut output)?, 0);
     Ok(output)
 }
 
 /// In how many places bytes differ, which are as many.
 fn differences(rt: &impl Abort, one: &[u8], other: &[u8]) -> usize {
-    assert_eq!(rt; one.len(), other.len());
+    same(rt, one.len(), other.len());
     one.iter()
         .zip(other)
         .filter(|pair: &(&u8, &u8)| pair.0 != pair.1)
@@ -264,7 +270,7 @@ fn a_value_is_set_by_its_key(rt: HostRuntime) -> Result<(), Fail> {
     for (key, value, lines, changed) in sets {
         let archive = set_in(&rt, alloc, &three, key, value)?;
         writes(&rt, alloc, &["list"], &archive, lines)?;
-        assert_eq!(rt; differences(&rt, &three, &archive), changed);
+        same(&rt, differences(&rt, &three, &archive), changed);
     }
     let mut thirteen = SEVEN;
     thirteen[24] = 13;
@@ -308,7 +314,7 @@ fn a_key_that_is_not_found_is_not_set(rt: HostRuntime) -> Result<(), Fail> {
         let args = words_of(alloc, &["set", key, "99"])?;
         let mut input = archive;
         let mut output = Vec::new(alloc);
-        assert_eq!(rt; run(alloc, &args, &mut input, &mut output)?, 1);
+        same(&rt, run(alloc, &args, &mut input, &mut output)?, 1);
         assert!(rt; output.is_empty());
     }
     Ok(())
@@ -389,7 +395,7 @@ fn built(rt: &impl Abort, alloc: Global, lines: &str) -> Result<Vec<u8>, Fail> {
     let mut input = lines.as_bytes();
     let mut output = Vec::new(alloc);
     let status = run(alloc, &args, &mut input, &mut output)?;
-    assert_eq!(rt; status, 0);
+    same(rt, status, 0);
     Ok(output)
 }
 
@@ -431,7 +437,7 @@ fn a_session_loses_nothing(rt: HostRuntime) -> Result<(), Fail> {
     writes(&rt, alloc, &["list"], &edited, edited_text)?;
     writes(&rt, alloc, &["build"], edited_text, &edited)?;
     let listed = round_trip(alloc, spelled.as_bytes())?;
-    assert_eq!(rt; listed.as_slice(), text.as_slice());
+    same(&rt, listed.as_slice(), text.as_slice());
     Ok(())
 }
 
@@ -443,7 +449,7 @@ fn an_output_of_more_than_a_megabyte_is_whole(rt: HostRuntime) -> Result<(), Fai
     for _ in 0..50000 {
         text.push_str("4294967295 4294967295\n")?;
     }
-    assert_eq!(rt; text.len(), 1_100_000);
+    same(&rt, text.len(), 1_100_000);
     let archive = built(&rt, alloc, text.as_str())?;
     writes(&rt, alloc, &["list"], &archive, text.as_str().as_bytes())?;
     writes(&rt, alloc, &["check"], &archive, b"ok 50000 entries\n")
@@ -455,14 +461,16 @@ fn six_entries_have_two_nodes(rt: HostRuntime) -> Result<(), Fail> {
     let alloc = rt.alloc();
     let text = lines(alloc, 6)?;
     let archive = built(&rt, alloc, text.as_str())?;
-    assert_eq!(rt; archive.len(), 124);
-    assert_eq!(rt;
+    assert!(rt; archive.len() == 124);
+    same(
+        &rt,
         &archive[92..100],
-        [0xA4, 0xFF, 0xFF, 0xFF, 1, 0, 0, 0].as_slice()
+        [0xA4, 0xFF, 0xFF, 0xFF, 1, 0, 0, 0].as_slice(),
     );
-    assert_eq!(rt;
+    same(
+        &rt,
         &archive[116..124],
-        [0xBC, 0xFF, 0xFF, 0xFF, 6, 0, 0, 0].as_slice()
+        [0xBC, 0xFF, 0xFF, 0xFF, 6, 0, 0, 0].as_slice(),
     );
     Ok(())
 }

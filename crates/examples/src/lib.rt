@@ -4,12 +4,6 @@
 
 pub mod editing;
 pub mod headline;
-#[cfg(test)]
-mod headline_tests;
 pub mod round_trip;
-#[cfg(test)]
-mod tests;
 pub mod version;
 pub mod whole;
-#[cfg(test)]
-mod whole_tests;

@@ -1,5 +1,6 @@
 //! A map that is built by hand, at a position of a writer, and opened there.
 
+use crate::same::same;
 use rkyv_btree::map::access;
 use rkyv_btree::view::View;
 use rkyv_btree_base::layout;
@@ -32,17 +33,18 @@ fn prices_built_by_hand_are_looked_up(rt: HostRuntime) -> Result<(), Fail> {
     let pear = map
         .get_by("pear")
         .map(|price: View<ArchivedU32>| price.to_native());
-    assert_eq!(rt; pear, Some(5));
+    same(&rt, pear, Some(5));
     assert!(rt; !map.contains_by("plum"));
 
     // Without its last byte it is no map, and the answer says why.
     let cut = &bytes[..bytes.len().saturating_sub(1)];
     let refused = access::<ArchivedText, ArchivedU32, 5>(cut, root).err();
-    assert_eq!(rt;
+    same(
+        &rt,
         refused,
         Some(Refusal::OutOfRange {
-            pos: i64::from(root)
-        })
+            pos: i64::from(root),
+        }),
     );
     Ok(())
 }

@@ -10,6 +10,7 @@ ghost use Rattle.rkyv_btree_base.specs.laws.Scalars.{u8_laws};
 ghost use Rattle.tests.specs.Coded.{of_code};
 
 use crate::convert::{archive, opened};
+use crate::same::same;
 use rkyv_btree::deserialize::{Deserialize, DeserializeFault, DeserializeKey};
 use rkyv_btree::view::View;
 use rkyv_btree_base::check::{CheckBytes, Portable, Window};
@@ -109,13 +110,13 @@ fn the_first_fault_in_order_is_answered(rt: HostRuntime) -> Result<(), Fail> {
     let alloc = rt.alloc();
     let entries = [(1, 0), (2, 4), (3, 5)];
     let by_value = fault_of::<u8, ArchivedCode, 5>(&rt, alloc, &entries)?;
-    assert_eq!(rt; by_value, Err(4));
+    same(&rt, by_value, Err(4));
     let in_two_leaves = fault_of::<u8, ArchivedCode, 1>(&rt, alloc, &entries)?;
-    assert_eq!(rt; in_two_leaves, Err(4));
+    same(&rt, in_two_leaves, Err(4));
     let of_later = fault_of::<u8, ArchivedCode, 1>(&rt, alloc, &entries[2..])?;
-    assert_eq!(rt; of_later, Err(5));
+    same(&rt, of_later, Err(5));
     let of_none = fault_of::<u8, ArchivedCode, 1>(&rt, alloc, &entries[..1])?;
-    assert_eq!(rt; of_none, Ok(1));
+    same(&rt, of_none, Ok(1));
     Ok(())
 }
 
@@ -123,8 +124,8 @@ fn the_first_fault_in_order_is_answered(rt: HostRuntime) -> Result<(), Fail> {
 fn a_key_is_made_before_its_value(rt: HostRuntime) -> Result<(), Fail> {
     let alloc = rt.alloc();
     let by_key = fault_of::<ArchivedCode, ArchivedCode, 5>(&rt, alloc, &[(0, 0), (6, 7)])?;
-    assert_eq!(rt; by_key, Err(6));
+    same(&rt, by_key, Err(6));
     let by_value = fault_of::<ArchivedCode, ArchivedCode, 5>(&rt, alloc, &[(0, 7), (6, 0)])?;
-    assert_eq!(rt; by_value, Err(7));
+    same(&rt, by_value, Err(7));
     Ok(())
 }

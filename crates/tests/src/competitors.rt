@@ -4,6 +4,7 @@
 use crate::foreign::{CHILDLESS, OVER_EMPTY, chain};
 use crate::numbers::{words, words_of};
 use crate::opening::opens;
+use crate::same::same;
 use crate::trees::{Reading, read_tree};
 use rkyv_btree_base::layout;
 use rkyv_btree_base::numbers::ArchivedU32;
@@ -39,8 +40,8 @@ fn competes<const E: usize>(
     let pos = u32::try_from(bytes.len().wrapping_sub(8)).expect(rt, "a position");
     opens::<E>(rt, bytes, pos, &other.entries);
     let built = read_tree::<E>(alloc, &words::<E>(rt, alloc, &other.entries)?)?;
-    assert_eq!(rt; (counts(&other), counts(&built)), (theirs, ours));
-    assert_eq!(rt; built.entries.as_slice(), other.entries.as_slice());
+    same(rt, (counts(&other), counts(&built)), (theirs, ours));
+    same(rt, built.entries.as_slice(), other.entries.as_slice());
     assert!(rt; built.nodes <= other.nodes);
     assert!(rt; built.inners <= other.inners);
     assert!(rt; built.levels <= other.levels);

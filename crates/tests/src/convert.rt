@@ -1,5 +1,6 @@
 //! Archived maps made native, archived again, and compared with native ones.
 
+use crate::same::same;
 use rkyv_btree::deserialize::{Deserialize, DeserializeKey};
 use rkyv_btree::map::access;
 use rkyv_btree::same_as::SameAs;
@@ -81,7 +82,7 @@ where
 {
     let map = opened::<K, V, E>(rt, bytes, pos);
     let made: BTreeMap<KU, VU> = ArchivedBTreeMap::<K, V, E>::deserialize(alloc, &map)?;
-    assert_eq!(rt; made.len(), len);
+    same(rt, made.len(), len);
     assert!(rt; is_same::<KU, VU, K, V, E>(&map, &made));
     Ok(made)
 }
@@ -125,8 +126,8 @@ where
 {
     let mut again = VecWriter::new(alloc);
     let pos_again = archive_map::<KU, VU, K, V, E>(rt, alloc, map, &mut again)?;
-    assert_eq!(rt; pos_again, pos);
-    assert_eq!(rt; again.bytes(), bytes);
+    same(rt, pos_again, pos);
+    same(rt, again.bytes(), bytes);
     Ok(())
 }
 

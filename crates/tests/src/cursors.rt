@@ -5,6 +5,7 @@ ghost use Rattle.rkyv_btree.specs.Cursor.{lent_place, range_lent_place};
 use crate::lookups::compare;
 use crate::numbers::tens;
 use crate::ranges::is_between;
+use crate::same::same;
 use crate::seals::{archived, opened};
 use rkyv_btree::cursor::{IterSeal, RangeSeal, ValuesSeal};
 use rkyv_btree::map::MapSeal;
@@ -62,8 +63,8 @@ fn has<K: ToNative<Native = u32>, V: InPlace<Native = u32>, const E: usize>(
 )
     requires { IsSome (lent_place cursor.now) }
 {
-    assert_eq!(rt; key_of::<K, V, E>(cursor), key);
-    assert_eq!(rt; value_of::<K, V, E>(cursor), value);
+    same(rt, key_of::<K, V, E>(cursor), key);
+    same(rt, value_of::<K, V, E>(cursor), value);
 }
 
 /// A cursor lends this entry next, with so many behind it, and writes its value.
@@ -79,8 +80,8 @@ fn next_is_raised<K: ToNative<Native = u32>, V: InPlace<Native = u32>, const E: 
     let raised = value.wrapping_add(10);
     cursor.write(raised);
     has::<K, V, E>(rt, cursor, key, raised);
-    assert_eq!(rt; cursor.size_hint(), (left, Some(left)));
-    assert_eq!(rt; cursor.len(), left);
+    same(rt, cursor.size_hint(), (left, Some(left)));
+    same(rt, cursor.len(), left);
 }
 
 /// A cursor lends all entries in order, counts those that are left, and writes each value.
@@ -90,14 +91,14 @@ fn all_are_raised<K: ToNative<Native = u32>, V: InPlace<Native = u32>, const E: 
     entries: &[(u32, u32)],
 ) {
     let mut left = entries.len();
-    assert_eq!(rt; cursor.size_hint(), (left, Some(left)));
+    same(rt, cursor.size_hint(), (left, Some(left)));
     for (key, value) in entries {
         left = left.wrapping_sub(1);
         next_is_raised::<K, V, E>(rt, cursor, *key, *value, left);
     }
     for _ in 0..3 {
         assert!(rt; !cursor.next());
-        assert_eq!(rt; cursor.size_hint(), (0, Some(0)));
+        same(rt, cursor.size_hint(), (0, Some(0)));
     }
 }
 
@@ -113,7 +114,7 @@ fn entries_are_raised<const E: usize>(
 ) {
     let mut cursor: IterSeal<'_, Numbers<E>> = opened::<E>(rt, bytes, pos).iter_seal();
     all_are_raised::<ArchivedU32, ArchivedU32, E>(rt, &mut cursor, entries);
-    assert_eq!(rt; &*bytes, want);
+    same(rt, &*bytes, want);
 }
 
 /// The same along the values.
@@ -126,7 +127,7 @@ fn values_are_raised<const E: usize>(
 ) {
     let mut cursor: ValuesSeal<'_, Numbers<E>> = opened::<E>(rt, bytes, pos).values_seal();
     all_are_raised::<ArchivedU32, ArchivedU32, E>(rt, &mut cursor, entries);
-    assert_eq!(rt; &*bytes, want);
+    same(rt, &*bytes, want);
 }
 
 /// Cursors along maps of 0 to 40 numbers raise each value.
@@ -178,10 +179,10 @@ fn next_within_is_raised<K: ToNative<Native = u32>, V: InPlace<Native = u32>, co
     value: u32,
 ) {
     assert!(rt; cursor.next());
-    assert_eq!(rt; key_within::<K, V, E>(cursor), key);
-    assert_eq!(rt; value_within::<K, V, E>(cursor), value);
+    same(rt, key_within::<K, V, E>(cursor), key);
+    same(rt, value_within::<K, V, E>(cursor), value);
     cursor.write(value.wrapping_add(10));
-    assert_eq!(rt; cursor.size_hint(), (0, None));
+    same(rt, cursor.size_hint(), (0, None));
 }
 
 /// A cursor between bounds lends the entries within in order, and raises their values.
@@ -214,7 +215,7 @@ fn numbers_are_raised<const E: usize>(
     let MapSeal { buf, pos, of: _ } = opened::<E>(rt, bytes, pos);
     let mut cursor = Range::<E>::by(buf, pos, low, high);
     are_raised::<ArchivedU32, ArchivedU32, E>(rt, &mut cursor, entries, low, high);
-    assert_eq!(rt; &*bytes, want);
+    same(rt, &*bytes, want);
 }
 
 /// The same where the bounds are compared by a function of one's own.
@@ -231,7 +232,7 @@ fn compared_are_raised<const E: usize>(
     let MapSeal { buf, pos, of: _ } = map;
     let mut cursor = Range::<E>::over(buf, pos, walk);
     are_raised::<ArchivedU32, ArchivedU32, E>(rt, &mut cursor, entries, low, high);
-    assert_eq!(rt; &*bytes, want);
+    same(rt, &*bytes, want);
 }
 
 /// Cursors between two bounds raise the values of the entries within, and no others, however the bounds are compared.

@@ -1,5 +1,6 @@
 //! Built archives with a byte changed, or cut.
 
+use crate::same::same;
 use rkyv_btree::map::access;
 use rkyv_btree::view::View;
 use rkyv_btree_base::layout;
@@ -44,8 +45,8 @@ fn is_refused_or_whole(rt: &impl Abort, bytes: &[u8]) {
         met = met.wrapping_add(1);
         ControlFlow::<(), ()>::Continue(())
     });
-    assert_eq!(rt; broken, None);
-    assert_eq!(rt; met, map.len());
+    same(rt, broken, None);
+    same(rt, met, map.len());
 }
 
 #[test]

@@ -1,6 +1,7 @@
 //! Entries as values.
 ghost use Rattle.std.specs.Prelude.{◌+◌, ◌*◌, ◌%◌, ◌^◌, fold};
 
+use crate::same::same;
 use rkyv_btree_base::archive::{Archive, Serialize};
 use rkyv_btree_base::check::{CheckBytes, Portable, Window};
 use rkyv_btree_base::layout;
@@ -12,6 +13,7 @@ use rkyv_btree_base::text::ArchivedText;
 use rkyv_btree_base::util::{Entry, EntryAdapter, EntryResolver, value_offset};
 use std::hash::{Hash, Hasher};
 use std::marker::PhantomData;
+use std::process::Abort;
 use std::test::Fail;
 
 type Flagged = Entry<ArchivedU32, bool>;
@@ -19,39 +21,45 @@ type Flagged = Entry<ArchivedU32, bool>;
 #[test]
 fn entries_are_laid_out_as_in_c(rt: HostRuntime) {
     assert!(rt; Entry::<u8, ArchivedU32>::fits());
-    assert_eq!(rt; Entry::<u8, ArchivedU32>::size(), 8);
-    assert_eq!(rt; Entry::<u8, ArchivedU32>::align(), 4);
-    assert_eq!(rt; value_offset::<u8, ArchivedU32>(), 4);
+    same(&rt, Entry::<u8, ArchivedU32>::size(), 8);
+    same(&rt, Entry::<u8, ArchivedU32>::align(), 4);
+    same(&rt, value_offset::<u8, ArchivedU32>(), 4);
     assert!(rt; Flagged::fits());
-    assert_eq!(rt; Flagged::size(), 8);
-    assert_eq!(rt; value_offset::<ArchivedU32, bool>(), 4);
+    same(&rt, Flagged::size(), 8);
+    same(&rt, value_offset::<ArchivedU32, bool>(), 4);
     assert!(rt; Entry::<bool, Flagged>::fits());
-    assert_eq!(rt; Entry::<bool, Flagged>::size(), 12);
-    assert_eq!(rt; value_offset::<bool, Flagged>(), 4);
+    same(&rt, Entry::<bool, Flagged>::size(), 12);
+    same(&rt, value_offset::<bool, Flagged>(), 4);
+}
+
+/// Asserts what the check of a value answers at each position, in no window.
+fn checks<T: CheckBytes>(rt: &impl Abort, bytes: &[u8], rows: &[(u32, Result<Window, Refusal>)]) {
+    assert!(rt; T::fits());
+    for (pos, answer) in rows {
+        let checked = T::check(bytes, *pos, Window { lo: 0, hi: 0 });
+        same(rt, &checked, answer);
+    }
 }
 
 #[test]
 fn entries_are_checked_by_themselves(rt: HostRuntime) {
-    let bytes = [7, 9, 9, 9, 1, 0, 0, 0, 2, 9, 9, 9, 2];
-    let window = Window { lo: 0, hi: 0 };
-    assert!(rt; Entry::<u8, ArchivedU32>::fits());
-    let numbers = |pos| Entry::<u8, ArchivedU32>::check(&bytes, pos, window);
-    assert_eq!(rt; numbers(0), Ok(window));
-    assert_eq!(rt; numbers(4), Ok(window));
-    assert_eq!(rt; numbers(2), Err(Refusal::Misaligned { pos: 2 }));
-    assert_eq!(rt; numbers(5), Err(Refusal::Misaligned { pos: 5 }));
-    assert_eq!(rt; numbers(6), Err(Refusal::OutOfRange { pos: 6 }));
-    assert_eq!(rt; numbers(8), Err(Refusal::OutOfRange { pos: 8 }));
-    assert!(rt; Flagged::fits());
-    let flagged = |pos| Flagged::check(&bytes, pos, window);
-    assert_eq!(rt; flagged(0), Ok(window));
-    assert_eq!(rt; flagged(4), Err(Refusal::BadEntry { pos: 8 }));
-    assert!(rt; Entry::<bool, bool>::fits());
-    let flags = |pos| Entry::<bool, bool>::check(&bytes, pos, window);
-    assert_eq!(rt; flags(5), Ok(window));
-    assert_eq!(rt; flags(7), Err(Refusal::BadEntry { pos: 8 }));
-    assert_eq!(rt; flags(8), Err(Refusal::BadEntry { pos: 8 }));
-    assert_eq!(rt; flags(12), Err(Refusal::OutOfRange { pos: 12 }));
+    let bytes = [7, 9, 9, 9, 1, 0, 0, 0, 2, 9, 9, 9, 2].as_slice();
+    let whole = Ok(Window { lo: 0, hi: 0 });
+    let misaligned = |pos| Err(Refusal::Misaligned { pos });
+    let outside = |pos| Err(Refusal::OutOfRange { pos });
+    let rows = [
+        (0, whole),
+        (4, whole),
+        (2, misaligned(2)),
+        (5, misaligned(5)),
+        (6, outside(6)),
+        (8, outside(8)),
+    ];
+    checks::<Entry<u8, ArchivedU32>>(&rt, bytes, &rows);
+    let bad = Err(Refusal::BadEntry { pos: 8 });
+    checks::<Flagged>(&rt, bytes, &[(0, whole), (4, bad)]);
+    let rows = [(5, whole), (7, bad), (8, bad), (12, outside(12))];
+    checks::<Entry<bool, bool>>(&rt, bytes, &rows);
 }
 
 #[test]
@@ -60,7 +68,7 @@ fn a_part_of_a_part_is_refused_at_the_part(rt: HostRuntime) {
     let window = Window { lo: 0, hi: 0 };
     assert!(rt; Entry::<bool, Flagged>::fits());
     let refused = Entry::<bool, Flagged>::check(&bytes, 0, window);
-    assert_eq!(rt; refused, Err(Refusal::BadEntry { pos: 4 }));
+    same(&rt, refused, Err(Refusal::BadEntry { pos: 4 }));
 }
 
 #[test]
@@ -72,14 +80,14 @@ fn the_value_has_the_window_that_the_key_leaves(rt: HostRuntime) {
     assert!(rt; Entry::<ArchivedText, ArchivedText>::fits());
     let from = |lo, hi| Window { lo, hi };
     let check = |bytes: &[u8], window| Entry::<ArchivedText, ArchivedText>::check(bytes, 4, window);
-    assert_eq!(rt; check(&bytes, from(0, 4)), Ok(from(3, 4)));
+    same(&rt, check(&bytes, from(0, 4)), Ok(from(3, 4)));
     let bad_key = Err(Refusal::BadEntry { pos: 4 });
-    assert_eq!(rt; check(&bytes, from(1, 4)), bad_key);
+    same(&rt, check(&bytes, from(1, 4)), bad_key);
     let bad_value = Err(Refusal::BadEntry { pos: 12 });
-    assert_eq!(rt; check(&bytes, from(0, 2)), bad_value);
+    same(&rt, check(&bytes, from(0, 2)), bad_value);
     // The value begins with the key's last byte.
     bytes[12] = 245;
-    assert_eq!(rt; check(&bytes, from(0, 4)), bad_value);
+    same(&rt, check(&bytes, from(0, 4)), bad_value);
 }
 
 #[test]
@@ -124,7 +132,7 @@ fn an_entry_feeds_a_hasher_its_key_and_then_its_value(rt: HostRuntime) {
         value: 513u16,
     };
     entry.hash(&mut taken);
-    assert_eq!(rt; taken.finish(), 0x07_FF_01_02_FF);
+    same(&rt, taken.finish(), 0x07_FF_01_02_FF);
     let mut taken = Recorder(0);
     let nested = Entry {
         key: Entry {
@@ -134,7 +142,7 @@ fn an_entry_feeds_a_hasher_its_key_and_then_its_value(rt: HostRuntime) {
         value: 3u8,
     };
     nested.hash(&mut taken);
-    assert_eq!(rt; taken.finish(), 0x01_00_FF_02_FF_03_FF);
+    same(&rt, taken.finish(), 0x01_00_FF_02_FF_03_FF);
 }
 
 #[test]
@@ -146,14 +154,14 @@ fn parts_of_entries_have_names(rt: HostRuntime) -> Result<(), Fail> {
             value: true
         }
     )?;
-    assert_eq!(rt; told.as_str(), "Entry { key: 1, value: true }");
+    same(&rt, told.as_str(), "Entry { key: 1, value: true }");
     let (key, value) = (1u8, true);
     let adapter = EntryAdapter::new(&key, &value);
-    assert_eq!(rt; (*adapter.key, *adapter.value), (1, true));
+    same(&rt, (*adapter.key, *adapter.value), (1, true));
     let resolver = EntryResolver { key, value };
-    assert_eq!(rt; (resolver.key, resolver.value), (1, true));
+    same(&rt, (resolver.key, resolver.value), (1, true));
     let told = format!(in rt.alloc(); "{resolver:?}")?;
-    assert_eq!(rt; told.as_str(), "EntryResolver { key: 1, value: true }");
+    same(&rt, told.as_str(), "EntryResolver { key: 1, value: true }");
     Ok(())
 }
 
@@ -167,7 +175,7 @@ fn an_entry_is_its_key_then_its_value(rt: HostRuntime) -> Result<(), Fail> {
         .serialize(rt.alloc(), &mut writer)
         .expect(&rt, "numbers are always serialised");
     assert!(rt; writer.bytes().is_empty());
-    assert_eq!(rt; Entry::<u8, ArchivedU16>::size(), 4);
+    assert!(rt; Entry::<u8, ArchivedU16>::size() == 4);
     let mut bytes = [0xFF; 4];
     let out = Place {
         pos: 0,
@@ -175,7 +183,7 @@ fn an_entry_is_its_key_then_its_value(rt: HostRuntime) -> Result<(), Fail> {
         of: PhantomData,
     };
     assert!(rt; entry.resolve(resolver, out).is_ok());
-    assert_eq!(rt; bytes, [1, 0, 1, 2]);
+    same(&rt, bytes, [1, 0, 1, 2]);
     Ok(())
 }
 
@@ -191,7 +199,7 @@ fn an_entry_of_an_entry_is_padded_behind_both(rt: HostRuntime) -> Result<(), Fai
     let resolver = entry
         .serialize(rt.alloc(), &mut writer)
         .expect(&rt, "numbers are always serialised");
-    assert_eq!(rt; Nested::size(), 6);
+    assert!(rt; Nested::size() == 6);
     let mut bytes = [0xFF; 6];
     let out = Place {
         pos: 4294967288,
@@ -199,7 +207,7 @@ fn an_entry_of_an_entry_is_padded_behind_both(rt: HostRuntime) -> Result<(), Fai
         of: PhantomData,
     };
     assert!(rt; entry.resolve(resolver, out).is_ok());
-    assert_eq!(rt; bytes, [1, 0, 1, 2, 1, 0]);
+    same(&rt, bytes, [1, 0, 1, 2, 1, 0]);
     Ok(())
 }
 
@@ -217,10 +225,10 @@ fn entries_are_values_of_a_map(rt: HostRuntime) -> Result<(), Fail> {
         items.iter().map(|item| (&item.0, &item.1)),
         &mut writer,
     )?;
-    assert_eq!(rt; Entries::write_root(1, root, &mut writer)?, 16);
+    same(&rt, Entries::write_root(1, root, &mut writer)?, 16);
     let want = [
         0, 0, 0, 0, 7, 0, 0, 0, 1, 0, 1, 2, 1, 0, 0, 0, 0xF0, 0xFF, 0xFF, 0xFF, 1, 0, 0, 0,
     ];
-    assert_eq!(rt; writer.bytes(), want.as_slice());
+    same(&rt, writer.bytes(), want.as_slice());
     Ok(())
 }

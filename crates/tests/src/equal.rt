@@ -4,6 +4,7 @@ ghost use Rattle.std.specs.Iterator.{YieldsFirstBy, item_count};
 ghost use Rattle.rkyv_btree_base.specs.Alike.{AppendAlike};
 ghost use Rattle.rkyv_btree_base.specs.Writing.{position};
 
+use crate::same::same;
 use rkyv_btree_base::archive::natives_are_determined;
 use rkyv_btree_base::build::{BTreeMapResolver, trees_are_determined};
 use rkyv_btree_base::fault::Fault;
@@ -92,7 +93,7 @@ fn equal_texts_are_written_as_the_same_bytes(rt: HostRuntime) -> Result<(), Fail
     let mut other = VecWriter::with_base(rt.alloc(), 3);
     write_both(rt.alloc(), &first, &second, &mut one, &mut other)?;
     // Three bytes, a text up to 8, a leaf of 32 bytes, a text up to 44 and an inner node of 40.
-    assert_eq!(rt; one.bytes().len(), 84);
-    assert_eq!(rt; &one.bytes()[3..], other.bytes());
+    assert!(rt; one.bytes().len() == 84);
+    same(&rt, &one.bytes()[3..], other.bytes());
     Ok(())
 }

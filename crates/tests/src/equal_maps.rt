@@ -4,6 +4,7 @@ use crate::convert;
 use crate::entries::Recorder;
 use crate::foreign::{CHILDLESS, OVER_EMPTY};
 use crate::numbers::archive;
+use crate::same::same;
 use crate::texts::{archive_texts, with_texts};
 use crate::views::hashed;
 use rkyv_btree::compare::{ViewEq, ViewHash};
@@ -44,8 +45,8 @@ type Numbers<const E: usize> = ArchivedBTreeMap<ArchivedU32, ArchivedU32, E>;
 
 /// Asserts whether two views are equal.
 fn views_are_equal<T: ViewEq>(rt: &impl Abort, left: &View<T>, alike: &View<T>, want: bool) {
-    assert_eq!(rt; *left == *alike, want);
-    assert_eq!(rt; *alike == *left, want);
+    same(rt, *left == *alike, want);
+    same(rt, *alike == *left, want);
 }
 
 /// Asserts whether the entries of a map are those of another.
@@ -55,7 +56,7 @@ fn entries_are_equal<K: ViewEq, V: ViewEq, const D: usize, const E: usize>(
     other: &View<ArchivedBTreeMap<K, V, E>>,
     want: bool,
 ) {
-    assert_eq!(rt; left.eq_entries(*other), want);
+    same(rt, left.eq_entries(*other), want);
 }
 
 /// What a hasher answers that was fed a view.
@@ -72,8 +73,8 @@ fn hashes_are_equal(
     want: bool,
 ) {
     let hash = hash_of(alike);
-    assert_eq!(rt; hash, hash_of(other));
-    assert_eq!(rt; hash_of(left) == hash, want);
+    same(rt, hash, hash_of(other));
+    same(rt, hash_of(left) == hash, want);
 }
 
 /// Archives two lists, the second behind three bytes and also with other nodes, and asserts whether their maps are equal.
@@ -139,7 +140,7 @@ fn maps_of_one_list_in_two_trees_are_equal(rt: HostRuntime) {
     let left = opened::<1>(&rt, &OVER_EMPTY, 36);
     let right = opened::<1>(&rt, &CHILDLESS, 20);
     views_are_equal(&rt, &left, &right, true);
-    assert_eq!(rt; hash_of(&left), hash_of(&right));
+    same(&rt, hash_of(&left), hash_of(&right));
 }
 
 #[test]
@@ -153,9 +154,9 @@ fn a_map_of_texts_is_hashed_and_shown_entry_by_entry(rt: HostRuntime) -> Result<
     1i32.hash(&mut state);
     "b".hash(&mut state);
     2i32.hash(&mut state);
-    assert_eq!(rt; hash_of(&map), state.finish());
+    same(&rt, hash_of(&map), state.finish());
     let told = format!(in rt.alloc(); "{map:?}")?;
-    assert_eq!(rt; told.as_str(), "{\"a\": 1, \"b\": 2}");
+    same(&rt, told.as_str(), "{\"a\": 1, \"b\": 2}");
     Ok(())
 }
 
@@ -169,9 +170,9 @@ fn is_taken_and_shown_as<T: ViewHash + ViewDebug>(
 ) -> Result<(), Fail> {
     let mut taken = Recorder(0);
     map.hash(&mut taken);
-    assert_eq!(rt; taken.finish(), bytes);
+    same(rt, taken.finish(), bytes);
     let told = format!(in alloc; "{map:?}")?;
-    assert_eq!(rt; told.as_str(), text);
+    same(rt, told.as_str(), text);
     Ok(())
 }
 

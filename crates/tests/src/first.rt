@@ -1,5 +1,6 @@
 //! The first example of the README.
 
+use crate::same::same;
 use rkyv_btree::prelude::*;
 use std::collections::BTreeMap;
 use std::test::Fail;
@@ -19,7 +20,7 @@ fn prices_are_looked_up_and_changed(rt: HostRuntime) -> Result<(), Fail> {
     let pear = map
         .get_by("pear")
         .map(|price: View<ArchivedU32>| price.to_native());
-    assert_eq!(rt; pear, Some(5));
+    same(&rt, pear, Some(5));
     assert!(rt; !map.contains_by("plum"));
 
     let pos = map.pos;
@@ -27,6 +28,6 @@ fn prices_are_looked_up_and_changed(rt: HostRuntime) -> Result<(), Fail> {
     assert!(rt; map.set_by("pear", 6));
 
     let changed: BTreeMap<String, u32> = from_archive(alloc, bytes.as_slice())?;
-    assert_eq!(rt; changed.get("pear").copied(), Some(6));
+    same(&rt, changed.get("pear").copied(), Some(6));
     Ok(())
 }

@@ -3,6 +3,7 @@ ghost use Rattle.std.specs.Prelude.{◌≤◌};
 
 use crate::convert::opened;
 use crate::opening::{begun, changed, no_such_length, opens, refusal_of, refuses};
+use crate::same::same;
 use rkyv_btree::view::View;
 use rkyv_btree_base::numbers::ArchivedU32;
 use rkyv_btree_base::refusal::{InvalidLength, Refusal};
@@ -49,8 +50,8 @@ fn shared_leaves_and_cycles_are_refused(rt: HostRuntime) {
     refuses::<1>(&rt, &SHARED_LEAF, 36, Refusal::OutOfRange { pos: 0 });
     refuses::<1>(&rt, &own_child, 36, Refusal::OutOfRange { pos: 16 });
     refuses::<1>(&rt, &CYCLE, 40, Refusal::OutOfRange { pos: 20 });
-    assert_eq!(rt; begun::<1>(&rt, &SHARED_LEAF, 36), 3);
-    assert_eq!(rt; begun::<1>(&rt, &CYCLE, 40), 3);
+    same(&rt, begun::<1>(&rt, &SHARED_LEAF, 36), 3);
+    same(&rt, begun::<1>(&rt, &CYCLE, 40), 3);
 }
 
 /// Inner nodes of one entry, each the only child of the next one, from 1 to 10 at the lowest on, under a map that says
@@ -83,7 +84,7 @@ fn chains_have_at_most_32_levels(rt: HostRuntime) -> Result<(), Fail> {
     refuses::<1>(&rt, &short, 640, no_such_length(32, 31));
     let deep = chain(rt.alloc(), 33, 33)?;
     refuses::<1>(&rt, &deep, 660, Refusal::TooDeep { pos: 0 });
-    assert_eq!(rt; begun::<1>(&rt, &deep, 660), 33);
+    same(&rt, begun::<1>(&rt, &deep, 660), 33);
     Ok(())
 }
 
@@ -102,7 +103,7 @@ pub(crate) const SIX: [u8; 124] = [
 fn damaged_trees_are_refused(rt: HostRuntime) {
     let entries = [(1, 10), (2, 20), (3, 30), (4, 40), (5, 50), (6, 60)];
     opens::<5>(&rt, &SIX, 116, &entries);
-    assert_eq!(rt; begun::<5>(&rt, &SIX, 116), 2);
+    same(&rt, begun::<5>(&rt, &SIX, 116), 2);
     let lost = [(92, 1), (93, 0), (94, 0), (95, 0)];
     let lost_and_told = changed(&rt, &changed(&rt, &SIX, &lost), &[(120, 5)]);
     opens::<5>(&rt, &lost_and_told, 116, &entries[1..]);
@@ -142,13 +143,13 @@ fn no_two_keys_share_a_text(rt: HostRuntime) {
     let map = opened::<ArchivedText, ArchivedU32, 1>(&rt, &TEXTS, 52);
     let mut entries = map.iter();
     for (key, value) in [("a", 1), ("bc", 2)] {
-        assert_eq!(rt; entries.next().map(text_and_number), Some((key, value)));
+        same(&rt, entries.next().map(text_and_number), Some((key, value)));
     }
     assert!(rt; entries.next().is_none());
     // The first text in its own leaf, and the second from the first's byte on.
     for (at, byte, pos) in [(8, 252, 8), (32, 224, 32)] {
         let bytes = changed(&rt, &TEXTS, &[(at, byte)]);
         let refused = refusal_of::<ArchivedText, ArchivedU32, 1>(&rt, &bytes, 52);
-        assert_eq!(rt; refused, Some(Refusal::BadEntry { pos }));
+        same(&rt, refused, Some(Refusal::BadEntry { pos }));
     }
 }

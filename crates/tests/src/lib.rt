@@ -26,6 +26,8 @@ mod first;
 #[cfg(test)]
 mod foreign;
 #[cfg(test)]
+mod headline;
+#[cfg(test)]
 mod in_place;
 #[cfg(test)]
 mod lookups;
@@ -52,6 +54,10 @@ mod prelude;
 #[cfg(test)]
 mod ranges;
 #[cfg(test)]
+mod round_trips;
+#[cfg(test)]
+mod same;
+#[cfg(test)]
 mod seals;
 #[cfg(test)]
 mod sets;
@@ -61,6 +67,8 @@ mod texts;
 mod trees;
 #[cfg(test)]
 mod values;
+#[cfg(test)]
+mod versions;
 #[cfg(test)]
 mod views;
 #[cfg(test)]

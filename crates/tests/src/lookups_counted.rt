@@ -2,6 +2,7 @@
 
 use crate::lookups::{compare, numbers};
 use crate::numbers::{Numbers, archive, tens};
+use crate::same::same;
 use rkyv_btree::map::access;
 use rkyv_btree::view::View;
 use rkyv_btree_base::layout;
@@ -59,7 +60,7 @@ fn comparisons_are_counted(rt: HostRuntime) -> Result<(), Fail> {
         (10, None, 5),
     ];
     for (key, value, comparisons) in rows {
-        assert_eq!(rt; counted::<5>(&rt, map, key), (value, comparisons));
+        same(&rt, counted::<5>(&rt, map, key), (value, comparisons));
         // As many as a node has entries, times the levels.
         assert!(rt; comparisons <= 10);
     }
@@ -75,7 +76,7 @@ fn a_counter_goes_on_from_where_it_was(rt: HostRuntime) -> Result<(), Fail> {
         assert!(rt; steps.count() <= 10);
         let found = map.get_key_value_counted(&key, compare, &mut steps);
         assert!(rt; found.is_some());
-        assert_eq!(rt; steps.count(), comparisons);
+        same(&rt, steps.count(), comparisons);
     }
     Ok(())
 }
@@ -93,14 +94,14 @@ fn a_map_is_searched_by_any_comparison(rt: HostRuntime) -> Result<(), Fail> {
         let mut steps = StepCounter::new();
         let always = |_: &(), _: View<ArchivedU32>| answer;
         let found = map.get_key_value_counted(&(), always, &mut steps);
-        assert_eq!(rt; found.map(numbers), entry);
-        assert_eq!(rt; steps.count(), comparisons);
+        same(&rt, found.map(numbers), entry);
+        same(&rt, steps.count(), comparisons);
     }
     let by_length = |text: &&str, key: View<ArchivedU32>| {
         let length = key.to_native() as usize;
         text.len().cmp(&length)
     };
     let found = map.get_key_value_with(&"letters", by_length);
-    assert_eq!(rt; found.map(numbers), Some((7, 70)));
+    same(&rt, found.map(numbers), Some((7, 70)));
     Ok(())
 }

@@ -10,6 +10,7 @@ ghost use Rattle.tests.specs.Lookups.{IsValueOf};
 use crate::lookups::compare;
 use crate::lookups_counted::nine;
 use crate::numbers::Numbers;
+use crate::same::same;
 use rkyv_btree::view::{Shows, View};
 use rkyv_btree_base::numbers::ArchivedU32;
 use rkyv_btree_base::place::VecWriter;
@@ -54,9 +55,9 @@ fn callers_look_up(rt: HostRuntime) -> Result<(), Fail> {
     for (key, value, steps) in [(0, None, 2), (4, Some(40), 5), (9, Some(90), 5)] {
         let bytes = u32::to_le_bytes(key);
         let view = View::<ArchivedU32>::at(&bytes, 0);
-        assert_eq!(rt; indexed(map, view), value);
-        assert_eq!(rt; value_of(map, key), value);
-        assert_eq!(rt; comparisons(map, key), steps);
+        same(&rt, indexed(map, view), value);
+        same(&rt, value_of(map, key), value);
+        same(&rt, comparisons(map, key), steps);
     }
     Ok(())
 }

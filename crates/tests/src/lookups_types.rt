@@ -2,6 +2,7 @@
 
 use crate::convert;
 use crate::lookups::{is_there, is_there_by};
+use crate::same::same;
 use rkyv_btree::compare::ViewOrd;
 use rkyv_btree::query::CompareWith;
 use rkyv_btree::view::View;
@@ -99,9 +100,9 @@ where
     let found = map.get_by(query).map(|value| value.to_native());
     assert_eq!(rt; found, want, "{number} without {without}");
     let is_told = is_there::<K, ArchivedU32, E>(map, key);
-    assert_eq!(rt; is_told, want.is_some());
+    same(rt, is_told, want.is_some());
     let is_told = is_there_by::<N, K, ArchivedU32, E>(map, query);
-    assert_eq!(rt; is_told, want.is_some());
+    same(rt, is_told, want.is_some());
 }
 
 /// Asserts that each key of the whole map but one is found in the other, by its view and by its query.
@@ -135,7 +136,7 @@ where
 {
     let (all, pos) = archived_but::<KU, K, E>(rt, alloc, keys, u32::MAX)?;
     let whole = opened::<K, E>(rt, &all, pos);
-    assert_eq!(rt; whole.len() as usize, queries.len());
+    same(rt, whole.len() as usize, queries.len());
     for without in 0..=whole.len() {
         let (some, pos) = archived_but::<KU, K, E>(rt, alloc, keys, without)?;
         let map = opened::<K, E>(rt, &some, pos);

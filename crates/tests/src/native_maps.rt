@@ -3,6 +3,7 @@
 use crate::convert::{self, archive, made};
 use crate::numbers::Numbers;
 use crate::opening::no_such_length;
+use crate::same::same;
 use rkyv_btree::deserialize::{Deserialize, DeserializeFault};
 use rkyv_btree::same_as::SameAs;
 use rkyv_btree::view::View;
@@ -48,7 +49,11 @@ fn of_equal_keys_the_last_value_counts(rt: HostRuntime) -> Result<(), Fail> {
     let last = BTreeMap::from_array(rt.alloc(), [(1, 20)])?;
     assert!(rt; made == last);
     // A look-up finds the first, and the archive has two entries.
-    assert_eq!(rt; map.get_by(1u32).map(|value| value.to_native()), Some(10));
+    same(
+        &rt,
+        map.get_by(1u32).map(|value| value.to_native()),
+        Some(10),
+    );
     assert!(rt; !map.eq_map(&last));
     Ok(())
 }
@@ -88,7 +93,7 @@ fn a_map_whose_keys_fall_is_no_native_one(rt: HostRuntime) -> Result<(), Fail> {
     let (bytes, pos) = archived(&rt, rt.alloc(), &[(2, 20), (1, 10)])?;
     let map = opened(&rt, bytes.as_slice(), pos);
     let made: BTreeMap<u32, u32> = Numbers::deserialize(rt.alloc(), &map)?;
-    assert_eq!(rt; made.len(), 2);
+    same(&rt, made.len(), 2);
     assert!(rt; !map.eq_map(&made));
     Ok(())
 }
@@ -126,7 +131,7 @@ fn maps_in_maps_are_made(rt: HostRuntime) -> Result<(), Fail> {
     let map = convert::opened::<ArchivedU32, Numbers, 1>(&rt, &bytes, pos);
     let made: BTreeMap<u32, BTreeMap<u32, u32>> = Keyed::<Numbers>::deserialize(rt.alloc(), &map)?;
     let inner = BTreeMap::from_array(rt.alloc(), [(1, 20), (2, 30)])?;
-    assert_eq!(rt; made.len(), 1);
+    same(&rt, made.len(), 1);
     assert!(rt; made.get(&7).is_some_and(|value| *value == inner));
     assert!(rt; !map.eq_map(&made));
     Ok(())
@@ -178,7 +183,7 @@ where
     let mut bytes = to_archive(alloc, value)?;
     *bytes.get_mut(change.0).expect(rt, "a byte") = change.1;
     let made: Result<T, ArchiveFault> = from_archive(alloc, bytes.as_slice());
-    assert_eq!(rt; made.err(), Some(ArchiveFault::Refused(refusal)));
+    same(rt, made.err(), Some(ArchiveFault::Refused(refusal)));
     Ok(())
 }
 
@@ -421,8 +426,8 @@ fn entries_are_made_pairs(rt: HostRuntime) -> Result<(), Fail> {
     let (bytes, pos) = archived_pairs(&rt, rt.alloc(), "b")?;
     let made = made_of_pairs(&rt, rt.alloc(), &bytes, pos)?;
     let (key, value) = made.first_key_value().ok_or("no entry")?;
-    assert_eq!(rt; (key.0, key.1.as_str()), (1, "b"));
-    assert_eq!(rt; (value.0.as_str(), value.1), ("b", false));
+    same(&rt, (key.0, key.1.as_str()), (1, "b"));
+    same(&rt, (value.0.as_str(), value.1), ("b", false));
     Ok(())
 }
 
@@ -448,7 +453,7 @@ fn a_map_is_made_or_a_growth_is_refused(rt: HostRuntime) {
         0xE8, 0xFF, 0xFF, 0xFF, 1, 0, 0, 0, // root
     ];
     match texts_made(&rt, rt.alloc(), &bytes) {
-        Ok(map) => assert_eq!(rt; map.get("a").map(|value| value.as_str()), Some("b")),
-        Err(fault) => assert_eq!(rt; fault, DeserializeFault::Memory(AllocError)),
+        Ok(map) => same(&rt, map.get("a").map(|value| value.as_str()), Some("b")),
+        Err(fault) => same(&rt, fault, DeserializeFault::Memory(AllocError)),
     }
 }

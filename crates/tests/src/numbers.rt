@@ -1,5 +1,6 @@
 //! Archives of numbers, byte for byte.
 
+use crate::same::same;
 use rkyv_btree_base::check::{CheckBytes, Window};
 use rkyv_btree_base::fault::Fault;
 use rkyv_btree_base::layout;
@@ -49,20 +50,21 @@ fn one_entry() -> [u8; 56] {
 #[test]
 fn one_entry_is_a_leaf_and_a_root(rt: HostRuntime) -> Result<(), Fail> {
     let mut writer = VecWriter::new(rt.alloc());
-    assert_eq!(rt;
+    same(
+        &rt,
         archive::<5>(&rt, rt.alloc(), 1, &[(7, 11)], &mut writer)?,
-        48
+        48,
     );
-    assert_eq!(rt; writer.bytes(), one_entry().as_slice());
+    same(&rt, writer.bytes(), one_entry().as_slice());
     Ok(())
 }
 
 #[test]
 fn no_entry_is_a_root(rt: HostRuntime) -> Result<(), Fail> {
     let mut writer = VecWriter::new(rt.alloc());
-    assert_eq!(rt; archive::<5>(&rt, rt.alloc(), 0, &[], &mut writer)?, 0);
+    same(&rt, archive::<5>(&rt, rt.alloc(), 0, &[], &mut writer)?, 0);
     let bytes = writer.into_vec();
-    assert_eq!(rt; bytes.as_slice(), [1, 0, 0, 0, 0, 0, 0, 0].as_slice());
+    same(&rt, bytes.as_slice(), [1, 0, 0, 0, 0, 0, 0, 0].as_slice());
     Ok(())
 }
 
@@ -70,14 +72,15 @@ fn no_entry_is_a_root(rt: HostRuntime) -> Result<(), Fail> {
 fn a_leaf_starts_at_a_multiple_of_its_alignment(rt: HostRuntime) -> Result<(), Fail> {
     let start = [0xAA, 0xBB, 0xCC].to_vec(rt.alloc())?;
     let mut writer = VecWriter::from_vec(start);
-    assert_eq!(rt;
+    same(
+        &rt,
         archive::<5>(&rt, rt.alloc(), 1, &[(7, 11)], &mut writer)?,
-        52
+        52,
     );
     let bytes = writer.bytes();
-    assert_eq!(rt; bytes.len(), 60);
-    assert_eq!(rt; &bytes[..4], [0xAA, 0xBB, 0xCC, 0].as_slice());
-    assert_eq!(rt; &bytes[4..], one_entry().as_slice());
+    assert!(rt; bytes.len() == 60);
+    same(&rt, &bytes[..4], [0xAA, 0xBB, 0xCC, 0].as_slice());
+    same(&rt, &bytes[4..], one_entry().as_slice());
     Ok(())
 }
 
@@ -92,15 +95,16 @@ fn the_length_stands_behind_the_padding_of_the_values(rt: HostRuntime) -> Result
         entries.iter().map(|entry: &(u64, u8)| (&entry.0, &entry.1)),
         &mut writer,
     )?;
-    assert_eq!(rt;
+    same(
+        &rt,
         ArchivedBTreeMap::<ArchivedU64, u8, 1>::write_root(1, root, &mut writer)?,
-        32
+        32,
     );
     let want = [
         0, 0, 0, 0, 0, 0, 0, 0, 5, 0, 0, 0, 0, 0, 0, 0, 9, 0, 0, 0, 0, 0, 0, 0, 1, 0, 0, 0, 0, 0,
         0, 0, 0xE0, 0xFF, 0xFF, 0xFF, 1, 0, 0, 0,
     ];
-    assert_eq!(rt; writer.bytes(), want.as_slice());
+    same(&rt, writer.bytes(), want.as_slice());
     Ok(())
 }
 
@@ -113,8 +117,8 @@ fn keys_other_than_0_are_archived_as_numbers(rt: HostRuntime) -> Result<(), Fail
     let entries = [(seven, 11u32)];
     let items = entries.iter().map(|entry| (&entry.0, &entry.1));
     let root = Map::serialize_from_ordered_iter(rt.alloc(), 1, items, &mut writer)?;
-    assert_eq!(rt; Map::write_root(1, root, &mut writer)?, 48);
-    assert_eq!(rt; writer.bytes(), one_entry().as_slice());
+    same(&rt, Map::write_root(1, root, &mut writer)?, 48);
+    same(&rt, writer.bytes(), one_entry().as_slice());
     Ok(())
 }
 
@@ -131,8 +135,8 @@ fn characters_and_nothing_are_archived(rt: HostRuntime) -> Result<(), Fail> {
         0, 0, 0, 0, 97, 0, 0, 0, 0xFF, 0xFF, 0x10, 0, 2, 0, 0, 0, // leaf
         0xF0, 0xFF, 0xFF, 0xFF, 2, 0, 0, 0, // map
     ];
-    assert_eq!(rt; pos, 16);
-    assert_eq!(rt; writer.bytes(), want.as_slice());
+    same(&rt, pos, 16);
+    same(&rt, writer.bytes(), want.as_slice());
     assert!(rt; Map::check(writer.bytes(), pos, Window { lo: 0, hi: pos }).is_ok());
     Ok(())
 }

@@ -1,6 +1,7 @@
 //! Maps whose bytes anybody wrote, of a node at most.
 
 use crate::convert::opened;
+use crate::same::same;
 use rkyv_btree::map::access;
 use rkyv_btree::view::View;
 use rkyv_btree_base::check::{CheckBytes, Window};
@@ -35,7 +36,7 @@ pub(crate) fn opens<const E: usize>(
     entries: &[(u32, u32)],
 ) {
     let map = opened::<ArchivedU32, ArchivedU32, E>(rt, bytes, pos);
-    assert_eq!(rt; map.len() as usize, entries.len());
+    same(rt, map.len() as usize, entries.len());
     let mut left = entries;
     let other = map.visit(|k: View<ArchivedU32>, v: View<ArchivedU32>| {
         match left.split_first() {
@@ -46,14 +47,14 @@ pub(crate) fn opens<const E: usize>(
             _ => ControlFlow::Break(()),
         }
     });
-    assert_eq!(rt; other, None);
-    assert_eq!(rt; left.len(), 0);
+    same(rt, other, None);
+    same(rt, left.len(), 0);
 }
 
 /// Asserts that the bytes are refused so, with so many checks of nodes begun.
 pub(crate) fn refuses<const E: usize>(rt: &impl Abort, bytes: &[u8], pos: u32, refusal: Refusal) {
     let told = refusal_of::<ArchivedU32, ArchivedU32, E>(rt, bytes, pos);
-    assert_eq!(rt; told, Some(refusal));
+    same(rt, told, Some(refusal));
 }
 
 /// Why there is no map at a position, unless there is one.
@@ -123,11 +124,11 @@ fn keys_other_than_0_and_no_keys_are_checked(rt: HostRuntime) {
     ];
     for (bytes, refusal) in rows {
         let told = refusal_of::<ArchivedNonZeroU32, ArchivedU32, 5>(&rt, &bytes, 48);
-        assert_eq!(rt; told, refusal);
+        same(&rt, told, refusal);
     }
     let bytes = [0, 0, 0, 0, 3, 0, 0, 0, 248, 255, 255, 255, 3, 0, 0, 0];
     let map = opened::<(), (), 5>(&rt, &bytes, 8);
-    assert_eq!(rt; map.iter().count(), 3);
+    same(&rt, map.iter().count(), 3);
 }
 
 #[test]

@@ -3,6 +3,7 @@ ghost use Rattle.std.specs.Prelude.{◌≡◌};
 ghost use Rattle.rkyv_btree_base.specs.Entry.{entry_kind};
 ghost use Rattle.rkyv_btree_base.specs.Scalars.{u8_kind, u32_kind};
 
+use crate::same::same;
 use crate::views::hashed;
 use rkyv_btree::view::View;
 use rkyv_btree_base::archive::{Archive, Serialize};
@@ -36,13 +37,13 @@ fn views_of_entries_compare_as_pairs(rt: HostRuntime) {
     assert!(rt; Pair::fits());
     for (i, left) in pairs.iter().enumerate() {
         let a = View::<Pair>::check(&buf, 8 * i as u32).expect(&rt, "an entry");
-        assert_eq!(rt; pair(a), *left);
-        assert_eq!(rt; hashed(&a), hashed(left));
+        same(&rt, pair(a), *left);
+        same(&rt, hashed(&a), hashed(left));
         for (j, right) in pairs.iter().enumerate() {
             let b = View::<Pair>::check(&buf, 8 * j as u32).expect(&rt, "an entry");
-            assert_eq!(rt; a == b, left == right);
-            assert_eq!(rt; a.cmp(&b), left.cmp(right));
-            assert_eq!(rt; a < b, left < right);
+            same(&rt, a == b, left == right);
+            same(&rt, a.cmp(&b), left.cmp(right));
+            same(&rt, a < b, left < right);
         }
     }
 }
@@ -52,13 +53,14 @@ fn entries_of_entries_are_viewed(rt: HostRuntime) -> Result<(), Fail> {
     let buf = [3u8, 0, 0, 0, 4, 0, 0, 0, 1, 0, 0, 0];
     assert!(rt; Entry::<Pair, bool>::fits());
     let entry = View::<Entry<Pair, bool>>::check(&buf, 0).expect(&rt, "an entry");
-    assert_eq!(rt; pair(entry.key()), (3, 4));
+    same(&rt, pair(entry.key()), (3, 4));
     assert!(rt; entry.value().to_native());
-    assert_eq!(rt; hashed(&entry), hashed(&((3u8, 4u32), true)));
+    same(&rt, hashed(&entry), hashed(&((3u8, 4u32), true)));
     let told = format!(in rt.alloc(); "{entry:?}")?;
-    assert_eq!(rt;
+    same(
+        &rt,
         told.as_str(),
-        "Entry { key: Entry { key: 3, value: 4 }, value: true }"
+        "Entry { key: Entry { key: 3, value: 4 }, value: true }",
     );
     Ok(())
 }
@@ -72,12 +74,12 @@ fn an_archived_entry_is_viewed(rt: HostRuntime) {
     let resolver = entry
         .serialize(rt.alloc(), &mut writer)
         .expect(&rt, "numbers are always serialised");
-    assert_eq!(rt; Entry::<u8, ArchivedU16>::size(), 4);
+    assert!(rt; Entry::<u8, ArchivedU16>::size() == 4);
     let mut bytes = [0; 4];
     assert!(rt; entry.resolve(resolver, Place::new(0, &mut bytes)).is_ok());
     let view = View::<Entry<u8, ArchivedU16>>::check(&bytes, 0).expect(&rt, "an entry");
-    assert_eq!(rt; view.key().to_native(), 1);
-    assert_eq!(rt; view.value().to_native(), 513);
+    same(&rt, view.key().to_native(), 1);
+    same(&rt, view.value().to_native(), 513);
 }
 
 /// Why the bytes are refused.
@@ -93,10 +95,10 @@ fn refusal_of<T: CheckBytes>(rt: &impl Abort, buf: &[u8], pos: u32) -> Option<Re
 fn entries_of_entries_are_refused_at_their_parts(rt: HostRuntime) {
     let buf = [9u8, 9, 9, 9, 3, 0, 0, 0, 4, 0, 0, 0, 2, 0, 0, 0];
     let bad = Some(Refusal::BadEntry { pos: 12 });
-    assert_eq!(rt; refusal_of::<Entry<Pair, bool>>(&rt, &buf, 4), bad);
+    same(&rt, refusal_of::<Entry<Pair, bool>>(&rt, &buf, 4), bad);
     let odd = Some(Refusal::Misaligned { pos: 2 });
-    assert_eq!(rt; refusal_of::<Entry<Pair, bool>>(&rt, &buf, 2), odd);
+    same(&rt, refusal_of::<Entry<Pair, bool>>(&rt, &buf, 2), odd);
     let cut = Some(Refusal::OutOfRange { pos: 8 });
-    assert_eq!(rt; refusal_of::<Entry<Pair, bool>>(&rt, &buf, 8), cut);
-    assert_eq!(rt; refusal_of::<Entry<Pair, u8>>(&rt, &buf, 4), None);
+    same(&rt, refusal_of::<Entry<Pair, bool>>(&rt, &buf, 8), cut);
+    same(&rt, refusal_of::<Entry<Pair, u8>>(&rt, &buf, 4), None);
 }

@@ -3,6 +3,7 @@
 use crate::convert;
 use crate::equal_maps::opened;
 use crate::numbers::{archive, tens};
+use crate::same::same;
 use crate::texts::archive_texts;
 use rkyv_btree::range::Range;
 use rkyv_btree::view::View;
@@ -48,7 +49,7 @@ fn have_keys<const E: usize>(
         let mut range = map.range_by(*low, *high);
         for key in *keys {
             let met = range.next().map(|(k, _)| k.to_native());
-            assert_eq!(rt; met, Some(*key));
+            same(rt, met, Some(*key));
         }
         assert!(rt; range.next().is_none());
         assert!(rt; range.next().is_none());
@@ -97,7 +98,7 @@ fn is_that_of_list<const E: usize>(
     let mut range = map.range_by(low, high);
     for entry in within.as_slice() {
         let met = range.next().map(|(k, v)| (k.to_native(), v.to_native()));
-        assert_eq!(rt; met, Some(*entry));
+        same(rt, met, Some(*entry));
     }
     assert!(rt; range.next().is_none());
     assert!(rt; range.next().is_none());
@@ -162,9 +163,9 @@ fn a_list_out_of_order_is_walked(rt: HostRuntime) -> Result<(), Fail> {
     let mut open = map.range_by(Bound::<u32>::Unbounded, Bound::Unbounded);
     for entry in entries {
         let met = all.next().map(|(k, v)| (k.to_native(), v.to_native()));
-        assert_eq!(rt; met, Some(entry));
+        same(&rt, met, Some(entry));
         let met = open.next().map(|(k, v)| (k.to_native(), v.to_native()));
-        assert_eq!(rt; met, Some(entry));
+        same(&rt, met, Some(entry));
     }
     assert!(rt; all.next().is_none());
     assert!(rt; open.next().is_none());
@@ -176,12 +177,12 @@ fn keys_count_down(rt: &impl Abort, map: &View<Numbers<2>>, entries: &[(u32, u32
     let mut keys = map.keys();
     let mut left = 9;
     for (key, _) in entries {
-        assert_eq!(rt; keys.len(), left);
+        same(rt, keys.len(), left);
         left = left.wrapping_sub(1);
-        assert_eq!(rt; keys.next().map(|k| k.to_native()), Some(*key));
+        same(rt, keys.next().map(|k| k.to_native()), Some(*key));
     }
     for _ in 0..2 {
-        assert_eq!(rt; keys.len(), 0);
+        same(rt, keys.len(), 0);
         assert!(rt; keys.next().is_none());
     }
 }
@@ -191,12 +192,12 @@ fn values_count_down(rt: &impl Abort, map: &View<Numbers<2>>, entries: &[(u32, u
     let mut values = map.values();
     let mut left = 9;
     for (_, value) in entries {
-        assert_eq!(rt; values.size_hint(), (left, Some(left)));
+        same(rt, values.size_hint(), (left, Some(left)));
         left = left.wrapping_sub(1);
-        assert_eq!(rt; values.next().map(|v| v.to_native()), Some(*value));
+        same(rt, values.next().map(|v| v.to_native()), Some(*value));
     }
     for _ in 0..2 {
-        assert_eq!(rt; values.len(), 0);
+        same(rt, values.len(), 0);
         assert!(rt; values.next().is_none());
     }
 }
@@ -228,7 +229,7 @@ fn has_no_keys<K: Portable, V: Portable, const E: usize>(
     rt: &impl Abort,
     map: &View<ArchivedBTreeMap<K, V, E>>,
 ) {
-    assert_eq!(rt; map.keys().len(), 0);
+    same(rt, map.keys().len(), 0);
     assert!(rt; map.keys().next().is_none());
     assert!(rt; map.values().next().is_none());
 }
@@ -265,8 +266,8 @@ fn has_last_characters(
     map: &View<ArchivedBTreeMap<ArchivedChar, ArchivedChar, 5>>,
 ) {
     let mut range = map.range_by(Bound::Included('x'), Bound::Unbounded);
-    assert_eq!(rt; range.next().map(|(k, _)| k.to_native()), Some('x'));
-    assert_eq!(rt; range.next().map(|(_, v)| v.to_native()), Some('y'));
+    same(rt, range.next().map(|(k, _)| k.to_native()), Some('x'));
+    same(rt, range.next().map(|(_, v)| v.to_native()), Some('y'));
     assert!(rt; range.next().is_none());
 }
 
@@ -297,7 +298,7 @@ fn has_range_by_first_characters(rt: &impl Abort, map: &View<Letters>) {
     );
     for letter in 'd'..='v' {
         let met = range.next().map(|(_, v)| v.to_native());
-        assert_eq!(rt; met, Some(u32::from(letter)));
+        same(rt, met, Some(u32::from(letter)));
     }
     assert!(rt; range.next().is_none());
 }
@@ -307,7 +308,7 @@ fn has_range_between_views(rt: &impl Abort, map: &View<Letters>) {
     let (low, _) = map.iter().nth(2).expect(rt, "a third entry");
     let (high, _) = map.iter().nth(3).expect(rt, "a fourth entry");
     let mut range = map.range(Bound::Excluded(low), Bound::Included(high));
-    assert_eq!(rt; range.next().map(|(k, _)| k.as_str()), Some("d"));
+    same(rt, range.next().map(|(k, _)| k.as_str()), Some("d"));
     assert!(rt; range.next().is_none());
 }
 
@@ -321,6 +322,6 @@ fn ranges_of_texts(rt: HostRuntime) -> Result<(), Fail> {
     has_range_by_first_characters(&rt, &map);
     has_range_between_views(&rt, &map);
     let mut range = map.range_by(Bound::Excluded("wz"), Bound::Unbounded);
-    assert_eq!(rt; range.next().map(|(k, _)| k.as_str()), Some("x"));
+    same(&rt, range.next().map(|(k, _)| k.as_str()), Some("x"));
     Ok(())
 }

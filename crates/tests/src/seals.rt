@@ -5,6 +5,7 @@ ghost use Rattle.rkyv_btree_base.specs.Views.{stands};
 ghost use Rattle.rkyv_btree.specs.Alone.{StandsAlone};
 
 use crate::numbers::{archive, tens};
+use crate::same::same;
 use crate::texts::{archive_texts, archived_text, with_texts};
 use rkyv_btree::map::{MapSeal, access, access_mut};
 use rkyv_btree::seal::{LentKey, Seal};
@@ -60,25 +61,25 @@ fn lends_nothing<const E: usize>(rt: &impl Abort, root: [u8; 8]) {
     let called = map.visit_seal(|_: LentKey<ArchivedU32>, _: &mut Seal<ArchivedU32>| {
         ControlFlow::Break(())
     });
-    assert_eq!(rt; called, None);
+    same(rt, called, None);
     assert!(rt; !map.set_by(0, 1));
     let mut entries = opened::<E>(rt, &mut bytes, 0).iter_seal();
     for _ in 0..3 {
         assert!(rt; !entries.next());
-        assert_eq!(rt; entries.size_hint(), (0, Some(0)));
+        same(rt, entries.size_hint(), (0, Some(0)));
     }
     let mut values = opened::<E>(rt, &mut bytes, 0).values_seal();
     for _ in 0..3 {
         assert!(rt; !values.next());
-        assert_eq!(rt; values.size_hint(), (0, Some(0)));
+        same(rt, values.size_hint(), (0, Some(0)));
     }
     let from = Bound::Included(0u32);
     let mut range = opened::<E>(rt, &mut bytes, 0).range_seal_by(from, Bound::Unbounded);
     for _ in 0..3 {
         assert!(rt; !range.next());
-        assert_eq!(rt; range.size_hint(), (0, None));
+        same(rt, range.size_hint(), (0, None));
     }
-    assert_eq!(rt; bytes, root);
+    same(rt, bytes, root);
 }
 
 #[test]
@@ -100,8 +101,8 @@ fn four_texts(rt: &impl Abort, alloc: Global) -> Result<Vec<u8>, Fail> {
     let mut writer = VecWriter::new(alloc);
     let entries = with_texts(alloc, &FOUR)?;
     let root = archive_texts::<i32, ArchivedI32, 5>(rt, alloc, &entries, &mut writer)?;
-    assert_eq!(rt; root, 80);
-    assert_eq!(rt; writer.bytes().len(), 88);
+    same(rt, root, 80);
+    same(rt, writer.bytes().len(), 88);
     Ok(writer.into_vec())
 }
 
@@ -112,7 +113,7 @@ fn has_texts(rt: &impl Abort, bytes: &[u8], before: &[u8], want: &[(&str, i32)],
     let mut met = map.iter();
     for entry in want {
         let next = met.next().map(|(k, v)| (k.as_str(), v.to_native()));
-        assert_eq!(rt; next, Some(*entry));
+        same(rt, next, Some(*entry));
     }
     assert!(rt; met.next().is_none());
     has_own_bytes(rt, bytes, before, own);
@@ -120,10 +121,10 @@ fn has_texts(rt: &impl Abort, bytes: &[u8], before: &[u8], want: &[(&str, i32)],
 
 /// Asserts that these are the own bytes of the four values, and that all other bytes are as they were.
 fn has_own_bytes(rt: &impl Abort, bytes: &[u8], before: &[u8], own: [u8; 16]) {
-    assert_eq!(rt; bytes.len(), before.len());
-    assert_eq!(rt; bytes.get(..56), before.get(..56));
-    assert_eq!(rt; bytes.get(56..72), Some(own.as_slice()));
-    assert_eq!(rt; bytes.get(72..), before.get(72..));
+    same(rt, bytes.len(), before.len());
+    same(rt, bytes.get(..56), before.get(..56));
+    same(rt, bytes.get(56..72), Some(own.as_slice()));
+    same(rt, bytes.get(72..), before.get(72..));
 }
 
 /// A visit adds 10 to the value of each text.
@@ -137,18 +138,18 @@ fn add_ten_to_each(rt: &impl Abort, bytes: &mut [u8]) {
             ControlFlow::<(), ()>::Continue(())
         },
     );
-    assert_eq!(rt; broken, None);
+    same(rt, broken, None);
 }
 
 /// A seal at the place of a text writes its value.
 fn write_at_its_place(rt: &impl Abort, bytes: &mut [u8], text: &str, value: i32) {
     let map = opened_texts(rt, bytes);
     let place = map.find_with(&text, compare).expect(rt, "an entry");
-    assert_eq!(rt; map.find_by(text), Some(place));
+    same(rt, map.find_by(text), Some(place));
     let MapSeal { buf, pos, of: _ } = map;
     let mut seal = MapSeal::<Texts>::seal_at(buf, pos, place);
     seal.write(value);
-    assert_eq!(rt; seal.read(), value);
+    same(rt, seal.read(), value);
 }
 
 #[test]
@@ -177,7 +178,7 @@ fn with_minus_two(
     before: &[u8],
     at: Option<usize>,
 ) -> Result<Vec<u8>, Fail> {
-    assert_eq!(rt; before.len(), 88);
+    same(rt, before.len(), 88);
     let Some(at) = at else {
         return Ok(before.to_vec(alloc)?);
     };
@@ -291,17 +292,22 @@ fn a_key_sets_its_value<const E: usize>(
 ) -> Result<(), Fail> {
     let is_there = (1..=count).contains(&key);
     let mut bytes = before.to_vec(alloc)?;
-    assert_eq!(rt;
+    same(
+        rt,
         is_set_by_number_view::<E>(rt, &mut bytes, pos, key),
-        is_there
+        is_there,
     );
     assert_eq!(rt; bytes.as_slice(), want, "{key} of {count}");
     let mut bytes = before.to_vec(alloc)?;
-    assert_eq!(rt; opened::<E>(rt, &mut bytes, pos).set_by(key, 7), is_there);
+    same(
+        rt,
+        opened::<E>(rt, &mut bytes, pos).set_by(key, 7),
+        is_there,
+    );
     assert_eq!(rt; bytes.as_slice(), want, "{key} of {count}");
     let mut bytes = before.to_vec(alloc)?;
     let met = replaced::<E>(rt, &mut bytes, pos, key);
-    assert_eq!(rt; met, is_there.then_some((key, key.wrapping_mul(10))));
+    same(rt, met, is_there.then_some((key, key.wrapping_mul(10))));
     assert_eq!(rt; bytes.as_slice(), want, "{key} of {count}");
     Ok(())
 }
@@ -353,8 +359,8 @@ fn a_visit_breaks<const E: usize>(rt: &impl Abort, alloc: Global) -> Result<(), 
             ControlFlow::Continue(())
         },
     );
-    assert_eq!(rt; broken, Some(30));
-    assert_eq!(rt; bytes.as_slice(), want.as_slice());
+    same(rt, broken, Some(30));
+    same(rt, bytes.as_slice(), want.as_slice());
     Ok(())
 }
 
@@ -371,8 +377,8 @@ fn is_taken_alike(rt: &impl Abort, alloc: Global, bytes: &mut [u8], pos: u32) ->
     let before = bytes.to_vec(alloc)?;
     let viewed = access::<ArchivedU32, ArchivedU32, 2>(bytes, pos).err();
     let written = access_mut::<ArchivedU32, ArchivedU32, 2>(bytes, pos).err();
-    assert_eq!(rt; written, viewed);
-    assert_eq!(rt; &*bytes, before.as_slice());
+    same(rt, written, viewed);
+    same(rt, &*bytes, before.as_slice());
     Ok(())
 }
 

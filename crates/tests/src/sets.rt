@@ -1,6 +1,7 @@
 //! Archived sets: their bytes, and what they answer beside std's.
 
 use crate::ranges::is_between;
+use crate::same::same;
 use crate::views::hashed;
 use rkyv_btree::set::access;
 use rkyv_btree::view::View;
@@ -55,12 +56,12 @@ fn opened<'a, K: CheckBytes, const E: usize>(
 fn a_set_has_these_bytes(rt: HostRuntime) -> Result<(), Fail> {
     let mut writer = VecWriter::new(rt.alloc());
     let pos = archive::<i32, _, 5>(&rt, rt.alloc(), &[10, 20, 40, 80], &mut writer)?;
-    assert_eq!(rt; pos, 28);
+    same(&rt, pos, 28);
     let want = [
         0u8, 0, 0, 0, 10, 0, 0, 0, 20, 0, 0, 0, 40, 0, 0, 0, 80, 0, 0, 0, 0, 0, 0, 0, 4, 0, 0, 0, // leaf
         228, 255, 255, 255, 4, 0, 0, 0, // set
     ];
-    assert_eq!(rt; writer.bytes(), want.as_slice());
+    same(&rt, writer.bytes(), want.as_slice());
     Ok(())
 }
 
@@ -68,9 +69,9 @@ fn a_set_has_these_bytes(rt: HostRuntime) -> Result<(), Fail> {
 fn the_set_of_one_empty_value_is_the_map_of_it(rt: HostRuntime) -> Result<(), Fail> {
     let mut set = VecWriter::new(rt.alloc());
     let pos = archive::<(), _, 5>(&rt, rt.alloc(), &[()], &mut set)?;
-    assert_eq!(rt; pos, 8);
+    same(&rt, pos, 8);
     let want = [0u8, 0, 0, 0, 1, 0, 0, 0, 248, 255, 255, 255, 1, 0, 0, 0];
-    assert_eq!(rt; set.bytes(), want.as_slice());
+    same(&rt, set.bytes(), want.as_slice());
     assert!(rt; layout::fits::<(), (), 5>());
     let mut map = VecWriter::new(rt.alloc());
     let root = ArchivedBTreeMap::<(), (), 5>::serialize_from_ordered_iter(
@@ -82,7 +83,7 @@ fn the_set_of_one_empty_value_is_the_map_of_it(rt: HostRuntime) -> Result<(), Fa
         &mut map,
     )?;
     ArchivedBTreeMap::<(), (), 5>::write_root(1, root, &mut map)?;
-    assert_eq!(rt; map.bytes(), set.bytes());
+    same(&rt, map.bytes(), set.bytes());
     assert!(rt; opened::<(), 5>(&rt, set.bytes(), pos).contains_by(()));
     Ok(())
 }
@@ -91,11 +92,11 @@ fn the_set_of_one_empty_value_is_the_map_of_it(rt: HostRuntime) -> Result<(), Fa
 fn the_empty_set_has_no_keys(rt: HostRuntime) -> Result<(), Fail> {
     let mut writer = VecWriter::new(rt.alloc());
     let pos = archive::<u32, _, 5>(&rt, rt.alloc(), &[], &mut writer)?;
-    assert_eq!(rt; pos, 0);
-    assert_eq!(rt; writer.bytes(), [1u8, 0, 0, 0, 0, 0, 0, 0].as_slice());
+    same(&rt, pos, 0);
+    same(&rt, writer.bytes(), [1u8, 0, 0, 0, 0, 0, 0, 0].as_slice());
     let set = opened::<ArchivedU32, 5>(&rt, writer.bytes(), pos);
     assert!(rt; set.is_empty());
-    assert_eq!(rt; set.len(), 0);
+    same(&rt, set.len(), 0);
     assert!(rt; set.iter().next().is_none());
     assert!(rt;
         set.range_by(Bound::<u32>::Unbounded, Bound::Unbounded)
@@ -103,7 +104,7 @@ fn the_empty_set_has_no_keys(rt: HostRuntime) -> Result<(), Fail> {
             .is_none()
     );
     let met = set.visit_keys(|key: View<ArchivedU32>| ControlFlow::Break(key.to_native()));
-    assert_eq!(rt; met, None);
+    same(&rt, met, None);
     assert!(rt; !set.contains_by(0));
     assert!(rt; set.get_by(0).is_none());
     Ok(())
@@ -115,12 +116,12 @@ fn an_iterator_counts_what_is_left(rt: HostRuntime) -> Result<(), Fail> {
     let pos = archive::<u32, _, 1>(&rt, rt.alloc(), &[1, 2], &mut writer)?;
     let set = opened::<ArchivedU32, 1>(&rt, writer.bytes(), pos);
     let mut keys = set.iter();
-    assert_eq!(rt; keys.len(), 2);
-    assert_eq!(rt; keys.size_hint(), (2, Some(2)));
-    assert_eq!(rt; keys.next().map(|key| key.to_native()), Some(1));
-    assert_eq!(rt; keys.len(), 1);
-    assert_eq!(rt; keys.next().map(|key| key.to_native()), Some(2));
-    assert_eq!(rt; keys.len(), 0);
+    same(&rt, keys.len(), 2);
+    same(&rt, keys.size_hint(), (2, Some(2)));
+    same(&rt, keys.next().map(|key| key.to_native()), Some(1));
+    same(&rt, keys.len(), 1);
+    same(&rt, keys.next().map(|key| key.to_native()), Some(2));
+    same(&rt, keys.len(), 0);
     assert!(rt; keys.next().is_none());
     Ok(())
 }
@@ -142,17 +143,18 @@ type Texts = ArchivedBTreeSet<ArchivedText, 2>;
 fn texts_are_found(rt: &impl Abort, set: &View<Texts>) {
     assert!(rt; set.contains_by("b"));
     assert!(rt; !set.contains_by("ab"));
-    assert_eq!(rt;
+    same(
+        rt,
         set.get_by("\u{E9}").map(|key| key.as_str()),
-        Some("\u{E9}")
+        Some("\u{E9}"),
     );
 }
 
 /// The range behind the second of the four texts has the last two.
 fn has_range_of_texts(rt: &impl Abort, set: &View<Texts>) {
     let mut within = set.range_by(Bound::Excluded("a"), Bound::Unbounded);
-    assert_eq!(rt; within.next().map(|key| key.as_str()), Some("b"));
-    assert_eq!(rt; within.next().map(|key| key.as_str()), Some("\u{E9}"));
+    same(rt, within.next().map(|key| key.as_str()), Some("b"));
+    same(rt, within.next().map(|key| key.as_str()), Some("\u{E9}"));
     assert!(rt; within.next().is_none());
 }
 
@@ -160,11 +162,11 @@ fn has_range_of_texts(rt: &impl Abort, set: &View<Texts>) {
 fn a_set_of_texts_is_read(rt: HostRuntime) -> Result<(), Fail> {
     let (bytes, pos) = archived_texts(&rt, rt.alloc(), &["", "a", "b", "\u{E9}"])?;
     let set = opened::<ArchivedText, 2>(&rt, &bytes, pos);
-    assert_eq!(rt; set.len(), 4);
+    same(&rt, set.len(), 4);
     texts_are_found(&rt, &set);
     has_range_of_texts(&rt, &set);
     let told = format!(in rt.alloc(); "{set:?}")?;
-    assert_eq!(rt; told.as_str(), "{\"\", \"a\", \"b\", \"\u{E9}\"}");
+    same(&rt, told.as_str(), "{\"\", \"a\", \"b\", \"\u{E9}\"}");
     Ok(())
 }
 
@@ -201,11 +203,11 @@ fn is_walked_as<const E: usize>(
     set: View<ArchivedBTreeSet<ArchivedU32, E>>,
     keys: &BTreeSet<u32>,
 ) {
-    assert_eq!(rt; set.len() as usize, keys.len());
-    assert_eq!(rt; set.is_empty(), keys.is_empty());
+    same(rt, set.len() as usize, keys.len());
+    same(rt, set.is_empty(), keys.is_empty());
     let mut met = set.iter();
     for key in keys.iter() {
-        assert_eq!(rt; met.next().map(|key| key.to_native()), Some(*key));
+        same(rt, met.next().map(|key| key.to_native()), Some(*key));
     }
     assert!(rt; met.next().is_none());
 }
@@ -224,7 +226,7 @@ fn is_visited_as<const E: usize>(
             ControlFlow::Break(key.to_native())
         }
     });
-    assert_eq!(rt; other, None);
+    same(rt, other, None);
     assert!(rt; left.next().is_none());
     let found = set.visit_keys(|key: View<ArchivedU32>| {
         if key.to_native() == set.len() | 1 {
@@ -233,7 +235,7 @@ fn is_visited_as<const E: usize>(
             ControlFlow::Continue(())
         }
     });
-    assert_eq!(rt; found, keys.get(&(set.len() | 1)).copied());
+    same(rt, found, keys.get(&(set.len() | 1)).copied());
 }
 
 /// The look-ups of a set find what std's find, by native values, and by the keys of another set.
@@ -245,15 +247,17 @@ fn is_searched_as<const E: usize>(
 ) {
     for query in asked.iter() {
         let key = query.to_native();
-        assert_eq!(rt; set.contains_by(key), keys.contains(&key));
-        assert_eq!(rt;
+        same(rt, set.contains_by(key), keys.contains(&key));
+        same(
+            rt,
             set.get_by(key).map(|met| met.to_native()),
-            keys.get(&key).copied()
+            keys.get(&key).copied(),
         );
-        assert_eq!(rt; set.contains_key(query), keys.contains(&key));
-        assert_eq!(rt;
+        same(rt, set.contains_key(query), keys.contains(&key));
+        same(
+            rt,
             set.get(query).map(|met| met.to_native()),
-            keys.get(&key).copied()
+            keys.get(&key).copied(),
         );
     }
 }
@@ -269,7 +273,7 @@ fn has_range<const E: usize>(
     let mut met = set.range_by(low, high);
     for key in keys.iter() {
         if is_between(low, high, *key) {
-            assert_eq!(rt; met.next().map(|key| key.to_native()), Some(*key));
+            same(rt, met.next().map(|key| key.to_native()), Some(*key));
         }
     }
     assert!(rt; met.next().is_none());
@@ -343,8 +347,8 @@ fn a_range_between_archived_keys(rt: HostRuntime) -> Result<(), Fail> {
     let low = set.get_by(3).expect(&rt, "a key");
     let high = set.get_by(7).expect(&rt, "a key");
     let mut within = set.range(Bound::Included(low), Bound::Excluded(high));
-    assert_eq!(rt; within.next().map(|key| key.to_native()), Some(3));
-    assert_eq!(rt; within.next().map(|key| key.to_native()), Some(5));
+    same(&rt, within.next().map(|key| key.to_native()), Some(3));
+    same(&rt, within.next().map(|key| key.to_native()), Some(5));
     assert!(rt; within.next().is_none());
     Ok(())
 }
@@ -363,10 +367,10 @@ fn sets_of_equal_keys_are_equal(rt: HostRuntime) -> Result<(), Fail> {
     let other = opened::<ArchivedU32, 5>(&rt, third.bytes(), pos);
     assert!(rt; set == alike);
     assert!(rt; set != other);
-    assert_eq!(rt; hashed(&set), hashed(&alike));
+    same(&rt, hashed(&set), hashed(&alike));
     assert!(rt; hashed(&set) != hashed(&other));
     let told = format!(in alloc; "{set:?}")?;
-    assert_eq!(rt; told.as_str(), "{1, 2}");
+    same(&rt, told.as_str(), "{1, 2}");
     Ok(())
 }
 
@@ -404,7 +408,7 @@ fn is_taken_as_the_map(rt: &impl Abort, bytes: &[u8], pos: u32) {
     assert!(rt; layout::fits::<ArchivedU32, (), 2>());
     let map = rkyv_btree::map::access::<ArchivedU32, (), 2>(bytes, pos);
     let set = access::<ArchivedU32, 2>(bytes, pos);
-    assert_eq!(rt; set.map(|set| set.len()), map.map(|map| map.len()));
+    same(rt, set.map(|set| set.len()), map.map(|map| map.len()));
 }
 
 #[test]

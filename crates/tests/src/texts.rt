@@ -1,6 +1,7 @@
 //! Texts, checked by themselves and archived as keys.
 
 use crate::faults::Failing;
+use crate::same::same;
 use rkyv_btree_base::archive::{Archive, Serialize};
 use rkyv_btree_base::check::{CheckBytes, Portable, Window};
 use rkyv_btree_base::fault::{Fault, ResolveFault};
@@ -49,7 +50,7 @@ fn texts_are_utf8(rt: HostRuntime) -> Result<(), Fail> {
         let (bytes, hi) = archived_text(&rt, rt.alloc(), text)?;
         let left = ArchivedText::check(&bytes, hi, Window { lo: 0, hi });
         let lo = u32::try_from(text.len()).expect(&rt, "a length");
-        assert_eq!(rt; left, Ok(Window { lo, hi }));
+        same(&rt, left, Ok(Window { lo, hi }));
     }
     // Cut inside a character, no character's beginning, too long for their characters, and half of a pair.
     let others: [&[u8]; 8] = [
@@ -65,7 +66,7 @@ fn texts_are_utf8(rt: HostRuntime) -> Result<(), Fail> {
     for text in others {
         let (bytes, hi) = archived_text(&rt, rt.alloc(), text)?;
         let left = ArchivedText::check(&bytes, hi, Window { lo: 0, hi });
-        assert_eq!(rt; left, Err(Refusal::BadEntry { pos: hi }));
+        same(&rt, left, Err(Refusal::BadEntry { pos: hi }));
     }
     Ok(())
 }
@@ -93,14 +94,14 @@ fn texts_lie_in_their_windows(rt: HostRuntime) -> Result<(), Fail> {
         bytes.extend_from_slice(&u32::to_le_bytes(len))?;
         assert!(rt; lo <= 4);
         let window = Window { lo, hi: 4 };
-        assert_eq!(rt; ArchivedText::check(&bytes, 4, window), answer);
+        same(&rt, ArchivedText::check(&bytes, 4, window), answer);
     }
     let bytes = [0; 12];
     let window = Window { lo: 0, hi: 0 };
     let odd = Err(Refusal::Misaligned { pos: 2 });
-    assert_eq!(rt; ArchivedText::check(&bytes, 2, window), odd);
+    same(&rt, ArchivedText::check(&bytes, 2, window), odd);
     let past = Err(Refusal::OutOfRange { pos: 8 });
-    assert_eq!(rt; ArchivedText::check(&bytes, 8, window), past);
+    same(&rt, ArchivedText::check(&bytes, 8, window), past);
     Ok(())
 }
 
@@ -143,7 +144,7 @@ fn texts_stand_before_their_node(rt: HostRuntime) -> Result<(), Fail> {
     let mut writer = VecWriter::new(rt.alloc());
     let entries = with_texts(rt.alloc(), &empty)?;
     let root = archive_texts::<u32, ArchivedU32, 1>(&rt, rt.alloc(), &entries, &mut writer)?;
-    assert_eq!(rt; root, 20);
+    same(&rt, root, 20);
     let want = [
         0, 0, 0, 0, // kind
         0xFC, 0xFF, 0xFF, 0xFF, 0, 0, 0, 0, // key
@@ -151,7 +152,7 @@ fn texts_stand_before_their_node(rt: HostRuntime) -> Result<(), Fail> {
         1, 0, 0, 0, // length
         0xEC, 0xFF, 0xFF, 0xFF, 1, 0, 0, 0, // root
     ];
-    assert_eq!(rt; writer.bytes(), want.as_slice());
+    same(&rt, writer.bytes(), want.as_slice());
     Ok(())
 }
 
@@ -161,7 +162,7 @@ fn texts_of_an_inner_node_stand_behind_its_children(rt: HostRuntime) -> Result<(
     let mut writer = VecWriter::new(rt.alloc());
     let entries = with_texts(rt.alloc(), &two)?;
     let root = archive_texts::<u32, ArchivedU32, 1>(&rt, rt.alloc(), &entries, &mut writer)?;
-    assert_eq!(rt; root, 52);
+    same(&rt, root, 52);
     let want = [
         97, 0, 0, 0, // a
         0, 0, 0, 0, 0xF8, 0xFF, 0xFF, 0xFF, 1, 0, 0, 0, 1, 0, 0, 0, 1, 0, 0, 0, // leaf
@@ -170,7 +171,7 @@ fn texts_of_an_inner_node_stand_behind_its_children(rt: HostRuntime) -> Result<(
         0xD8, 0xFF, 0xFF, 0xFF, 1, 0, 0, 0, // pointers
         0xE8, 0xFF, 0xFF, 0xFF, 2, 0, 0, 0, // root
     ];
-    assert_eq!(rt; writer.bytes(), want.as_slice());
+    same(&rt, writer.bytes(), want.as_slice());
     Ok(())
 }
 
@@ -180,7 +181,7 @@ fn texts_of_a_leaf_stand_one_behind_another(rt: HostRuntime) -> Result<(), Fail>
     let mut writer = VecWriter::new(rt.alloc());
     let entries = with_texts(rt.alloc(), &four)?;
     let root = archive_texts::<i32, ArchivedI32, 5>(&rt, rt.alloc(), &entries, &mut writer)?;
-    assert_eq!(rt; root, 80);
+    same(&rt, root, 80);
     let want = [
         b'b', b'a', b'r', b'b', b'a', b't', b'b', b'a', b'z', b'f', b'o', b'o', // texts
         0, 0, 0, 0, // kind
@@ -193,7 +194,7 @@ fn texts_of_a_leaf_stand_one_behind_another(rt: HostRuntime) -> Result<(), Fail>
         4, 0, 0, 0, // length
         0xBC, 0xFF, 0xFF, 0xFF, 4, 0, 0, 0, // root
     ];
-    assert_eq!(rt; writer.bytes(), want.as_slice());
+    same(&rt, writer.bytes(), want.as_slice());
     Ok(())
 }
 
@@ -219,7 +220,7 @@ fn written_texts_are_accepted(rt: HostRuntime) -> Result<(), Fail> {
         let some = &entries[..count];
         let hi = archive_texts::<u32, ArchivedU32, 2>(&rt, rt.alloc(), some, &mut writer)?;
         let left = verify::<ArchivedText, ArchivedU32, 2>(writer.bytes(), hi, Window { lo: 0, hi });
-        assert_eq!(rt; left, Ok(Window { lo: hi, hi }));
+        same(&rt, left, Ok(Window { lo: hi, hi }));
     }
     Ok(())
 }
@@ -239,11 +240,11 @@ fn texts_start_and_end_at_a_position(rt: HostRuntime) -> Result<(), Fail> {
         let text = String::from_str(rt.alloc(), text)?;
         let mut writer = VecWriter::with_base(rt.alloc(), base);
         match text.serialize(rt.alloc(), &mut writer) {
-            Ok(start) => assert_eq!(rt; Some(start), answer),
-            Err(Fault::PositionOverflow) => assert_eq!(rt; None, answer),
+            Ok(start) => same(&rt, Some(start), answer),
+            Err(Fault::PositionOverflow) => same(&rt, None, answer),
             Err(_) => assert!(rt; false),
         }
-        assert_eq!(rt; writer.bytes().len(), count);
+        same(&rt, writer.bytes().len(), count);
     }
     Ok(())
 }
@@ -253,10 +254,10 @@ fn a_text_too_far_is_refused(rt: HostRuntime) -> Result<(), Fail> {
     let text = String::from_str(rt.alloc(), "abc")?;
     let mut bytes = [9; 8];
     let near = text.resolve(0, Place::new(2147483648, &mut bytes));
-    assert_eq!(rt; near, Ok(()));
-    assert_eq!(rt; bytes, [0, 0, 0, 0x80, 3, 0, 0, 0]);
+    same(&rt, near, Ok(()));
+    same(&rt, bytes, [0, 0, 0, 0x80, 3, 0, 0, 0]);
     let far = text.resolve(0, Place::new(2147483652, &mut bytes));
-    assert_eq!(rt; far, Err(ResolveFault::OffsetOverflow));
+    same(&rt, far, Err(ResolveFault::OffsetOverflow));
     Ok(())
 }
 
@@ -268,11 +269,11 @@ fn the_empty_text_makes_no_write(rt: HostRuntime) -> Result<(), Fail> {
     };
     let empty = String::new(rt.alloc());
     assert!(rt; matches!(empty.serialize(rt.alloc(), &mut writer), Ok(2)));
-    assert_eq!(rt; writer.failures, 0);
+    same(&rt, writer.failures, 0);
     let text = String::from_str(rt.alloc(), "abc")?;
     let refused = text.serialize(rt.alloc(), &mut writer);
     assert!(rt; matches!(refused, Err(Fault::Writer(_))));
-    assert_eq!(rt; writer.failures, 1);
-    assert_eq!(rt; writer.bytes.as_slice(), [1, 2, b'a'].as_slice());
+    same(&rt, writer.failures, 1);
+    same(&rt, writer.bytes.as_slice(), [1, 2, b'a'].as_slice());
     Ok(())
 }

@@ -1,6 +1,7 @@
 //! The trees that are built, as they are read back, and the sizes of their nodes.
 
 use crate::numbers::{Numbers, tens, words};
+use crate::same::same;
 use rkyv_btree_base::check::Portable;
 use rkyv_btree_base::layout::{self, entries_to_height};
 use rkyv_btree_base::numbers::{ArchivedU32, ArchivedU64};
@@ -187,43 +188,67 @@ fn built_trees_are_those_of_the_table(rt: HostRuntime) -> Result<(), Fail> {
 }
 
 #[test]
-fn trees_have_their_heights(rt: HostRuntime) {
-    assert_eq!(rt; entries_to_height::<5>(1), 1);
-    assert_eq!(rt; entries_to_height::<5>(5), 1);
-    assert_eq!(rt; entries_to_height::<5>(6), 2);
-    assert_eq!(rt; entries_to_height::<5>(9), 2);
-    assert_eq!(rt; entries_to_height::<5>(17), 2);
-    assert_eq!(rt; entries_to_height::<5>(35), 2);
-    assert_eq!(rt; entries_to_height::<5>(36), 3);
-    assert_eq!(rt; entries_to_height::<5>(112), 3);
-    assert_eq!(rt; entries_to_height::<5>(215), 3);
-    assert_eq!(rt; entries_to_height::<5>(100000), 7);
-    assert_eq!(rt; entries_to_height::<1>(2), 2);
-    assert_eq!(rt; entries_to_height::<1>(3), 2);
-    assert_eq!(rt; entries_to_height::<1>(4), 3);
-    assert_eq!(rt; entries_to_height::<1>(4294967295), 32);
+fn trees_of_up_to_two_levels_have_their_heights(rt: HostRuntime) {
+    same(&rt, entries_to_height::<5>(1), 1);
+    same(&rt, entries_to_height::<5>(5), 1);
+    same(&rt, entries_to_height::<5>(6), 2);
+    same(&rt, entries_to_height::<5>(9), 2);
+    same(&rt, entries_to_height::<5>(17), 2);
+    same(&rt, entries_to_height::<5>(35), 2);
 }
 
 #[test]
-fn nodes_have_their_sizes(rt: HostRuntime) {
+fn higher_trees_have_their_heights(rt: HostRuntime) {
+    same(&rt, entries_to_height::<5>(36), 3);
+    same(&rt, entries_to_height::<5>(112), 3);
+    same(&rt, entries_to_height::<5>(215), 3);
+    same(&rt, entries_to_height::<5>(100000), 7);
+}
+
+#[test]
+fn trees_of_one_entry_a_node_have_their_heights(rt: HostRuntime) {
+    same(&rt, entries_to_height::<1>(2), 2);
+    same(&rt, entries_to_height::<1>(3), 2);
+    same(&rt, entries_to_height::<1>(4), 3);
+    same(&rt, entries_to_height::<1>(4294967295), 32);
+}
+
+#[test]
+fn a_node_of_one_entry_has_its_sizes(rt: HostRuntime) {
     assert!(rt; layout::fits::<ArchivedU64, u8, 1>());
-    assert_eq!(rt; layout::key_at::<ArchivedU64, u8, 1>(0), 8);
-    assert_eq!(rt; layout::value_at::<ArchivedU64, u8, 1>(0), 16);
-    assert_eq!(rt; layout::len_at::<ArchivedU64, u8, 1>(), 24);
-    assert_eq!(rt; layout::leaf_size::<ArchivedU64, u8, 1>(), 32);
-    assert_eq!(rt; layout::lesser_at::<ArchivedU64, u8, 1>(0), 24);
-    assert_eq!(rt; layout::greater_at::<ArchivedU64, u8, 1>(), 28);
-    assert_eq!(rt; layout::inner_size::<ArchivedU64, u8, 1>(), 32);
-    assert_eq!(rt; layout::align::<ArchivedU64, u8, 1>(), 8);
-    assert_eq!(rt; layout::node_align::<u8, u8, 1>(), 1);
+    same(&rt, layout::key_at::<ArchivedU64, u8, 1>(0), 8);
+    same(&rt, layout::value_at::<ArchivedU64, u8, 1>(0), 16);
+    same(&rt, layout::len_at::<ArchivedU64, u8, 1>(), 24);
+    same(&rt, layout::leaf_size::<ArchivedU64, u8, 1>(), 32);
+    same(&rt, layout::lesser_at::<ArchivedU64, u8, 1>(0), 24);
+    same(&rt, layout::greater_at::<ArchivedU64, u8, 1>(), 28);
+    same(&rt, layout::inner_size::<ArchivedU64, u8, 1>(), 32);
+    same(&rt, layout::align::<ArchivedU64, u8, 1>(), 8);
+    same(&rt, layout::node_align::<u8, u8, 1>(), 1);
+}
+
+#[test]
+fn nodes_of_texts_have_their_sizes(rt: HostRuntime) {
     assert!(rt; layout::fits::<ArchivedText, ArchivedI32, 5>());
-    assert_eq!(rt; layout::value_at::<ArchivedText, ArchivedI32, 5>(0), 44);
-    assert_eq!(rt; layout::leaf_size::<ArchivedText, ArchivedI32, 5>(), 68);
-    assert_eq!(rt; layout::inner_size::<ArchivedText, ArchivedI32, 5>(), 88);
+    same(&rt, layout::value_at::<ArchivedText, ArchivedI32, 5>(0), 44);
+    same(&rt, layout::leaf_size::<ArchivedText, ArchivedI32, 5>(), 68);
+    same(
+        &rt,
+        layout::inner_size::<ArchivedText, ArchivedI32, 5>(),
+        88,
+    );
+}
+
+#[test]
+fn nodes_of_nothing_have_their_sizes(rt: HostRuntime) {
     assert!(rt; layout::fits::<(), (), 5>());
-    assert_eq!(rt; layout::value_at::<(), (), 5>(4), 1);
-    assert_eq!(rt; layout::leaf_size::<(), (), 5>(), 8);
-    assert_eq!(rt; layout::inner_size::<(), (), 5>(), 28);
+    same(&rt, layout::value_at::<(), (), 5>(4), 1);
+    same(&rt, layout::leaf_size::<(), (), 5>(), 8);
+    same(&rt, layout::inner_size::<(), (), 5>(), 28);
+}
+
+#[test]
+fn nodes_past_32_bits_do_not_fit(rt: HostRuntime) {
     assert!(rt; layout::fits::<ArchivedU32, ArchivedU32, 357913940>());
     assert!(rt; !layout::fits::<ArchivedU32, ArchivedU32, 357913941>());
     assert!(rt; !layout::fits::<ArchivedU32, ArchivedU32, 0>());

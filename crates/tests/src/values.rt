@@ -1,5 +1,6 @@
 //! Values in their own bytes, and what is said of refused ones.
 
+use crate::same::same;
 use rkyv_btree_base::bytes::{num32, target};
 use rkyv_btree_base::check::{CheckBytes, Scalar, Window};
 use rkyv_btree_base::numbers::ArchivedU16;
@@ -14,12 +15,12 @@ use std::test::Fail;
 fn pointers_are_written_and_read(rt: HostRuntime) {
     let mut bytes = [9; 8];
     let (front, back) = bytes.split_at_mut(4);
-    assert_eq!(rt; RelPtr::emplace(0, Place::new(48, front)), Ok(()));
+    same(&rt, RelPtr::emplace(0, Place::new(48, front)), Ok(()));
     RelPtr::emplace_invalid(Place::new(52, back));
-    assert_eq!(rt; bytes, [0xD0, 0xFF, 0xFF, 0xFF, 1, 0, 0, 0]);
-    assert_eq!(rt; num32(&bytes, 0), 0xFFFF_FFD0);
-    assert_eq!(rt; target(&bytes, 0), Some(-48));
-    assert_eq!(rt; target(&bytes, 4), None);
+    same(&rt, bytes, [0xD0, 0xFF, 0xFF, 0xFF, 1, 0, 0, 0]);
+    same(&rt, num32(&bytes, 0), 0xFFFF_FFD0);
+    same(&rt, target(&bytes, 0), Some(-48));
+    same(&rt, target(&bytes, 4), None);
 }
 
 #[test]
@@ -31,12 +32,13 @@ fn numbers_are_written_in_place(rt: HostRuntime) {
     ArchivedI32::write(-4, &mut bytes[4..8]);
     ArchivedI64::write(-5, &mut bytes[8..16]);
     ArchivedU16::write(0x0102, &mut bytes[16..18]);
-    assert_eq!(rt;
+    same(
+        &rt,
         bytes,
         [
             1, 254, 253, 255, 252, 255, 255, 255, 251, 255, 255, 255, 255, 255, 255, 255, 2, 1, 9,
-            9
-        ]
+            9,
+        ],
     );
 }
 
@@ -46,24 +48,24 @@ fn characters_and_nothing_are_written_in_place(rt: HostRuntime) {
     ArchivedChar::write('\u{10FFFF}', &mut bytes[0..4]);
     ArchivedNonZeroU32::write(NonZeroU32::MIN, &mut bytes[4..8]);
     <()>::write((), &mut bytes[8..8]);
-    assert_eq!(rt; bytes, [0xFF, 0xFF, 0x10, 0, 1, 0, 0, 0, 9]);
+    same(&rt, bytes, [0xFF, 0xFF, 0x10, 0, 1, 0, 0, 0, 9]);
 }
 
 #[test]
 fn values_are_checked_by_themselves(rt: HostRuntime) {
     let bytes = [0, 1, 2, 255, 255, 255, 255, 255];
     let window = Window { lo: 0, hi: 0 };
-    assert_eq!(rt; bool::check(&bytes, 0, window), Ok(window));
-    assert_eq!(rt; bool::check(&bytes, 1, window), Ok(window));
+    same(&rt, bool::check(&bytes, 0, window), Ok(window));
+    same(&rt, bool::check(&bytes, 1, window), Ok(window));
     let bad = Refusal::BadEntry { pos: 2 };
-    assert_eq!(rt; bool::check(&bytes, 2, window), Err(bad));
-    assert_eq!(rt; i8::check(&bytes, 2, window), Ok(window));
+    same(&rt, bool::check(&bytes, 2, window), Err(bad));
+    same(&rt, i8::check(&bytes, 2, window), Ok(window));
     let odd = Refusal::Misaligned { pos: 1 };
-    assert_eq!(rt; ArchivedU16::check(&bytes, 1, window), Err(odd));
-    assert_eq!(rt; ArchivedI64::check(&bytes, 0, window), Ok(window));
+    same(&rt, ArchivedU16::check(&bytes, 1, window), Err(odd));
+    same(&rt, ArchivedI64::check(&bytes, 0, window), Ok(window));
     let past = Refusal::OutOfRange { pos: 6 };
-    assert_eq!(rt; ArchivedI32::check(&bytes, 6, window), Err(past));
-    assert_eq!(rt; ArchivedI16::check(&bytes, 6, window), Ok(window));
+    same(&rt, ArchivedI32::check(&bytes, 6, window), Err(past));
+    same(&rt, ArchivedI16::check(&bytes, 6, window), Ok(window));
 }
 
 #[test]
@@ -80,15 +82,15 @@ fn the_empty_type_and_edges_of_others_are_checked(rt: HostRuntime) {
     ];
     for (code, answer) in codes {
         let bytes = u32::to_le_bytes(code);
-        assert_eq!(rt; ArchivedChar::check(&bytes, 0, window), answer);
+        same(&rt, ArchivedChar::check(&bytes, 0, window), answer);
     }
     for (number, answer) in [(0, bad), (1, Ok(window)), (u32::MAX, Ok(window))] {
         let bytes = u32::to_le_bytes(number);
-        assert_eq!(rt; ArchivedNonZeroU32::check(&bytes, 0, window), answer);
+        same(&rt, ArchivedNonZeroU32::check(&bytes, 0, window), answer);
     }
     let past = Err(Refusal::OutOfRange { pos: 2 });
-    assert_eq!(rt; <()>::check(&[7], 1, window), Ok(window));
-    assert_eq!(rt; <()>::check(&[7], 2, window), past);
+    same(&rt, <()>::check(&[7], 1, window), Ok(window));
+    same(&rt, <()>::check(&[7], 2, window), past);
 }
 
 #[test]
@@ -122,7 +124,7 @@ fn refusals_are_told(rt: HostRuntime) -> Result<(), Fail> {
     ];
     for (refusal, text) in rows {
         let told = format!(in rt.alloc(); "{refusal}")?;
-        assert_eq!(rt; told.as_str(), text);
+        same(&rt, told.as_str(), text);
     }
     Ok(())
 }

@@ -1,6 +1,7 @@
 //! Views of values by themselves: what is read, compared, hashed and shown.
 
 use crate::opening::changed;
+use crate::same::same;
 use rkyv_btree::view::{Shows, View};
 use rkyv_btree_base::numbers::{ArchivedU16, ArchivedU32, ArchivedU64};
 use rkyv_btree_base::refusal::Refusal;
@@ -14,20 +15,35 @@ use std::test::Fail;
 #[test]
 fn numbers_are_read(rt: HostRuntime) {
     let buf = [1u8, 2, 3, 4, 5, 6, 7, 248];
-    assert_eq!(rt; View::<u8>::at(&buf, 1).to_native(), 2);
-    assert_eq!(rt; View::<i8>::at(&buf, 7).to_native(), -8);
+    same(&rt, View::<u8>::at(&buf, 1).to_native(), 2);
+    same(&rt, View::<i8>::at(&buf, 7).to_native(), -8);
     assert!(rt; View::<bool>::at(&buf, 0).to_native());
-    assert_eq!(rt; View::<ArchivedU16>::at(&buf, 2).to_native(), 0x0403);
-    assert_eq!(rt; View::<ArchivedI16>::at(&buf, 6).to_native(), -2041);
-    assert_eq!(rt; View::<ArchivedU32>::at(&buf, 0).to_native(), 0x04030201);
-    assert_eq!(rt; View::<ArchivedI32>::at(&buf, 4).to_native(), -133_757_435);
-    assert_eq!(rt;
-        View::<ArchivedU64>::at(&buf, 0).to_native(),
-        0xF807_0605_0403_0201
+}
+
+#[test]
+fn longer_numbers_are_read(rt: HostRuntime) {
+    let buf = [1u8, 2, 3, 4, 5, 6, 7, 248];
+    same(&rt, View::<ArchivedU16>::at(&buf, 2).to_native(), 0x0403);
+    same(&rt, View::<ArchivedI16>::at(&buf, 6).to_native(), -2041);
+    same(
+        &rt,
+        View::<ArchivedU32>::at(&buf, 0).to_native(),
+        0x04030201,
     );
-    assert_eq!(rt;
+    same(
+        &rt,
+        View::<ArchivedI32>::at(&buf, 4).to_native(),
+        -133_757_435,
+    );
+    same(
+        &rt,
+        View::<ArchivedU64>::at(&buf, 0).to_native(),
+        0xF807_0605_0403_0201,
+    );
+    same(
+        &rt,
         View::<ArchivedI64>::at(&buf, 0).to_native(),
-        -574_483_808_854_539_775
+        -574_483_808_854_539_775,
     );
 }
 
@@ -66,7 +82,7 @@ fn numbers_compare_as_native_ones(rt: HostRuntime) {
     assert!(rt; View::<ArchivedU16>::at(&buf, 2) > View::<ArchivedU16>::at(&buf, 4));
     assert!(rt; View::<bool>::at(&buf, 5) < View::<bool>::at(&buf, 4));
     assert!(rt; View::<u8>::at(&buf, 1) == View::<u8>::at(&buf, 4));
-    assert_eq!(rt; hashed(&View::<i8>::at(&buf, 0)), hashed(&-1i8));
+    same(&rt, hashed(&View::<i8>::at(&buf, 0)), hashed(&-1i8));
 }
 
 #[test]
@@ -80,18 +96,18 @@ fn texts_compare_as_native_ones(rt: HostRuntime) -> Result<(), Fail> {
     for (i, left) in texts.iter().enumerate() {
         let at = 8 + 8 * i as u32;
         let a = View::<ArchivedText>::check(&buf, at).expect(&rt, "a text");
-        assert_eq!(rt; a.as_str(), *left);
-        assert_eq!(rt; hashed(&a), hashed(left));
+        same(&rt, a.as_str(), *left);
+        same(&rt, hashed(&a), hashed(left));
         for (j, right) in texts.iter().enumerate() {
             let at = 8 + 8 * j as u32;
             let b = View::<ArchivedText>::check(&buf, at).expect(&rt, "a text");
-            assert_eq!(rt; a == b, *left == *right);
-            assert_eq!(rt; a.cmp(&b), (*left).cmp(*right));
+            same(&rt, a == b, *left == *right);
+            same(&rt, a.cmp(&b), (*left).cmp(*right));
         }
     }
     let first = View::<ArchivedText>::check(&buf, 8).expect(&rt, "a text");
     let told = format!(in rt.alloc(); "{first:?}")?;
-    assert_eq!(rt; told.as_str(), "\"b\"");
+    same(&rt, told.as_str(), "\"b\"");
     Ok(())
 }
 
@@ -100,12 +116,16 @@ fn characters_and_texts_that_a_stranger_wrote_are_viewed(rt: HostRuntime) {
     for code in [0, 0xD7FF, 0xD800, 0xDFFF, 0xE000, 0x10_FFFF, 0x11_0000] {
         let bytes = u32::to_le_bytes(code);
         let read = View::<ArchivedChar>::check(&bytes, 0).ok();
-        assert_eq!(rt; read.map(|view| view.to_native()), char::from_u32(code));
+        same(&rt, read.map(|view| view.to_native()), char::from_u32(code));
     }
     for number in [0, 1, u32::MAX] {
         let bytes = u32::to_le_bytes(number);
         let read = View::<ArchivedNonZeroU32>::check(&bytes, 0).ok();
-        assert_eq!(rt; read.map(|view| view.to_native()), NonZeroU32::new(number));
+        same(
+            &rt,
+            read.map(|view| view.to_native()),
+            NonZeroU32::new(number),
+        );
     }
     assert!(rt; View::<()>::check(&[], 0).is_ok());
     assert!(rt; View::<()>::check(&[], 1).is_err());
@@ -122,6 +142,6 @@ fn characters_and_texts_that_a_stranger_wrote_are_viewed(rt: HostRuntime) {
         let pointer = [(8, offset), (9, 255), (10, 255), (11, 255), (12, len)];
         let bytes = changed(&rt, &text, &pointer);
         let read = View::<ArchivedText>::check(&bytes, 8).ok();
-        assert_eq!(rt; read.map(|view| view.as_str()), want);
+        same(&rt, read.map(|view| view.as_str()), want);
     }
 }

@@ -5,6 +5,7 @@ ghost use Rattle.rkyv_btree_base.specs.Read.{read_map};
 ghost use Rattle.rkyv_btree.specs.Visit.{first_given};
 
 use crate::convert::archive;
+use crate::same::same;
 use rkyv_btree::map::{access, access_valid};
 use rkyv_btree::view::View;
 use rkyv_btree_base::layout;
@@ -35,8 +36,8 @@ fn an_empty_map_has_no_entries(rt: HostRuntime) {
     let buf = [0u8, 0, 0, 0, 0, 0, 0, 0];
     let map = access_valid::<ArchivedU32, ArchivedU32, 1>(&buf, 0);
     assert!(rt; map.is_empty());
-    assert_eq!(rt; map.len(), 0);
-    assert_eq!(rt; key_of(map, 0), None);
+    same(&rt, map.len(), 0);
+    same(&rt, key_of(map, 0), None);
 }
 
 // A root with no child before its entry from 0 to 5, and behind it an inner node with the entry from 2 to 20 between a
@@ -52,14 +53,18 @@ fn a_tree_is_walked(rt: HostRuntime) {
     ];
     let map = access_valid::<ArchivedU32, ArchivedU32, 1>(&buf, 72);
     assert!(rt; !map.is_empty());
-    assert_eq!(rt; map.len(), 3);
-    assert_eq!(rt; key_of(map, 5), Some(0));
-    assert_eq!(rt; key_of(map, 10), Some(1));
-    assert_eq!(rt; key_of(map, 20), Some(2));
-    assert_eq!(rt; key_of(map, 2), None);
-    assert_eq!(rt; map.iter().len(), 3);
-    assert_eq!(rt; map.iter().count(), 3);
-    assert_eq!(rt; map.iter().position(|(k, _)| k.to_native() == 2), Some(2));
+    same(&rt, map.len(), 3);
+    same(&rt, key_of(map, 5), Some(0));
+    same(&rt, key_of(map, 10), Some(1));
+    same(&rt, key_of(map, 20), Some(2));
+    same(&rt, key_of(map, 2), None);
+    same(&rt, map.iter().len(), 3);
+    same(&rt, map.iter().count(), 3);
+    same(
+        &rt,
+        map.iter().position(|(k, _)| k.to_native() == 2),
+        Some(2),
+    );
 }
 
 #[test]
@@ -80,7 +85,7 @@ fn written_texts_are_read(rt: HostRuntime) -> Result<(), Fail> {
     let mut read = opened.expect(&rt, "a map").iter();
     for text in texts {
         let met = read.next().map(|(k, v)| (k.as_str(), v.to_native()));
-        assert_eq!(rt; met, Some((text, text.len() as u64)));
+        same(&rt, met, Some((text, text.len() as u64)));
     }
     assert!(rt; read.next().is_none());
     Ok(())

@@ -1,5 +1,6 @@
 //! Whole archives of std's maps and sets, byte for byte, there and back, and what is refused of them.
 
+use crate::same::same;
 use rkyv_btree::prelude::*;
 use std::alloc::{AllocError, Global};
 use std::collections::{BTreeMap, BTreeSet};
@@ -43,7 +44,7 @@ where
 {
     assert!(rt; T::Archived::fits());
     let archive = to_archive(alloc, value)?;
-    assert_eq!(rt; archive.as_slice(), bytes);
+    same(rt, archive.as_slice(), bytes);
     let again: T = from_archive(alloc, bytes)?;
     assert!(rt; again == *value);
     Ok(())
@@ -96,8 +97,8 @@ fn maps_of_each_size_are_walked(rt: HostRuntime) -> Result<(), Fail> {
     for count in 0..=200 {
         let archive = to_archive(rt.alloc(), &squares(rt.alloc(), count)?)?;
         let map = open::<Numbers>(archive.as_slice())?;
-        assert_eq!(rt; map.len(), count);
-        assert_eq!(rt; map.iter().count(), count as usize);
+        same(&rt, map.len(), count);
+        same(&rt, map.iter().count(), count as usize);
     }
     Ok(())
 }
@@ -120,9 +121,9 @@ fn maps_to_pairs_come_back(rt: HostRuntime) -> Result<(), Fail> {
 fn empty_bytes_are_refused_at_0(rt: HostRuntime) {
     assert!(rt; Numbers::fits());
     let refusal = Refusal::OutOfRange { pos: 0 };
-    assert_eq!(rt; open::<Numbers>(&[]).err(), Some(refusal));
+    same(&rt, open::<Numbers>(&[]).err(), Some(refusal));
     let made: Result<BTreeMap<u32, u32>, ArchiveFault> = from_archive(rt.alloc(), &[]);
-    assert_eq!(rt; made.err(), Some(ArchiveFault::Refused(refusal)));
+    same(&rt, made.err(), Some(ArchiveFault::Refused(refusal)));
 }
 
 // The map takes five growths, and its archive nine more. `rt try --test --fail-alloc 6` to `14` refuses each of these, some
@@ -134,7 +135,7 @@ fn an_archive_is_made_or_a_growth_is_refused(rt: HostRuntime) {
         return;
     };
     match to_archive(rt.alloc(), &map) {
-        Ok(archive) => assert_eq!(rt; archive.as_slice(), FOUR_TEXTS.as_slice()),
+        Ok(archive) => same(&rt, archive.as_slice(), FOUR_TEXTS.as_slice()),
         Err(fault) => assert!(rt; matches!(fault, Fault::Memory(_) | Fault::Writer(_))),
     }
 }
@@ -145,10 +146,10 @@ fn a_map_is_made_or_a_growth_is_refused(rt: HostRuntime) {
     assert!(rt; ArchivedBTreeMap::<ArchivedText, ArchivedI32, 5>::fits());
     let made: Result<BTreeMap<String, i32>, ArchiveFault> = from_archive(rt.alloc(), &FOUR_TEXTS);
     match made {
-        Ok(map) => assert_eq!(rt; (map.len(), map.get("baz").copied()), (4, Some(40))),
+        Ok(map) => same(&rt, (map.len(), map.get("baz").copied()), (4, Some(40))),
         Err(fault) => {
             let refused = DeserializeFault::Memory(AllocError);
-            assert_eq!(rt; fault, ArchiveFault::NotMade(refused));
+            same(&rt, fault, ArchiveFault::NotMade(refused));
         }
     }
 }

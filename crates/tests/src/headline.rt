@@ -1,5 +1,6 @@
 //! The headline's functions, at maps of numbers.
-use crate::headline::{
+use crate::same::same;
+use examples::headline::{
     ArchiveAt, archived, archived_set, archived_std_map, archived_std_set, looked_up,
     looked_up_in_set, sealed, visited, walk_of_set, walks, within, within_set,
 };
@@ -28,13 +29,13 @@ fn archive(rt: &impl Abort, alloc: Global, claim: usize) -> Result<ArchiveAt, Fa
 #[test]
 fn items_are_archived(rt: HostRuntime) -> Result<(), Fail> {
     let made = archive(&rt, rt.alloc(), 5)?;
-    assert_eq!(rt; made.pos as usize + 8, made.bytes.len());
-    assert_eq!(rt; made.bytes.len(), 2 * 24 + 32 + 8);
+    same(&rt, made.pos as usize + 8, made.bytes.len());
+    same(&rt, made.bytes.len(), 2 * 24 + 32 + 8);
     let told = match archive(&rt, rt.alloc(), 4) {
         Err(Fault::Length(IteratorLengthMismatch { expected, actual })) => (expected, actual),
         _ => (0, 0),
     };
-    assert_eq!(rt; told, (4, 5));
+    same(&rt, told, (4, 5));
     Ok(())
 }
 
@@ -49,14 +50,14 @@ fn archive_of_keys(rt: &impl Abort, alloc: Global) -> Result<ArchiveAt, Fault<Al
 #[test]
 fn keys_are_archived(rt: HostRuntime) -> Result<(), Fail> {
     let made = archive_of_keys(&rt, rt.alloc())?;
-    assert_eq!(rt; made.bytes.len(), 2 * 16 + 24 + 8);
+    same(&rt, made.bytes.len(), 2 * 16 + 24 + 8);
     assert!(rt; layout::fits::<ArchivedU32, (), 2>());
     let (len, given) = walk_of_set::<ArchivedU32, 2>(&made.bytes, made.pos)?;
-    assert_eq!(rt; len, 5);
+    same(&rt, len, 5);
     let mut left = KEYS.as_slice();
     for key in given {
         let (wanted, rest) = left.split_first().ok_or("too many keys")?;
-        assert_eq!(rt; key.to_native(), *wanted);
+        same(&rt, key.to_native(), *wanted);
         left = rest;
     }
     assert!(rt; left.is_empty());
@@ -71,7 +72,7 @@ fn keys_are_looked_up_in_a_set(rt: HostRuntime) -> Result<(), Fail> {
         let bytes = key.to_le_bytes();
         let key = View::<ArchivedU32>::check(&bytes, 0)?;
         let found = looked_up_in_set::<ArchivedU32, 2>(&made.bytes, made.pos, key)?;
-        assert_eq!(rt; found.is_some(), is_there);
+        same(&rt, found.is_some(), is_there);
     }
     Ok(())
 }
@@ -86,7 +87,7 @@ fn ranges_of_a_set_are_within_their_bounds(rt: HostRuntime) -> Result<(), Fail> 
     let mut left = &KEYS[1..4];
     for key in within_set::<ArchivedU32, 2>(&made.bytes, made.pos, low, high)? {
         let (wanted, rest) = left.split_first().ok_or("too many keys")?;
-        assert_eq!(rt; key.to_native(), *wanted);
+        same(&rt, key.to_native(), *wanted);
         left = rest;
     }
     assert!(rt; left.is_empty());
@@ -103,10 +104,10 @@ fn std_types_are_archived(rt: HostRuntime) -> Result<(), Fail> {
     set.insert(7)?;
     let made = archived_std_map(alloc, &map)?;
     let given = walks::<ArchivedU32, ArchivedU32, 5>(&made.bytes, made.pos)?;
-    assert_eq!(rt; given.len, 5);
+    same(&rt, given.len, 5);
     let made = archived_std_set(alloc, &set)?;
     let opened = rkyv_btree::set::access::<ArchivedU32, 5>(made.bytes.as_slice(), made.pos)?;
-    assert_eq!(rt; opened.len(), 1);
+    same(&rt, opened.len(), 1);
     Ok(())
 }
 
@@ -115,17 +116,18 @@ fn walks_give_the_entries(rt: HostRuntime) -> Result<(), Fail> {
     let made = archive(&rt, rt.alloc(), 5)?;
     assert!(rt; layout::fits::<ArchivedU32, ArchivedU32, 2>());
     let given = walks::<ArchivedU32, ArchivedU32, 2>(&made.bytes, made.pos)?;
-    assert_eq!(rt; given.len, 5);
+    same(&rt, given.len, 5);
     let mut left = ENTRIES.as_slice();
     let mut keys = given.keys;
     let mut values = given.values;
     for (key, value) in given.entries {
         let (wanted, rest) = left.split_first().ok_or("too many entries")?;
-        assert_eq!(rt; (key.to_native(), value.to_native()), *wanted);
-        assert_eq!(rt; keys.next().map(|key| key.to_native()), Some(wanted.0));
-        assert_eq!(rt;
+        same(&rt, (key.to_native(), value.to_native()), *wanted);
+        same(&rt, keys.next().map(|key| key.to_native()), Some(wanted.0));
+        same(
+            &rt,
             values.next().map(|value| value.to_native()),
-            Some(wanted.1)
+            Some(wanted.1),
         );
         left = rest;
     }
@@ -145,7 +147,7 @@ fn a_visit_ends_at_a_break(rt: HostRuntime) -> Result<(), Fail> {
             ControlFlow::Continue(())
         }
     });
-    assert_eq!(rt; broken, Some(50));
+    same(&rt, broken, Some(50));
     Ok(())
 }
 
@@ -163,7 +165,7 @@ fn keys_are_looked_up(rt: HostRuntime) -> Result<(), Fail> {
         let bytes = key.to_le_bytes();
         let key = View::<ArchivedU32>::check(&bytes, 0)?;
         let found = looked_up::<ArchivedU32, ArchivedU32, 2>(&made.bytes, made.pos, key)?;
-        assert_eq!(rt; found.map(|entry| entry.1.to_native()), wanted);
+        same(&rt, found.map(|entry| entry.1.to_native()), wanted);
     }
     Ok(())
 }
@@ -178,7 +180,7 @@ fn ranges_are_within_their_bounds(rt: HostRuntime) -> Result<(), Fail> {
     let mut left = &ENTRIES[1..4];
     for (key, value) in within::<ArchivedU32, ArchivedU32, 2>(&made.bytes, made.pos, low, high)? {
         let (wanted, rest) = left.split_first().ok_or("too many entries")?;
-        assert_eq!(rt; (key.to_native(), value.to_native()), *wanted);
+        same(&rt, (key.to_native(), value.to_native()), *wanted);
         left = rest;
     }
     assert!(rt; left.is_empty());
@@ -197,13 +199,13 @@ fn one_value_is_sealed(rt: HostRuntime) -> Result<(), Fail> {
         .iter()
         .zip(made.bytes.iter())
         .filter(|pair| pair.0 != pair.1);
-    assert_eq!(rt; changed.count(), 1);
+    same(&rt, changed.count(), 1);
     let found = looked_up::<ArchivedU32, ArchivedU32, 2>(&made.bytes, made.pos, key)?;
-    assert_eq!(rt; found.map(|entry| entry.1.to_native()), Some(51));
+    same(&rt, found.map(|entry| entry.1.to_native()), Some(51));
     let absent = 6u32.to_le_bytes();
     let absent = View::<ArchivedU32>::check(&absent, 0)?;
     assert!(rt; !sealed::<ArchivedU32, ArchivedU32, 2>(&mut made.bytes, made.pos, absent, 61)?);
     let misplaced = sealed::<ArchivedU32, ArchivedU32, 2>(&mut made.bytes, 1, key, 0);
-    assert_eq!(rt; misplaced, Err(Refusal::Misaligned { pos: 1 }));
+    same(&rt, misplaced, Err(Refusal::Misaligned { pos: 1 }));
     Ok(())
 }

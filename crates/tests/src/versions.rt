@@ -1,5 +1,6 @@
 //! Maps of versions, as a program archives and reads them, and a map that is built in a heap of one's own.
-use crate::version::{ArchivedVersion, NO_VERSION, Version};
+use crate::same::same;
+use examples::version::{ArchivedVersion, NO_VERSION, Version};
 use linked_list_allocator::LocalHeap;
 use rkyv_btree::base::fault::{EntryFault, Fault, IteratorLengthMismatch};
 use rkyv_btree::base::layout;
@@ -54,9 +55,9 @@ fn versions_are_archived_and_read(rt: HostRuntime) -> Result<(), Fail> {
     let mut left = releases.as_slice();
     for (key, year) in map.iter() {
         let (first, rest) = left.split_first().ok_or("too many entries")?;
-        assert_eq!(rt; (key.to_native(), year.to_native()), *first);
+        same(&rt, (key.to_native(), year.to_native()), *first);
         let made = ArchivedVersion::deserialize(rt.alloc(), &key)?;
-        assert_eq!(rt; made, first.0);
+        same(&rt, made, first.0);
         left = rest;
     }
     assert!(rt; left.is_empty());
@@ -86,16 +87,16 @@ fn versions_are_looked_up(rt: HostRuntime) -> Result<(), Fail> {
     ];
     for (wanted, year) in rows {
         let found = map.get_by(wanted).map(|value| value.to_native());
-        assert_eq!(rt; found, year);
+        same(&rt, found, year);
         let numbers = (wanted.major, wanted.minor, wanted.patch);
         let found = map.get_by(numbers).map(|value| value.to_native());
-        assert_eq!(rt; found, year);
-        assert_eq!(rt; map.contains_by(wanted), year.is_some());
+        same(&rt, found, year);
+        same(&rt, map.contains_by(wanted), year.is_some());
     }
     assert!(rt; map.contains_by((1, 0, 0)));
     for (key, value) in map.iter() {
         let found = map.get(key).map(|value| value.to_native());
-        assert_eq!(rt; found, Some(value.to_native()));
+        same(&rt, found, Some(value.to_native()));
     }
     Ok(())
 }
@@ -109,8 +110,8 @@ fn a_version_takes_three_bytes(rt: HostRuntime) -> Result<(), Fail> {
         0, 1, 2, 3, 0, 0, 0, 0, 9, 0, 0, 0, 0, 0, 0, 0, 1, 0, 0, 0, // leaf
         0xEC, 0xFF, 0xFF, 0xFF, 1, 0, 0, 0, // map
     ];
-    assert_eq!(rt; pos, 20);
-    assert_eq!(rt; writer.bytes(), want.as_slice());
+    same(&rt, pos, 20);
+    same(&rt, writer.bytes(), want.as_slice());
     Ok(())
 }
 
@@ -123,8 +124,8 @@ fn no_version_is_refused_when_it_is_archived(rt: HostRuntime) -> Result<(), Fail
         Err(Fault::Entry(EntryFault { code })) => Some(code),
         _ => None,
     };
-    assert_eq!(rt; code, Some(NO_VERSION));
-    assert_eq!(rt; writer.bytes(), [0xAA].as_slice());
+    same(&rt, code, Some(NO_VERSION));
+    same(&rt, writer.bytes(), [0xAA].as_slice());
     Ok(())
 }
 
@@ -138,7 +139,7 @@ fn no_version_is_refused_when_it_is_read(rt: HostRuntime) {
     assert!(rt; access::<ArchivedVersion, ArchivedU32, 2>(&bytes, 20).is_ok());
     bytes[3] = 0;
     let opened = access::<ArchivedVersion, ArchivedU32, 2>(&bytes, 20);
-    assert_eq!(rt; opened.err(), Some(Refusal::BadEntry { pos: 1 }));
+    same(&rt, opened.err(), Some(Refusal::BadEntry { pos: 1 }));
 }
 
 /// What a hasher answers that was fed a value.
@@ -159,11 +160,11 @@ fn views_of_versions_compare_as_versions(rt: HostRuntime) {
     ];
     for (i, left) in versions.iter().enumerate() {
         let a = View::<ArchivedVersion>::check(&bytes, 3 * i as u32).expect(&rt, "a version");
-        assert_eq!(rt; hashed(&a), hashed(left));
+        same(&rt, hashed(&a), hashed(left));
         for (j, right) in versions.iter().enumerate() {
             let b = View::<ArchivedVersion>::check(&bytes, 3 * j as u32).expect(&rt, "a version");
-            assert_eq!(rt; a == b, left == right);
-            assert_eq!(rt; a.cmp(&b), left.cmp(right));
+            same(&rt, a == b, left == right);
+            same(&rt, a.cmp(&b), left.cmp(right));
         }
     }
 }
@@ -192,8 +193,8 @@ fn a_refused_growth_writes_nothing(rt: HostRuntime) -> Result<(), Fail> {
             Err(Fault::Memory(_)) => {}
             Err(fault) => return Err(fault.into()),
         }
-        assert_eq!(rt; writer.bytes(), [0xAA].as_slice());
-        assert_eq!(rt; heap.used(), 0);
+        same(&rt, writer.bytes(), [0xAA].as_slice());
+        same(&rt, heap.used(), 0);
     }
     Err("no heap had room".into())
 }
@@ -217,6 +218,6 @@ fn a_claim_of_nothing_takes_no_memory(rt: HostRuntime) -> Result<(), Fail> {
         actual: 2,
     };
     assert!(rt; matches!(refused, Err(Fault::Length(mismatch)) if mismatch == wrong));
-    assert_eq!(rt; writer.bytes(), [0xAA].as_slice());
+    same(&rt, writer.bytes(), [0xAA].as_slice());
     Ok(())
 }

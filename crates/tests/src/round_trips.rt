@@ -1,6 +1,7 @@
 //! Whole archives of std's maps, at types of the kit.
-use crate::round_trip::there_and_back;
-use crate::whole::{is_equal_to_itself, looked_up, owned_entries};
+use crate::same::same;
+use examples::round_trip::there_and_back;
+use examples::whole::{is_equal_to_itself, looked_up, owned_entries};
 use rkyv_btree::prelude::*;
 use std::alloc::Global;
 use std::collections::BTreeMap;
@@ -48,7 +49,7 @@ where
     let archive = to_archive(alloc, map)?;
     let view = open::<ArchivedBTreeMap<K, V, 5>>(archive.as_slice())?;
     let owned = owned_entries::<K, V>(alloc, view)?;
-    assert_eq!(rt; owned.len(), map.len());
+    same(rt, owned.len(), map.len());
     for (made, entry) in owned.iter().zip(map.iter()) {
         assert!(rt; made.0 == *entry.0);
         assert!(rt; made.1 == *entry.1);
