@@ -6,8 +6,8 @@ use Rattle.rkyv_btree_shape.specs.Plan.{planned_alone}
 use Rattle.rkyv_btree_image.specs.Entries.{now_of}
 use Rattle.rkyv_btree_image.specs.Written.{ChildWritten, ChildStopped}
 use Rattle.rkyv_btree_format.proofs.Sizes.{room_of}
-use Rattle.rkyv_btree_shape.proofs.Alone.{alone_inner, waiting}
-use Rattle.rkyv_btree_shape.proofs.Rows.{turn-inside, turn-rest, drop-push, take-push, length-pushed, child_small, less_on_last, some_item}
+use Rattle.rkyv_btree_shape.proofs.Alone.{alone_inner}
+use Rattle.rkyv_btree_shape.proofs.Rows.{turn-inside, turn-rest, drop-push, take-push, length-pushed, less_on_last, some_item}
 use Rattle.rkyv_btree_image.proofs.RowsWritten.{row-more, row-stopped, last-stopped, inner-stopped, inner-written, turn-so-far, last-so-far, so-far-as}
 use Rattle.rkyv_btree_archive.proofs.tree.+write_child.Goals as goal
 
@@ -39,6 +39,35 @@ taken_low taken rest full is = omega arith
 -- behind the last child that waits nothing more is to come
 none_to_come : (n left first E : ℕ) → n + left ≡ first + E → left ≤ 0 → n ≡ first + E
 none_to_come n left first E is none = omega arith
+
+-- the part of a turn, and what a turn leaves
+part_size : (start m : ℕ) → (start + m) - start ≡ m
+part_size start m = omega arith
+
+part_end : (start m : ℕ) → start + m ≡ start + ((start + m) - start)
+part_end start m = omega arith
+
+some_above : (m n : ℕ) → m < n → 0 < n
+some_above m n low = omega arith
+
+first_low : (n left first E : ℕ) → n + left ≡ first + E → left ≤ E → first ≤ n
+first_low n left first E is low = omega arith
+
+fewer_left : (left E : ℕ) → left ≤ E → left - 1 ≤ E
+fewer_left left E low = omega arith
+
+still_passed : (E start left m : ℕ) → 0 < left → E ≤ start + left → E ≤ start + m + 1 + (left - 1)
+still_passed E start left m some before = omega arith
+
+one_waits : (m n left first E : ℕ) → 0 < left → m ≡ n + 1 → n + left ≡ first + E → m + (left - 1) ≡ first + E
+one_waits m n left first E some more is = omega arith
+
+still_room : (a b c d : ℕ) → a ≤ b → b ≤ c → c ≤ d → a ≤ d
+still_room a b c d first next last = omega arith
+
+-- a level's entries find room, one after another, behind those of the levels above
+room_for_one : (E top below room0 room1 room2 start first n m left : ℕ) → first ≡ start → start + top ≤ room0 → below + E ≤ top → n + left ≡ first + E → 0 < left → room0 ≤ room1 → room1 ≤ room2 → m ≡ n → m < room2
+room_for_one E top below room0 room1 room2 start first n m left begin room lower is some more0 more1 same = omega arith
 
 pub overflow_add-on_last : goal.overflow_add-on_last
 overflow_add-on_last g t c = record { fits = one_more_fits (length c.args.items.now) c.requires.count }
@@ -129,13 +158,13 @@ returns-in_err-child-clause-err g t c =
     let took = c.taken_by_child-taken.result in
     let end = start + (base - 1 + took) in
     let size = end - start in
-    let few : took ≤ c.loop-left.on_last = omega (arith, c.taken_by_child-taken.ensures) in
+    let few = taken_low took c.loop-left.on_last (g.row.E * base) c.taken_by_child-taken.ensures in
     let inside : end < length items = turn-inside (length items) start c.loop-left.left base c.loop-left.on_last took before.rest c.loop-left-test.true c.in-Some.ensures.positive few in
-    let size_is : size ≡ (base - 1) + took = omega arith in
+    let size_is = part_size start (base - 1 + took) in
     let p = err_from_is_err_and c.from_residual.result c.from_residual.ensures.1 in
     rw (p.1, p.2) (subst (λ z. ChildStopped nodes g.KU.Archive.archival g.VU.Archive.archival s z c.in_err-child.field-0.0 (g.W.Writer.state c.write_child.new.writer)) (sym inner_is)
     (row-stopped nodes g.KU.Archive.archival g.VU.Archive.archival
-    (turn-so-far nodes g.KU.Archive.archival g.VU.Archive.archival own (planned_alone E) base (E * base) c.loop-left.on_last c.loop-left.left start size took end items (some_item items (omega arith)) c.loop-left-test.true c.taken_by_child-taken.ensures size_is (omega arith) inside before.row)
+    (turn-so-far nodes g.KU.Archive.archival g.VU.Archive.archival own (planned_alone E) base (E * base) c.loop-left.on_last c.loop-left.left start size took end items (some_item items (some_above end (length items) inside)) c.loop-left-test.true c.taken_by_child-taken.ensures size_is (part_end start (base - 1 + took)) inside before.row)
     c.in_err-child.ensures.err))
 
 pub loop-left-preserved : goal.loop-left-preserved
@@ -150,32 +179,32 @@ loop-left-preserved g t c =
     let took = c.taken_by_child-taken.result in
     let end = start + (base - 1 + took) in
     let size = end - start in
-    let few : took ≤ c.loop-left.on_last = omega (arith, c.taken_by_child-taken.ensures) in
+    let few = taken_low took c.loop-left.on_last (g.row.E * base) c.taken_by_child-taken.ensures in
     let inside : end < length items = turn-inside (length items) start c.loop-left.left base c.loop-left.on_last took before.rest c.loop-left-test.true c.in-Some.ensures.positive few in
-    let size_is : size ≡ (base - 1) + took = omega arith in
-    let waiting_low : c.len-first.result ≤ length c.loop-left.waiting.items = omega (arith, before.waiting_count, before.left) in
-    let children_low : c.len-first_child.result ≤ length c.loop-left.children.items = omega (arith, before.child_count, before.left) in
+    let size_is = part_size start (base - 1 + took) in
+    let waiting_low = first_low (length c.loop-left.waiting.items) c.loop-left.left c.len-first.result E before.waiting_count before.left in
+    let children_low = first_low (length c.loop-left.children.items) c.loop-left.left c.len-first_child.result E before.child_count before.left in
     let waiting_more : length c.wait.new.waiting.items ≡ length c.loop-left.waiting.items + 1 = length-pushed c.loop-left.waiting.items _ _ _ c.in_ok-child.ensures.kept.0 c.wait.ensures.waiting in
     let children_more : length c.wait.new.children.items ≡ length c.loop-left.children.items + 1 = length-pushed c.loop-left.children.items _ _ _ c.in_ok-child.ensures.kept.1 c.wait.ensures.children in
     record {
       row =
           let more = row-more nodes g.KU.Archive.archival g.VU.Archive.archival c.in_ok-child.child
-          (turn-so-far nodes g.KU.Archive.archival g.VU.Archive.archival own (planned_alone E) base (E * base) c.loop-left.on_last c.loop-left.left start size took end items _ c.loop-left-test.true c.taken_by_child-taken.ensures size_is (omega arith) inside before.row)
+          (turn-so-far nodes g.KU.Archive.archival g.VU.Archive.archival own (planned_alone E) base (E * base) c.loop-left.on_last c.loop-left.left start size took end items _ c.loop-left-test.true c.taken_by_child-taken.ensures size_is (part_end start (base - 1 + took)) inside before.row)
           c.in_ok-child.ensures.ok in
           so-far-as nodes g.KU.Archive.archival g.VU.Archive.archival more
           (ap (map own) (drop-push c.len-first.result c.loop-left.waiting.items c.wait.new.waiting.items _ _ waiting_low c.in_ok-child.ensures.kept.0 c.wait.ensures.waiting) ∙ map_push own _ _ ∙ ap (λ x. map own (drop c.len-first.result c.loop-left.waiting.items) ++ own x ∷ []) c.index-items-end.is)
           (drop-push c.len-first_child.result c.loop-left.children.items c.wait.new.children.items _ _ children_low c.in_ok-child.ensures.kept.1 c.wait.ensures.children);
-      left = omega arith;
+      left = fewer_left c.loop-left.left E before.left;
       rest = turn-rest (length items) start c.loop-left.left base c.loop-left.on_last took before.rest c.loop-left-test.true c.in-Some.ensures.positive few;
       on_last = less_on_last c.loop-left.left c.loop-left.on_last (E * base) took c.taken_by_child-taken.ensures c.loop-left-test.true before.on_last;
-      passed = omega (arith, before.passed, c.loop-left-test.true);
+      passed = still_passed E start c.loop-left.left (base - 1 + took) c.loop-left-test.true before.passed;
       waiting = take-push c.len-first.result c.loop-left.waiting.items c.wait.new.waiting.items _ _ _ waiting_low c.in_ok-child.ensures.kept.0 c.wait.ensures.waiting before.waiting;
       children = take-push c.len-first_child.result c.loop-left.children.items c.wait.new.children.items _ _ _ children_low c.in_ok-child.ensures.kept.1 c.wait.ensures.children before.children;
-      waiting_count = omega (arith, waiting_more, before.waiting_count);
-      child_count = omega (arith, children_more, before.child_count);
+      waiting_count = one_waits _ _ c.loop-left.left c.len-first.result E c.loop-left-test.true waiting_more before.waiting_count;
+      child_count = one_waits _ _ c.loop-left.left c.len-first_child.result E c.loop-left-test.true children_more before.child_count;
       free = c.in_ok-child.ensures.free;
-      waiting_room = omega (arith, before.waiting_room, c.in_ok-child.ensures.room.0, c.wait.ensures.room.0);
-      child_room = omega (arith, before.child_room, c.in_ok-child.ensures.room.1, c.wait.ensures.room.1);
+      waiting_room = still_room _ _ _ _ before.waiting_room c.in_ok-child.ensures.room.0 c.wait.ensures.room.0;
+      child_room = still_room _ _ _ _ before.child_room c.in_ok-child.ensures.room.1 c.wait.ensures.room.1;
     }
 
 pub returns-in_err-last-clause-err : goal.returns-in_err-last-clause-err
@@ -234,18 +263,9 @@ returns-clause-ok g t c =
 
 pub wait-requires-clause-child_room : goal.wait-requires-clause-child_room
 wait-requires-clause-child_room g t c =
-    let E = g.row.E in
-    let items = c.args.items.now in
-    let room = room_of _ _ g.row.E g.met.K.Portable.laws g.met.V.Portable.laws c.requires.fitting in
-    let base = c.in-Some.base in
-    let start = c.loop-left.start in
     let before = c.loop-left.invariant in
-    let took = c.taken_by_child-taken.result in
-    let end = start + (base - 1 + took) in
-    let size = end - start in
-    let size_is : size ≡ (base - 1) + took = omega arith in
-    let wait = waiting E (length items) size base room.some c.in-Some.ensures.more c.in-Some.ensures.value (subst (λ n. n < base * (E + 1)) (sym size_is) (child_small base E c.loop-left.on_last took c.taken_by_child-taken.ensures c.in-Some.ensures.positive)) in
-    omega (arith, wait, before.child_count, before.left, before.child_room, c.requires.child_room, ap length c.in_ok-child.ensures.kept.1, c.in_ok-child.ensures.room.1, c.loop-left-test.true)
+    room_for_one g.row.E _ _ _ _ _ _ _ _ _ c.loop-left.left c.len-first_child.ensures c.requires.child_room c.child_is_lower.ensures.room before.child_count c.loop-left-test.true before.child_room c.in_ok-child.ensures.room.1
+    (c.write_child.new.children.ok.0 ∙ ap length c.in_ok-child.ensures.kept.1)
 
 pub bounds-items-end : goal.bounds-items-end
 bounds-items-end g t c =
@@ -255,21 +275,12 @@ bounds-items-end g t c =
     let before = c.loop-left.invariant in
     let took = c.taken_by_child-taken.result in
     let end = start + (base - 1 + took) in
-    let few : took ≤ c.loop-left.on_last = omega (arith, c.taken_by_child-taken.ensures) in
+    let few = taken_low took c.loop-left.on_last (g.row.E * base) c.taken_by_child-taken.ensures in
     let inside : end < length items = turn-inside (length items) start c.loop-left.left base c.loop-left.on_last took before.rest c.loop-left-test.true c.in-Some.ensures.positive few in
     inside
 
 pub wait-requires-clause-waiting_room : goal.wait-requires-clause-waiting_room
 wait-requires-clause-waiting_room g t c =
-    let E = g.row.E in
-    let items = c.args.items.now in
-    let room = room_of _ _ g.row.E g.met.K.Portable.laws g.met.V.Portable.laws c.requires.fitting in
-    let base = c.in-Some.base in
-    let start = c.loop-left.start in
     let before = c.loop-left.invariant in
-    let took = c.taken_by_child-taken.result in
-    let end = start + (base - 1 + took) in
-    let size = end - start in
-    let size_is : size ≡ (base - 1) + took = omega arith in
-    let wait = waiting E (length items) size base room.some c.in-Some.ensures.more c.in-Some.ensures.value (subst (λ n. n < base * (E + 1)) (sym size_is) (child_small base E c.loop-left.on_last took c.taken_by_child-taken.ensures c.in-Some.ensures.positive)) in
-    omega (arith, wait, before.waiting_count, before.left, before.waiting_room, c.requires.waiting_room, ap length c.in_ok-child.ensures.kept.0, c.in_ok-child.ensures.room.0, c.loop-left-test.true)
+    room_for_one g.row.E _ _ _ _ _ _ _ _ _ c.loop-left.left c.len-first.ensures c.requires.waiting_room c.child_is_lower.ensures.room before.waiting_count c.loop-left-test.true before.waiting_room c.in_ok-child.ensures.room.0
+    (c.write_child.new.waiting.ok.0 ∙ ap length c.in_ok-child.ensures.kept.0)
