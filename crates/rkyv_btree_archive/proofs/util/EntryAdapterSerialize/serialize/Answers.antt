@@ -1,4 +1,5 @@
 use Rattle.std.proofs.lemmas.Result.{err_from_is_err_and}
+use Rattle.rkyv_btree_image.proofs.Kept.{then_begins, went_begins, went_on}
 use Rattle.rkyv_btree_archive.specs.EntryArchival.{both_now}
 use Rattle.rkyv_btree_archive.proofs.Both.{key_refused, value_refused, both_serialised}
 use Rattle.rkyv_btree_archive.proofs.util.EntryAdapterSerialize.serialize.Goals as goal
@@ -19,3 +20,18 @@ returns-clause-ok g c =
     let key = c.in_ok-key.ensures.ok in
     let value = c.in_ok-value.ensures.ok in
     both_serialised g.row.W-Error.Denot g.KU.Archive.archival g.VU.Archive.archival both_now c.args.self.now (g.W.Writer.state c.args.writer.now) key.0 (g.W.Writer.state c.serialize.new.writer) c.in_ok-key.key key.1 key.2 value.0 (g.W.Writer.state c.serialize-2.new.writer) c.in_ok-value.value value.1 value.2 key.3 value.3 key.4 value.4
+
+pub returns-in_err-key-clause-kept : goal.returns-in_err-key-clause-kept
+returns-in_err-key-clause-kept g c =
+    let p = err_from_is_err_and c.from_residual.result c.from_residual.ensures.1 in
+    rw p.1 c.in_err-key.ensures.kept
+
+pub returns-in_err-value-clause-kept : goal.returns-in_err-value-clause-kept
+returns-in_err-value-clause-kept g c =
+    let s = g.W.Writer.state c.args.writer.now in
+    let m = g.W.Writer.state c.serialize.new.writer in
+    let p = err_from_is_err_and c.from_residual-in_err-value.result c.from_residual-in_err-value.ensures.1 in
+    rw p.1 (then_begins s m (g.W.Writer.state c.serialize-2.new.writer) (went_begins s m c.in_ok-key.ensures.went) c.in_err-value.ensures.kept)
+
+pub returns-clause-went : goal.returns-clause-went
+returns-clause-went g c = went_on (g.W.Writer.state c.args.writer.now) (g.W.Writer.state c.serialize.new.writer) (g.W.Writer.state c.serialize-2.new.writer) c.in_ok-key.ensures.went c.in_ok-value.ensures.went
