@@ -1,13 +1,16 @@
-use Rattle.std.proofs.Common.{◌≡◌, [], length, map, inl, refl, arith}
+use Rattle.std.proofs.Common.{◌≡◌, ◌+◌, ◌*◌, ◌<◌, ◌≤◌, [], length, map, inl, refl, sym, subst, arith}
 use Rattle.std.proofs.lemmas.List.{length-map}
 use Rattle.std.proofs.lemmas.Result.{err_from_is_err_and}
 use Rattle.rkyv_btree_format.specs.Layout.{layout_of}
 use Rattle.rkyv_btree_image.specs.Serialising.{meaning_of, Built}
 use Rattle.rkyv_btree_image.specs.Entries.{now_of}
 use Rattle.rkyv_btree_shape.specs.Plan.{planned_alone}
+use Rattle.rkyv_btree_shape.specs.Logarithm.{ilog}
+use Rattle.rkyv_btree_image.proofs.Kept.{same_begins}
 use Rattle.rkyv_btree_image.proofs.Untold.{unasked}
 use Rattle.rkyv_btree_image.proofs.TreesKept.{stops_begin, child_begins, child_went}
 use Rattle.rkyv_btree_image.proofs.Building.{short_of, drained, miscounted_of, refused_of, meaning_is, spelled_of}
+use Rattle.rkyv_btree_archive.specs.mirror.Scratch.{IsReserved}
 use Rattle.rkyv_btree_archive.proofs.build.build_some.Goals as goal
 
 pub returns-in_default-clause-err : goal.returns-in_default-clause-err
@@ -85,3 +88,38 @@ pub returns-in_err-root-clause-memory : goal.returns-in_err-root-clause-memory
 returns-in_err-root-clause-memory g c =
     let p = err_from_is_err_and c.from_residual.result c.from_residual.ensures.1 in
     λ keys values memory. unasked g.row.W-Error.Denot (layout_of g.K.Portable.kind g.V.Portable.kind g.row.E) g.KU.Archive.archival g.VU.Archive.archival (g.W.Writer.state c.args.writer.now) (planned_alone g.row.E (map now_of c.take_items.new.items.items)) (g.W.Writer.state c.write_items.new.writer) c.in_err-root.field-0.0 (cc (p.1, p.2, memory)) keys values c.in_err-root.ensures.err
+
+pub returns-in_default-clause-memory : goal.returns-in_default-clause-memory
+returns-in_default-clause-memory g c = λ keys values memory. refl
+
+pub returns-in_default-clause-kept : goal.returns-in_default-clause-kept
+returns-in_default-clause-kept g c = same_begins (g.W.Writer.state c.args.writer.now) (g.W.Writer.state c.args.writer.now) refl
+
+pub returns-then-not-take_items-clause-memory : goal.returns-then-not-take_items-clause-memory
+returns-then-not-take_items-clause-memory g c = λ keys values memory. refl
+
+pub returns-then-not-take_items-clause-kept : goal.returns-then-not-take_items-clause-kept
+returns-then-not-take_items-clause-kept g c = same_begins (g.W.Writer.state c.args.writer.now) (g.W.Writer.state c.args.writer.now) refl
+
+pub write_items-requires-clause-count : goal.write_items-requires-clause-count
+write_items-requires-clause-count g c = subst (λ n. n ≤ 4294967295) (sym (c.take_items.ensures.len c.if-not-take_items.false)) c.requires.small
+
+pub write_items-requires-clause-free : goal.write_items-requires-clause-free
+write_items-requires-clause-free g c = c.in-Ok.ensures.free
+
+pub write_items-requires-clause-waiting : goal.write_items-requires-clause-waiting
+write_items-requires-clause-waiting g c =
+    subst (λ n. IsReserved c.in-Ok.lists.waiting (g.row.E * ilog (g.row.E + 1) n)) (sym (c.take_items.ensures.len c.if-not-take_items.false)) c.in-Ok.ensures.waiting
+
+pub write_items-requires-clause-children : goal.write_items-requires-clause-children
+write_items-requires-clause-children g c =
+    subst (λ n. IsReserved c.in-Ok.lists.children (g.row.E * ilog (g.row.E + 1) n)) (sym (c.take_items.ensures.len c.if-not-take_items.false)) c.in-Ok.ensures.children
+
+pub returns-in-Err-clause-memory : goal.returns-in-Err-clause-memory
+returns-in-Err-clause-memory g c = λ keys values memory. cc memory
+
+pub returns-clause-memory : goal.returns-clause-memory
+returns-clause-memory g c = λ keys values memory. cc memory
+
+pub returns-clause-end : goal.returns-clause-end
+returns-clause-end g c = c.in_ok-root.ensures.last (subst (λ n. 0 < n) (sym (c.take_items.ensures.len c.if-not-take_items.false)) c.requires.some)
