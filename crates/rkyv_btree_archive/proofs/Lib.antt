@@ -1,3 +1,4 @@
 mod TextsWritten
 pub mod Both
+pub mod Numbers
 pub mod OneArchival

@@ -3,6 +3,7 @@ use Rattle.std.proofs.lemmas.List.{length_push}
 use Rattle.std.proofs.lemmas.Result.{err_from_is_err_and}
 use Rattle.rkyv_btree_image.specs.Entries.{IsSerialised, now_of}
 use Rattle.rkyv_btree_image.proofs.InOrder.{next_serialised, value_unserialised, all_serialised}
+use Rattle.rkyv_btree_archive.proofs.Numbers.{no_less}
 use Rattle.rkyv_btree_archive.proofs.entries.serialize_entries.Goals as goal
 
 pub returns-in_err-value-clause-err : goal.returns-in_err-value-clause-err
@@ -29,8 +30,8 @@ loop-entry-preserved g c =
           c.loop-entry-test.true c.entry-item.is c.push_back.ensures.items c.push_back-in-loop-entry.ensures.items before.so_far key value;
       keys = ap length c.push_back.ensures.items ∙ (length_push c.loop-entry.keys.items c.in_ok-key.key ∙ ap (λ n. n + 1) before.keys);
       values = ap length c.push_back-in-loop-entry.ensures.items ∙ (length_push c.loop-entry.values.items c.in_ok-value.value ∙ ap (λ n. n + 1) before.values);
-      key_room = omega (arith, before.key_room, c.push_back.ensures.capacity);
-      value_room = omega (arith, before.value_room, c.push_back-in-loop-entry.ensures.capacity);
+      key_room = no_less _ _ _ before.key_room c.push_back.ensures.capacity;
+      value_room = no_less _ _ _ before.value_room c.push_back-in-loop-entry.ensures.capacity;
     }
 
 pub returns-clause-ok : goal.returns-clause-ok

@@ -5,6 +5,7 @@ use Rattle.std.proofs.lemmas.List.{append-nil, nil_from_length}
 use Rattle.std.proofs.lemmas.Result.{err_from_is_err_and}
 use Rattle.rkyv_btree_writer.specs.Archiving.{IsUnresolved}
 use Rattle.rkyv_btree_image.proofs.Resolving.{none_so_far, next_resolved, next_unresolved, all_resolved, joined_more}
+use Rattle.rkyv_btree_archive.proofs.Numbers.{no_less, as_much}
 use Rattle.rkyv_btree_archive.proofs.node.append_halves.Goals as goal
 
 -- what is there, behind so many parts of one size, has room for one more
@@ -21,9 +22,6 @@ all_parts i n a b size none few is =
     let same : i ≡ n = omega arith in
     subst (λ m. b ≡ a + m * size) same is
 
-as_much : (a b c : ℕ) → a ≤ b → c ≡ b → a ≤ c
-as_much a b c low same = omega arith
-
 next_part : (start at i size step : ℕ) → at ≡ start + i * size → step ≡ size → at + step ≡ start + (i + 1) * size
 next_part start at i size step is same = omega arith
 
@@ -32,9 +30,6 @@ longer a b c i size is more = omega arith
 
 none_left_of : (k i n : ℕ) → k + i ≡ n → n ≤ i → k ≡ 0
 none_left_of k i n is none = omega arith
-
-no_less : (a b c : ℕ) → a ≤ b → b ≤ c → a ≤ c
-no_less a b c first next = omega arith
 
 pub loop-entry-init : goal.loop-entry-init
 loop-entry-init g c = record {

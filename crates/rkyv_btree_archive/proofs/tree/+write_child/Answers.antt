@@ -9,6 +9,7 @@ use Rattle.rkyv_btree_format.proofs.Sizes.{room_of}
 use Rattle.rkyv_btree_shape.proofs.Alone.{alone_inner}
 use Rattle.rkyv_btree_shape.proofs.Rows.{turn-inside, turn-rest, drop-push, take-push, length-pushed, less_on_last, some_item}
 use Rattle.rkyv_btree_image.proofs.RowsWritten.{row-more, row-stopped, last-stopped, inner-stopped, inner-written, turn-so-far, last-so-far, so-far-as}
+use Rattle.rkyv_btree_archive.proofs.Numbers.{no_less_twice}
 use Rattle.rkyv_btree_archive.proofs.tree.+write_child.Goals as goal
 
 -- what a number of entries bounds is a number of the machine
@@ -61,9 +62,6 @@ still_passed E start left m some before = omega arith
 
 one_waits : (m n left first E : ℕ) → 0 < left → m ≡ n + 1 → n + left ≡ first + E → m + (left - 1) ≡ first + E
 one_waits m n left first E some more is = omega arith
-
-still_room : (a b c d : ℕ) → a ≤ b → b ≤ c → c ≤ d → a ≤ d
-still_room a b c d first next last = omega arith
 
 -- a level's entries find room, one after another, behind those of the levels above
 room_for_one : (E top below room0 room1 room2 start first n m left : ℕ) → first ≡ start → start + top ≤ room0 → below + E ≤ top → n + left ≡ first + E → 0 < left → room0 ≤ room1 → room1 ≤ room2 → m ≡ n → m < room2
@@ -203,8 +201,8 @@ loop-left-preserved g t c =
       waiting_count = one_waits _ _ c.loop-left.left c.len-first.result E c.loop-left-test.true waiting_more before.waiting_count;
       child_count = one_waits _ _ c.loop-left.left c.len-first_child.result E c.loop-left-test.true children_more before.child_count;
       free = c.in_ok-child.ensures.free;
-      waiting_room = still_room _ _ _ _ before.waiting_room c.in_ok-child.ensures.room.0 c.wait.ensures.room.0;
-      child_room = still_room _ _ _ _ before.child_room c.in_ok-child.ensures.room.1 c.wait.ensures.room.1;
+      waiting_room = no_less_twice _ _ _ _ before.waiting_room c.in_ok-child.ensures.room.0 c.wait.ensures.room.0;
+      child_room = no_less_twice _ _ _ _ before.child_room c.in_ok-child.ensures.room.1 c.wait.ensures.room.1;
     }
 
 pub returns-in_err-last-clause-err : goal.returns-in_err-last-clause-err

@@ -1,7 +1,7 @@
-use Rattle.std.proofs.Common.{rules, ℕ, ◌∙◌, ap, arith, subst, sym}
+use Rattle.std.proofs.Common.{ℕ, ◌<◌, ◌∙◌, length, ap, subst, sym}
 use Rattle.std.proofs.lemmas.Result.{err_from_is_err_and}
-use Prim.{search}
 use Rattle.rkyv_btree_image.proofs.Whole.{unpadded_unplaced, unput_unplaced}
+use Rattle.rkyv_btree_image.specs.Whole.{IsUnplaced}
 use Rattle.rkyv_btree_portable.specs.Rounding.{round_up}
 use Rattle.rkyv_btree_writer.specs.Padding.{padding}
 use Rattle.rkyv_btree_writer.specs.Writing.{Stopped, position}
@@ -13,7 +13,7 @@ returns-in_err-pos-clause-err g c =
     let t = g.W.Writer.state c.pad.new.writer in
     let fault = c.in_err-pos.field-0.0 in
     let p = err_from_is_err_and c.from_residual.result c.from_residual.ensures.1 in
-    rw (p.1, p.2) (unpadded_unplaced g.T.Archive.archival g.T.Archived.Portable.kind c.args.value.now c.args.resolver s (omega (arith, c.align.ensures.value, c.align.ensures.positive)) fault t (subst (λ (n : ℕ). Stopped s (padding n (position s)) fault t) c.align.ensures.value c.in_err-pos.ensures.err))
+    rw (p.1, p.2) (unpadded_unplaced g.T.Archive.archival g.T.Archived.Portable.kind c.args.value.now c.args.resolver s (subst (λ n. 0 < n) c.align.ensures.value c.align.ensures.positive) fault t (subst (λ (n : ℕ). Stopped s (padding n (position s)) fault t) c.align.ensures.value c.in_err-pos.ensures.err))
 
 pub returns-in_err-put-clause-err : goal.returns-in_err-put-clause-err
 returns-in_err-put-clause-err g c =
@@ -22,4 +22,23 @@ returns-in_err-put-clause-err g c =
     let t = g.W.Writer.state c.put.new.writer in
     let place = sym c.in_ok-pos.ensures.end ∙ (c.in_ok-pos.ensures.pos ∙ ap (round_up (position s)) c.align.ensures.value) in
     let p = err_from_is_err_and c.from_residual-in_err-put.result c.from_residual-in_err-put.ensures.1 in
-    rw (p.1, p.2) (unput_unplaced g.T.Archive.archival g.T.Archived.Portable.kind c.args.value.now c.args.resolver s _ (search rules) m t place c.in_err-put.field-0.0 c.in_err-put.ensures.err)
+    rw (p.1, p.2) (unput_unplaced g.T.Archive.archival g.T.Archived.Portable.kind c.args.value.now c.args.resolver s _ (ap length c.as_slice.ensures.value ∙ c.in_ok-own.ensures.size) m t place c.in_err-put.field-0.0 c.in_err-put.ensures.err)
+
+pub size-size-requires : goal.size-size-requires
+size-size-requires g c = c.requires
+
+pub own_bytes-requires-clause-fitting : goal.own_bytes-requires-clause-fitting
+own_bytes-requires-clause-fitting g c = c.requires
+
+pub pad-requires-clause-positive : goal.pad-requires-clause-positive
+pad-requires-clause-positive g c = c.align.ensures.positive
+
+pub pad-requires-clause-small : goal.pad-requires-clause-small
+pad-requires-clause-small g c = c.align.ensures.small
+
+pub returns-in_err-own-clause-err : goal.returns-in_err-own-clause-err
+returns-in_err-own-clause-err g c =
+    let place = c.in_ok-pos.ensures.pos ∙ ap (round_up (position (g.W.Writer.state c.args.writer.now))) c.align.ensures.value in
+    let fault = c.in_err-own.field-0.0 in
+    let p = err_from_is_err_and c.from_residual-in_err-own.result c.from_residual-in_err-own.ensures.1 in
+    rw (p.1, p.2) (subst (λ (n : ℕ). IsUnplaced g.T.Archive.archival g.T.Archived.Portable.kind c.args.value.now c.args.resolver n fault) place c.in_err-own.ensures.err)

@@ -5,7 +5,7 @@ use Rattle.rkyv_btree_format.proofs.Sizes.{room_of}
 use Rattle.rkyv_btree_format.specs.Layout.{layout_of}
 use Rattle.rkyv_btree_portable.specs.Rounding.{round_up}
 use Rattle.rkyv_btree_image.specs.Entries.{now_of}
-use Rattle.rkyv_btree_image.specs.Written.{IsPadded, in_padding, past_end}
+use Rattle.rkyv_btree_image.specs.Written.{IsPadded, in_entries, in_padding, past_end}
 use Rattle.rkyv_btree_writer.specs.Writing.{Wrote, Stopped, position, last_end}
 use Rattle.rkyv_btree_archive.proofs.writes.begin_node.Goals as goal
 use Rattle.rkyv_btree_archive.proofs.writes.begin_node.Goals.{then-pos-gt-LAST_END-via-then-pos-gt-LAST_END, then-pos-gt-LAST_END-via-else-pos-gt-LAST_END+then-from-pos}
@@ -40,3 +40,65 @@ serialize_entries-requires-clause-fits_key g c = (room_of _ _ g.row.E g.met.K.Po
 
 pub serialize_entries-requires-clause-fits_value : goal.serialize_entries-requires-clause-fits_value
 serialize_entries-requires-clause-fits_value g c = (room_of _ _ g.row.E g.met.K.Portable.laws g.met.V.Portable.laws c.requires.fitting).value
+
+pub serialize_entries-requires-clause-no_keys : goal.serialize_entries-requires-clause-no_keys
+serialize_entries-requires-clause-no_keys g c = c.requires.no_keys
+
+pub serialize_entries-requires-clause-no_values : goal.serialize_entries-requires-clause-no_values
+serialize_entries-requires-clause-no_values g c = c.requires.no_values
+
+pub serialize_entries-requires-clause-key_room : goal.serialize_entries-requires-clause-key_room
+serialize_entries-requires-clause-key_room g c = c.requires.key_room
+
+pub serialize_entries-requires-clause-value_room : goal.serialize_entries-requires-clause-value_room
+serialize_entries-requires-clause-value_room g c = c.requires.value_room
+
+pub returns-in_err-serialize_entries-clause-key_room : goal.returns-in_err-serialize_entries-clause-key_room
+returns-in_err-serialize_entries-clause-key_room g c = c.serialize_entries.ensures.key_room
+
+pub returns-in_err-serialize_entries-clause-value_room : goal.returns-in_err-serialize_entries-clause-value_room
+returns-in_err-serialize_entries-clause-value_room g c = c.serialize_entries.ensures.value_room
+
+pub returns-in_err-pos-clause-key_room : goal.returns-in_err-pos-clause-key_room
+returns-in_err-pos-clause-key_room g c = c.serialize_entries.ensures.key_room
+
+pub returns-in_err-pos-clause-value_room : goal.returns-in_err-pos-clause-value_room
+returns-in_err-pos-clause-value_room g c = c.serialize_entries.ensures.value_room
+
+pub returns-then-pos-gt-LAST_END-clause-key_room : goal.returns-then-pos-gt-LAST_END-clause-key_room
+returns-then-pos-gt-LAST_END-clause-key_room g c = c.serialize_entries.ensures.key_room
+
+pub returns-then-pos-gt-LAST_END-clause-value_room : goal.returns-then-pos-gt-LAST_END-clause-value_room
+returns-then-pos-gt-LAST_END-clause-value_room g c = c.serialize_entries.ensures.value_room
+
+pub returns-clause-key_room : goal.returns-clause-key_room
+returns-clause-key_room g c = c.serialize_entries.ensures.key_room
+
+pub returns-clause-value_room : goal.returns-clause-value_room
+returns-clause-value_room g c = c.serialize_entries.ensures.value_room
+
+pub returns-clause-keys : goal.returns-clause-keys
+returns-clause-keys g c = c.in_ok-serialize_entries.ensures.keys
+
+pub returns-clause-values : goal.returns-clause-values
+returns-clause-values g c = c.in_ok-serialize_entries.ensures.values
+
+pub pad-requires-clause-positive : goal.pad-requires-clause-positive
+pad-requires-clause-positive g c = c.align.ensures.positive
+
+pub pad-requires-clause-small : goal.pad-requires-clause-small
+pad-requires-clause-small g c = c.align.ensures.small
+
+pub returns-in_err-serialize_entries-clause-err : goal.returns-in_err-serialize_entries-clause-err
+returns-in_err-serialize_entries-clause-err g c =
+    let p = err_from_is_err_and c.from_residual.result c.from_residual.ensures.1 in
+    rw (p.1, p.2) (λ image. in_entries c.in_err-serialize_entries.ensures.err)
+
+pub returns-clause-ok : goal.returns-clause-ok
+returns-clause-ok g c =
+    let mid = g.W.Writer.state c.serialize_entries.new.writer in record {
+      mid = mid;
+      serialised = c.in_ok-serialize_entries.ensures.ok;
+      padded = subst (λ (n : ℕ). Wrote mid (padding n (position mid)) (g.W.Writer.state c.pad.new.writer)) c.align.ensures.value c.in_ok-pos.ensures.ok;
+      place = sym c.in_ok-pos.ensures.end ∙ (c.in_ok-pos.ensures.pos ∙ ap (round_up (position mid)) c.align.ensures.value);
+    }
