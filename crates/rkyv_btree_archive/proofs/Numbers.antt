@@ -1,5 +1,5 @@
 -- Orders of numbers, from one step to the next.
-use Rattle.std.proofs.Common.{◌≡◌, ℕ, ◌≤◌, arith}
+use Rattle.std.proofs.Common.{◌≡◌, ℕ, ◌+◌, ◌≤◌, arith}
 
 pub no_less : (a b c : ℕ) → a ≤ b → b ≤ c → a ≤ c
 no_less a b c first second = omega arith
@@ -9,3 +9,13 @@ no_less_twice a b c d first second third = omega arith
 
 pub as_much : (a b c : ℕ) → a ≤ b → c ≡ b → a ≤ c
 as_much a b c low same = omega arith
+
+pub no_more : (m n : ℕ) → m ≡ n → m ≤ n
+no_more m n same = omega arith
+
+pub ends_before : (at size whole full : ℕ) → size ≤ whole → at + whole ≤ full → at + size ≤ full
+ends_before at size whole full low inside = omega arith
+
+-- behind nothing
+pub room_alone : (len count room : ℕ) → len ≡ 0 → count ≤ room → len + count ≤ room
+room_alone len count room none low = omega arith

@@ -4,32 +4,27 @@ use Rattle.rkyv_btree_format.specs.Layout.{layout_of, len_at}
 use Rattle.rkyv_btree_format.proofs.Sizes.{room_of}
 use Rattle.rkyv_btree_image.proofs.Nodes.{filled_inner}
 use Rattle.rkyv_btree_image.proofs.PointerRuns.{reach_end, stray_front}
+use Rattle.rkyv_btree_archive.proofs.Numbers.{no_less, no_less_twice, no_more, ends_before}
 use Rattle.rkyv_btree_archive.proofs.node.fill_inner.Goals as goal
 
 pub fill_entries-requires-clause-count : goal.fill_entries-requires-clause-count
-fill_entries-requires-clause-count g c =
-    let room = room_of _ _ g.row.E g.met.K.Portable.laws g.met.V.Portable.laws c.requires.fitting in
-    omega (arith, c.requires.entries)
+fill_entries-requires-clause-count g c = no_more _ _ c.requires.entries
 
 pub fill_entries-requires-clause-keys : goal.fill_entries-requires-clause-keys
-fill_entries-requires-clause-keys g c =
-    let room = room_of _ _ g.row.E g.met.K.Portable.laws g.met.V.Portable.laws c.requires.fitting in
-    omega (arith, c.requires.entries, c.requires.keys)
+fill_entries-requires-clause-keys g c = c.requires.keys ∙ sym c.requires.entries
 
 pub fill_entries-requires-clause-values : goal.fill_entries-requires-clause-values
-fill_entries-requires-clause-values g c =
-    let room = room_of _ _ g.row.E g.met.K.Portable.laws g.met.V.Portable.laws c.requires.fitting in
-    omega (arith, c.requires.entries, c.requires.values)
+fill_entries-requires-clause-values g c = c.requires.values ∙ sym c.requires.entries
 
 pub fill_entries-requires-clause-end : goal.fill_entries-requires-clause-end
 fill_entries-requires-clause-end g c =
     let room = room_of _ _ g.row.E g.met.K.Portable.laws g.met.V.Portable.laws c.requires.fitting in
-    omega (arith, room.parts)
+    ends_before c.args.pos _ _ 4294967295 room.parts.leaf c.requires.end
 
 pub fill_entries-requires-clause-room : goal.fill_entries-requires-clause-room
 fill_entries-requires-clause-room g c =
     let room = room_of _ _ g.row.E g.met.K.Portable.laws g.met.V.Portable.laws c.requires.fitting in
-    omega (arith, room.parts)
+    no_less _ _ _ room.parts.leaf c.requires.room
 
 pub fill_up-requires-clause-shorter : goal.fill_up-requires-clause-shorter
 fill_up-requires-clause-shorter g c =
@@ -89,3 +84,42 @@ returns-clause-ok g c =
           (omega arith) (omega arith) (omega (arith, c.requires.children)) c.inner_size.ensures.value,
       sym (reach_end (c.args.pos + len_at nodes) (c.args.pos + c.lesser_at-2.result) (c.args.pos + c.greater_at.result) c.args.children.now c.args.last c.append_pointers.result c.append_pointer.result c.append_pointers.ensures.reach c.append_pointer.ensures.reach (omega arith) (omega (arith, c.requires.children))) ∙ (ap (λ z. z && c.append_pointer.result) c.if-not-append_pointers.false ∙ c.if-not-append_pointer.false),
     )
+
+pub returns-in_err-fill_entries-clause-key_room : goal.returns-in_err-fill_entries-clause-key_room
+returns-in_err-fill_entries-clause-key_room g c = c.fill_entries.ensures.key_room
+
+pub returns-in_err-fill_entries-clause-value_room : goal.returns-in_err-fill_entries-clause-value_room
+returns-in_err-fill_entries-clause-value_room g c = c.fill_entries.ensures.value_room
+
+pub returns-then-not-append_pointers-clause-key_room : goal.returns-then-not-append_pointers-clause-key_room
+returns-then-not-append_pointers-clause-key_room g c = c.fill_entries.ensures.key_room
+
+pub returns-then-not-append_pointers-clause-value_room : goal.returns-then-not-append_pointers-clause-value_room
+returns-then-not-append_pointers-clause-value_room g c = c.fill_entries.ensures.value_room
+
+pub returns-then-not-append_pointer-clause-key_room : goal.returns-then-not-append_pointer-clause-key_room
+returns-then-not-append_pointer-clause-key_room g c = c.fill_entries.ensures.key_room
+
+pub returns-then-not-append_pointer-clause-value_room : goal.returns-then-not-append_pointer-clause-value_room
+returns-then-not-append_pointer-clause-value_room g c = c.fill_entries.ensures.value_room
+
+pub returns-clause-key_room : goal.returns-clause-key_room
+returns-clause-key_room g c = c.fill_entries.ensures.key_room
+
+pub returns-clause-value_room : goal.returns-clause-value_room
+returns-clause-value_room g c = c.fill_entries.ensures.value_room
+
+pub returns-in_err-fill_entries-clause-capacity : goal.returns-in_err-fill_entries-clause-capacity
+returns-in_err-fill_entries-clause-capacity g c = c.fill_entries.ensures.capacity
+
+pub returns-then-not-append_pointers-clause-capacity : goal.returns-then-not-append_pointers-clause-capacity
+returns-then-not-append_pointers-clause-capacity g c = no_less_twice _ _ _ _ c.fill_entries.ensures.capacity c.fill_up.ensures.capacity c.append_pointers.ensures.capacity
+
+pub returns-then-not-append_pointer-clause-capacity : goal.returns-then-not-append_pointer-clause-capacity
+returns-then-not-append_pointer-clause-capacity g c = no_less _ _ _ (no_less_twice _ _ _ _ c.fill_entries.ensures.capacity c.fill_up.ensures.capacity c.append_pointers.ensures.capacity) c.append_pointer.ensures.capacity
+
+pub returns-clause-capacity : goal.returns-clause-capacity
+returns-clause-capacity g c = no_less_twice _ _ _ _ (no_less_twice _ _ _ _ c.fill_entries.ensures.capacity c.fill_up.ensures.capacity c.append_pointers.ensures.capacity) c.append_pointer.ensures.capacity c.fill_up-2.ensures.capacity
+
+pub returns-clause-spent : goal.returns-clause-spent
+returns-clause-spent g c = c.in_ok-fill_entries.ensures.spent

@@ -35,3 +35,21 @@ returns-clause-ok g c =
     let leaf_is = alone_leaf g.row.E (now_of {M = g.row.KU.Denot} {N = g.row.VU.Denot}) items room.some (not-empty (length items) c.if-is_empty.ensures) c.requires.few in
     subst (λ z. ChildWritten (layout_of g.K.Portable.kind g.V.Portable.kind g.row.E) g.KU.Archive.archival g.VU.Archive.archival (g.W.Writer.state c.args.writer.now) z (Some c.in_ok-root.root) (g.W.Writer.state c.write_leaf.new.writer)) (sym leaf_is)
     (c.in_ok-root.root, c.in_ok-root.ensures.ok, refl)
+
+pub write_leaf-requires-clause-fitting : goal.write_leaf-requires-clause-fitting
+write_leaf-requires-clause-fitting g c = c.requires.fitting
+
+pub write_leaf-requires-clause-count : goal.write_leaf-requires-clause-count
+write_leaf-requires-clause-count g c = c.requires.few
+
+pub write_leaf-requires-clause-free : goal.write_leaf-requires-clause-free
+write_leaf-requires-clause-free g c = c.requires.free
+
+pub returns-clause-last : goal.returns-clause-last
+returns-clause-last g c = λ some. c.in_ok-root.ensures.last
+
+pub returns-clause-free : goal.returns-clause-free
+returns-clause-free g c = c.in_ok-root.ensures.free
+
+pub returns-then-is_empty-clause-free : goal.returns-then-is_empty-clause-free
+returns-then-is_empty-clause-free g c = c.requires.free
