@@ -3,7 +3,7 @@ use Rattle.std.proofs.lemmas.List.{length_push}
 use Rattle.std.proofs.lemmas.Result.{err_from_is_err_and}
 use Rattle.rkyv_btree_image.specs.Entries.{IsSerialised, now_of}
 use Rattle.rkyv_btree_image.proofs.InOrder.{next_serialised, value_unserialised, all_serialised}
-use Rattle.rkyv_btree_archive.proofs.Numbers.{no_less}
+use Rattle.rkyv_btree_archive.proofs.Numbers.{no_less, as_many}
 use Rattle.rkyv_btree_archive.proofs.entries.serialize_entries.Goals as goal
 
 pub returns-in_err-value-clause-err : goal.returns-in_err-value-clause-err
@@ -37,3 +37,27 @@ loop-entry-preserved g c =
 pub returns-clause-ok : goal.returns-clause-ok
 returns-clause-ok g c =
     all_serialised g.row.W-Error.Denot g.KU.Archive.archival g.VU.Archive.archival (g.W.Writer.state c.args.writer.now) (map now_of c.args.entries.now) c.args.entries.now c.loop-entry.entry-index (g.W.Writer.state c.loop-entry.writer) c.loop-entry.keys.items c.loop-entry.values.items (omega arith) c.loop-entry.invariant.so_far
+
+pub returns-in_err-key-clause-key_room : goal.returns-in_err-key-clause-key_room
+returns-in_err-key-clause-key_room g c = c.loop-entry.invariant.key_room
+
+pub returns-in_err-key-clause-value_room : goal.returns-in_err-key-clause-value_room
+returns-in_err-key-clause-value_room g c = c.loop-entry.invariant.value_room
+
+pub returns-in_err-value-clause-key_room : goal.returns-in_err-value-clause-key_room
+returns-in_err-value-clause-key_room g c = c.loop-entry.invariant.key_room
+
+pub returns-in_err-value-clause-value_room : goal.returns-in_err-value-clause-value_room
+returns-in_err-value-clause-value_room g c = c.loop-entry.invariant.value_room
+
+pub returns-clause-key_room : goal.returns-clause-key_room
+returns-clause-key_room g c = c.loop-entry.invariant.key_room
+
+pub returns-clause-value_room : goal.returns-clause-value_room
+returns-clause-value_room g c = c.loop-entry.invariant.value_room
+
+pub returns-clause-keys : goal.returns-clause-keys
+returns-clause-keys g c = as_many _ c.loop-entry.entry-index (length c.args.entries.now) c.loop-entry.invariant.keys c.loop-entry-test.false c.loop-entry.auto.entry-index-end
+
+pub returns-clause-values : goal.returns-clause-values
+returns-clause-values g c = as_many _ c.loop-entry.entry-index (length c.args.entries.now) c.loop-entry.invariant.values c.loop-entry-test.false c.loop-entry.auto.entry-index-end

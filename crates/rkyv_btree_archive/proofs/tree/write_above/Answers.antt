@@ -15,3 +15,15 @@ returns-clause-ok g c =
     let entries = take_rest c.deref.result.now c.args.first ∙ ap (drop c.args.first) c.deref.ensures.value in
     let places = take_rest c.deref-2.result.now c.args.first_child ∙ ap (drop c.args.first_child) c.deref-2.ensures.value in
     rw (sym entries, sym places) c.in_ok-root.ensures.ok
+
+pub write_inner-requires-clause-fitting : goal.write_inner-requires-clause-fitting
+write_inner-requires-clause-fitting g c = c.requires.fitting
+
+pub write_inner-requires-clause-free : goal.write_inner-requires-clause-free
+write_inner-requires-clause-free g c = c.requires.free
+
+pub returns-clause-last : goal.returns-clause-last
+returns-clause-last g c = c.in_ok-root.ensures.last
+
+pub returns-clause-free : goal.returns-clause-free
+returns-clause-free g c = c.in_ok-root.ensures.free
