@@ -2,6 +2,7 @@ use Rattle.std.proofs.Common.{◌≡◌, ◌+◌, ◌∙◌, length, sym, subst,
 use Rattle.std.proofs.iter.Next.{Yields-more}
 use Rattle.std.proofs.lemmas.List.{length_push}
 use Rattle.std.specs.Iterator.{Yields}
+use Rattle.rkyv_btree_archive.proofs.Numbers.{no_less}
 use Rattle.rkyv_btree_archive.proofs.build.take_items.Goals as goal
 
 pub loop-iter-preserved : goal.loop-iter-preserved
@@ -17,5 +18,5 @@ loop-iter-preserved g c =
       ends = on.1;
       left = omega (arith, more, before.left, on.2);
       few = omega (arith, more);
-      room = omega (arith, before.room, c.push.ensures.capacity);
+      room = no_less _ _ _ before.room c.push.ensures.capacity;
     }

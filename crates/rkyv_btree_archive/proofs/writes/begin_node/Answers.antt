@@ -102,3 +102,6 @@ returns-clause-ok g c =
       padded = subst (λ (n : ℕ). Wrote mid (padding n (position mid)) (g.W.Writer.state c.pad.new.writer)) c.align.ensures.value c.in_ok-pos.ensures.ok;
       place = sym c.in_ok-pos.ensures.end ∙ (c.in_ok-pos.ensures.pos ∙ ap (round_up (position mid)) c.align.ensures.value);
     }
+
+pub returns-clause-place : goal.returns-clause-place
+returns-clause-place g c = c.in_ok-pos.ensures.end

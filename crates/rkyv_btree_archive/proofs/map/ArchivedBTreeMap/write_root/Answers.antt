@@ -120,3 +120,6 @@ returns-in_err-put-clause-kept g c =
     let m = g.W.Writer.state c.pad.new.writer in
     let t = g.W.Writer.state c.put.new.writer in
     rw p.1 (then_begins s m t (wrote_begins s _ m c.in_ok-pos.ensures.ok) (refused_begins c.in_err-put.field-0.0 m _ t (c.in_err-put.ensures.err true)))
+
+pub returns-clause-pos : goal.returns-clause-pos
+returns-clause-pos g c = c.in_ok-pos.ensures.pos
