@@ -3,7 +3,6 @@ use Rattle.std.proofs.Common.{refl, rules}
 use Rattle.rkyv_btree_walk.specs.Search.{shown}
 use Rattle.rkyv_btree_view.proofs.Sets.{keys_visited}
 use Rattle.rkyv_btree_view.proofs.view.View.visit_keys.Goals as goal
-use denote.Param.Members.{Called}
 
 pub returns : goal.returns
 returns g c =
