@@ -13,6 +13,8 @@ use Rattle.rkyv_btree_walk.specs.Bounds.{IsRun, OrderedFor, IsWithin, is_from, i
 use Rattle.rkyv_btree_walk.specs.Search.{OrderedBy, AnyHit}
 use Rattle.rkyv_btree_walk.specs.Visit.{Visits, AfterAnswer}
 use Rattle.rkyv_btree_view.specs.Set.{KeysOrderedFor, AreKeysWithin, VisitsKeys}
+use denote.Param.Always.{always_mut, mut_by}
+use denote.Param.Members.{Mut, Called}
 
 module _ {A : Type 0} where
   abbrev keys : List (A × Unit {0}) → List A
@@ -72,6 +74,11 @@ module _ {A : Type 0} where
   pub keys_within : (low high : Bound (A → Ordering)) (m r : List (A × Unit {0})) → IsWithin low high m r → AreKeysWithin low high (keys m) (keys r)
   keys_within low high m r within from to =
       ap (map (λ e. e.0)) (within (bound_ordered low m from) (bound_ordered high m to)) ∙ filtered (λ k. is_from low k && is_to high k) m
+
+-- what may be called, and is left so by each call, may always be called
+pub stays_callable : {F W X R : Type 0} (g : Mut F (W × (X × Unit {0})) R) (f : F)
+    → ((key : W) (value : X) → g.pre f (key, (value, tt))) × ((before : F) (key : W) (value : X) (answer : R) (after : F) (next : W) (other : X) → Called g before (key, (value, tt)) answer after → g.pre after (next, (other, tt))) → always_mut g f
+stays_callable g f stays = mut_by g (λ s. (a : _) → g.pre s a) (λ s a i. i a) (λ s a r t i e b. stays.1 s a.0 a.1.0 r t b.0 b.1.0 e) f (λ a. stays.0 a.0 a.1.0)
 
 -- a visitor of entries that calls one of keys
 module _ {F G W X A B T : Type 0} (outer : G → W → X → ControlFlow T (Unit {0}) → G → Type 0) (inner : F → W → ControlFlow T (Unit {0}) → F → Type 0) (shows : W → X → A × B) (means : W → A) (same : (key : W) (value : X) → (shows key value).0 ≡ means key)

@@ -31,6 +31,21 @@ impl<'a, K: Portable, V: Portable, M: ArchivedMap<Key = K, Mapped = V>> View<'a,
         let first = begin::<K, V, M>(self.buf, self.pos, &mut path);
         visit_rest::<K, V, M, W, X, T, F>(self.buf, first, &mut path, visit)
     }
+
+    /// The same, where `visit` may be called and each call leaves it so.
+    #[tactic(auto, using(crate::proofs::Sets::stays_callable))]
+    fn visit_on<W: Shows<'a, K>, X: Shows<'a, V>, T, F: FnMut(W, X) -> ControlFlow<T, ()>>(
+        self,
+        visit: F,
+    ) -> Option<T>
+        requires { ((key : _) (value : _) → F.pre visit key value)
+            × ((before : F) (key : _) (value : _) (answer : _) (after : F) (next : _) (other : _)
+            → F.step before key value answer after → F.pre after next other) }
+        ensures { Visited F.step (shown_both K.kind V.kind W.Shows X.Shows) visit
+            (entries_of K.kind V.kind M.E self.entry) result }
+    {
+        self.visit_all(visit)
+    }
 }
 
 impl<'a, K: Portable, V: Portable, M: ArchivedMap<Key = K, Mapped = V> + ShowsEntries> View<'a, M> {
@@ -59,6 +74,12 @@ impl<'a, K: Portable, S: ArchivedMap<Key = K, Mapped = ()>> View<'a, S> {
         ensures { VisitedKeys F.step (shown K.kind W.Shows) visit
             (map (λ e. e.0) (entries_of K.kind unit_kind S.E self.entry)) result }
     {
-        self.visit_all(move |key: W, _: View<()>| visit(key))
+        self.visit_on(
+            move |key: W, _: View<()>| -> ControlFlow<T, ()>
+                requires { F.IsAlwaysCallable visit }
+                ensures called { F.step visit.entry key result visit.exit }
+                ensures callable { F.IsAlwaysCallable visit.exit }
+            { visit(key) },
+        )
     }
 }

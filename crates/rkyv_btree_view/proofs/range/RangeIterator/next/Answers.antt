@@ -1,5 +1,5 @@
 -- The next entry of the leaf, or of the path above it before the stop.
-use Rattle.std.proofs.Common.{◌+◌, ◌∷◌, ◌∙◌, map, arith, sym, ap}
+use Rattle.std.proofs.Common.{◌+◌, ◌∷◌, ◌∙◌, map, arith, rules, sym, ap}
 use Rattle.rkyv_btree_base.specs.Layout.{layout_of}
 use Rattle.rkyv_btree_base.specs.Read.{entry_at}
 use Rattle.rkyv_btree_walk.specs.mirror.Range.{range_rest}
@@ -28,3 +28,6 @@ invariant_of-self-clause-in_leaf g c =
 pub advance_before-requires-clause-path : goal.advance_before-requires-clause-path
 advance_before-requires-clause-path g c =
     path_had g.K.Portable.kind g.V.Portable.kind g.M.ArchivedMap.E c.args.self.now.buf.now 32 c.args.self.now.path.items c.args.self.now.on_path
+
+pub returns-in-Some-clause-steps : goal.returns-in-Some-clause-steps
+returns-in-Some-clause-steps g c = search rules
