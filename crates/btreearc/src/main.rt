@@ -1,20 +1,8 @@
 //! Archived maps of `u32` to `u32`: built from lines, checked, listed, looked up in and edited.
 #![tactic(auto)]
 
-mod build;
-mod command;
-mod fault;
-mod laws;
-mod lines;
-mod listing;
-mod opening;
-mod program;
-mod setting;
-mod streams;
-#[cfg(test)]
-mod tests;
-
-use crate::fault::ProgramFault;
+use btreearc_lines::fault::ProgramFault;
+use btreearc_commands::program;
 use std::env;
 use std::io::ErrorKind;
 use std::process::ExitCode;

@@ -6,6 +6,8 @@ mod by_hand;
 #[cfg(test)]
 mod coded;
 #[cfg(test)]
+mod commands;
+#[cfg(test)]
 mod competitors;
 #[cfg(test)]
 mod convert;

@@ -1,5 +1,6 @@
 -- The cycle's functions stay in the window, and what its loop gives is what is left of it.
-use Rattle.std.proofs.Common.{◌≡◌, ◌≤◌, ◌+◌, ◌∙◌, arith}
+use Rattle.std.proofs.lemmas.Grind.{common_steps}
+use Rattle.std.proofs.Common.{◌≡◌, ◌≤◌, ◌+◌, ◌∙◌, arith, rules}
 use Rattle.std.proofs.lemmas.Result.{IfOk-weaker, err_from_is_err_and}
 use Rattle.rkyv_btree_verify.specs.mirror.Counted.{Within}
 use Rattle.rkyv_btree_format.specs.Layout.{layout_of, leaf_size}
@@ -77,3 +78,21 @@ pub check_pointers-returns-in_err-so_far-clause-counts : goal.check_pointers-ret
 check_pointers-returns-in_err-so_far-clause-counts g t c =
     let s = layout_of g.K.Portable.kind g.V.Portable.kind g.row.E in
     counts_stop s g.K.Portable.kind.leaves g.V.Portable.kind.leaves _ _ _ _ _ _ _ _ _ _ c.loop-i-test.true c.in_err-so_far.ensures.gives c.in_err-so_far.ensures.counts ∙ c.loop-i.invariant.2
+
+pub check_node-returns-then-levels-eq0-clause-counts : goal.check_node-returns-then-levels-eq0-clause-counts
+check_node-returns-then-levels-eq0-clause-counts g t c = search rules
+
+pub check_node-returns-in_err-node-clause-gives : goal.check_node-returns-in_err-node-clause-gives
+check_node-returns-in_err-node-clause-gives g t c = grind (arith, common_steps)
+
+pub check_node-returns-in_err-node-clause-counts : goal.check_node-returns-in_err-node-clause-counts
+check_node-returns-in_err-node-clause-counts g t c = grind (arith, common_steps)
+
+pub check_node-returns-clause-gives : goal.check_node-returns-clause-gives
+check_node-returns-clause-gives g t c = grind arith
+
+pub check_node-returns-clause-counts : goal.check_node-returns-clause-counts
+check_node-returns-clause-counts g t c = grind arith
+
+pub check_node-check_placed-requires : goal.check_node-check_placed-requires
+check_node-check_placed-requires g t c κs within = search rules

@@ -1,0 +1,225 @@
+-- What is built for entries is their archive.
+use Rattle.std.proofs.Common.{◌≡◌, ℕ, ◌^◌, ◌≤◌, ◌<◌, IsTrue, IfSome, Option, Some, None, List, [], ◌∷◌, ◌++◌, length, map, Bor, unwrap_or, inl, inr, refl, sym, ap, subst, ◌∙◌, arith}
+use Rattle.std.proofs.lemmas.List.{length-map, length-append}
+use Rattle.std.proofs.lemmas.Simd.{map-map}
+use Rattle.std.specs.Int.{w32, to_le_bytes}
+use Rattle.std.specs.Io.KnownBytes.{Appends}
+use Rattle.std.specs.Iterator.{Drains, YieldsFirstBy}
+use Rattle.rkyv_btree_base.specs.Image.{child_image, child_root, root_image}
+use Rattle.rkyv_btree_base.specs.InPlace.{IsOwn, OwnBytes}
+use Rattle.rkyv_btree_base.specs.Layout.{are_fitting, inner_size, len_at, node_size, values_at, keys_at, align, node_align}
+use Rattle.rkyv_btree_base.specs.Scalars.{u32_kind}
+use Rattle.rkyv_btree_base.specs.laws.Natives.{u32_faithful}
+use Rattle.rkyv_btree_base.specs.laws.Scalars.{u32_laws}
+use Rattle.rkyv_btree_base.specs.Rounding.{round_up}
+use Rattle.rkyv_btree_base.specs.Serialising.{Built, Spelled, meaning_of, StoppedBuilding, BuildFault, RootFault}
+use Rattle.rkyv_btree_base.specs.Archiving.{Archival, itself, plain_archival}
+use Rattle.rkyv_btree_base.specs.Plan.{planned_alone}
+use Rattle.rkyv_btree_base.specs.Tree.{Child, ChildHasShape}
+use Rattle.rkyv_btree_base.specs.Entries.{now_of}
+use Rattle.rkyv_btree_base.specs.Written.{ChildStopped}
+use Rattle.rkyv_btree_base.proofs.Alike.{AreAlike, alike_length, alike_reach, same_child_root, child_alike}
+use Rattle.rkyv_btree_base.proofs.Imaged.{child_written, child_stopped}
+use Rattle.rkyv_btree_base.proofs.Mapped.{map_child, alone_mapped}
+use Rattle.rkyv_btree_base.proofs.Smallest.{plan_is_left_complete}
+use Rattle.rkyv_btree_base.specs.Spells.{Accepted}
+use Rattle.rkyv_btree_base.specs.Writing.{Writing, position, Write, AllReach, Wrote, Stopped, appended, last_end}
+use Rattle.rkyv_btree_base.specs.Fault.{Fault}
+use Rattle.rkyv_btree_base.specs.Fault.TheVariants.{Length, LengthOverflow, PositionOverflow, OffsetOverflow, Writer, Memory, Entry}
+use Rattle.rkyv_btree_base.proofs.Accepting.{accepted_archive, archive_length}
+use Rattle.rkyv_btree_base.proofs.WriteRuns.{appended-append, stopped_past, stopped_stray}
+use Rattle.btreearc_commands.specs.Archive.{own, five, tree_writes, root_writes, archive_of, HasArchive, IsUnbuilt}
+use Rattle.btreearc_lines.specs.Grammar.{IsLines}
+use Rattle.btreearc_commands.specs.Opening.{IsArchive, root_of}
+
+abbrev pub nothing_written : Writing
+nothing_written = record { base = 0; contents = []; failures = 0 }
+
+-- what a pair of references leads to
+abbrev pub pair : Bor ℕ × Bor ℕ → ℕ × ℕ
+pair x = (x.0.now, x.1.now)
+
+-- all items of an iterator are what its state shows
+pub drained_pairs : {S : Type 0} (rest : S → List (ℕ × ℕ)) (s : S) (xs : List (Bor ℕ × Bor ℕ)) → Drains (YieldsFirstBy pair rest) s xs → map pair xs ≡ rest s
+drained_pairs rest s [] d = sym (ap rest d.1.1 ∙ d.1.2.0)
+drained_pairs rest s (x ∷ xs) d =
+    ap (λ ys. pair x ∷ ys) (drained_pairs rest d.1.1.0 xs (d.0, (d.1.0, d.1.1.2, d.1.2))) ∙ sym d.1.1.1
+
+-- nodes of five entries of numbers fit
+pub numbers_fit : IsTrue (are_fitting u32_kind u32_kind 5)
+unfolding are_fitting inner_size len_at node_size values_at keys_at align node_align round_up
+numbers_fit = refl
+
+-- how numbers of 32 bits are archived
+abbrev pub numbers : Archival ℕ (Unit {0})
+numbers = plain_archival u32_kind (λ x. x) (λ x. x < 2 ^ 32) (to_le_bytes w32)
+
+-- the writes of the entries' tree were made, and its root node stands there
+pub record TreeIs (entries : List (ℕ × ℕ)) (root : ℕ) (s : Writing) : Type 0 where
+  pub wrote : Wrote nothing_written (tree_writes entries) s
+  pub root_is : root ≡ unwrap_or (child_root five 0 (planned_alone 5 (map own entries))) 0
+
+pub tree_is : (entries : List (ℕ × ℕ)) (items : List (Bor ℕ × Bor ℕ)) (root : ℕ) (from s : Writing) → from ≡ nothing_written → map pair items ≡ entries → Built five numbers numbers from (map now_of items) root s → TreeIs entries root s
+tree_is entries items root from s start are built =
+    let tree : Built five numbers numbers nothing_written entries root s = subst (λ (xs : List (ℕ × ℕ)). Built five numbers numbers nothing_written xs root s) are (subst (λ (w : Writing). Built five numbers numbers w (map now_of items) root s) start built) in
+    let made = child_written u32_kind u32_kind 5 u32_laws u32_laws numbers_fit (λ x. x) (λ x. x) (λ x. x < 2 ^ 32) (λ x. x < 2 ^ 32) (to_le_bytes w32) (to_le_bytes w32) u32_faithful.is_own u32_faithful.is_own nothing_written (planned_alone 5 entries) tree.place s tree.written in
+    let same = alone_mapped own 5 entries in
+    record {
+      wrote = subst (λ (c : Child OwnBytes). Wrote nothing_written (child_image five 0 c) s) (sym same) made.0;
+      root_is = tree.root_is ∙ (ap (λ (r : Option ℕ). unwrap_or r 0) made.1 ∙ ap (λ (c : Child OwnBytes). unwrap_or (child_root five 0 c) 0) (sym same));
+    }
+
+-- the map's writes behind the tree
+roots_are : (entries : List (ℕ × ℕ)) (root : ℕ) (s : Writing) → TreeIs entries root s → root_image (position s) root (length entries) ≡ root_writes entries
+roots_are entries root s built =
+    let at : position s ≡ length (appended (tree_writes entries)) = omega (arith, ap length built.wrote.done.contents, built.wrote.done.base) in
+    ap (λ p. root_image p root (length entries)) at ∙ ap (λ r. root_image (length (appended (tree_writes entries))) r (length entries)) built.root_is
+
+reach_front : (xs ys : List Write) → AllReach (xs ++ ys) → AllReach xs
+reach_front [] ys h = tt
+reach_front (x ∷ xs) ys h = (h.0, reach_front xs ys h.1)
+
+reach_back : (xs ys : List Write) → AllReach (xs ++ ys) → AllReach ys
+reach_back [] ys h = h
+reach_back (x ∷ xs) ys h = reach_back xs ys h.1
+
+-- the tree and the map are the archive
+pub archive_written : (entries : List (ℕ × ℕ)) (root : ℕ) (s t : Writing) → TreeIs entries root s → Wrote s (root_image (position s) root (length entries)) t → t.contents ≡ archive_of entries
+archive_written entries root s t built wrote =
+    let tree : s.contents ≡ appended (tree_writes entries) = built.wrote.done.contents in
+    wrote.done.contents ∙ (ap (λ z. z ++ appended (root_image (position s) root (length entries))) tree
+    ∙ (ap (λ ws. appended (tree_writes entries) ++ appended ws) (roots_are entries root s built) ∙ sym (appended-append (tree_writes entries) (root_writes entries))))
+
+reach_both : (xs ys : List Write) → AllReach xs → AllReach ys → AllReach (xs ++ ys)
+reach_both [] ys h k = k
+reach_both (x ∷ xs) ys h k = (h.0, reach_both xs ys h.1 k)
+
+-- so the entries have one
+pub has_archive : (entries : List (ℕ × ℕ)) (root : ℕ) (s t : Writing) → TreeIs entries root s → length entries ≤ last_end → Wrote s (root_image (position s) root (length entries)) t → position t ≤ last_end → HasArchive entries
+has_archive entries root s t built few wrote end = record {
+  count = few;
+  end = omega (arith, ap length (archive_written entries root s t built wrote), wrote.done.base, built.wrote.done.base);
+  reach = reach_both (tree_writes entries) (root_writes entries) built.wrote.reach (subst AllReach (roots_are entries root s built) wrote.reach);
+}
+
+alone_shape : {A : Type 0} (xs : List A) → ChildHasShape 5 (planned_alone 5 xs)
+alone_shape [] = tt
+alone_shape {A} (x ∷ xs) = (plan_is_left_complete A 5 (omega arith) (x ∷ xs) (omega arith)).0.has_shape
+
+-- two lists of one length, side by side
+paired : {A : Type 0} (xs ys : List A) → length xs ≡ length ys → (zs : List (A × A)) × (map (λ z. z.0) zs ≡ xs) × (map (λ z. z.1) zs ≡ ys)
+paired [] [] n = ([], refl, refl)
+paired [] (y ∷ ys) n = absurd (omega (arith, n))
+paired (x ∷ xs) [] n = absurd (omega (arith, n))
+paired (x ∷ xs) (y ∷ ys) n =
+    let rest = paired xs ys (omega (arith, n)) in
+    ((x, y) ∷ rest.0, ap (λ zs. x ∷ zs) rest.1, ap (λ zs. y ∷ zs) rest.2)
+
+planned_by : (f : (ℕ × ℕ) × (ℕ × ℕ) → ℕ × ℕ) (zs : List ((ℕ × ℕ) × (ℕ × ℕ))) (xs : List (ℕ × ℕ)) → map f zs ≡ xs → planned_alone 5 (map own xs) ≡ map_child (λ z. own (f z)) (planned_alone 5 zs)
+planned_by f zs xs e = ap (λ ys. planned_alone 5 (map own ys)) (sym e) ∙ (ap (planned_alone 5) (map-map own f zs) ∙ alone_mapped (λ z. own (f z)) 5 zs)
+
+own_is : (x : ℕ × ℕ) → IsOwn u32_kind (own x).0 × IsOwn u32_kind (own x).1
+own_is x = (u32_faithful.is_own x.0, u32_faithful.is_own x.1)
+
+-- as many entries have a tree of the same writes but for their numbers, and so the same map
+module _ (xs ys : List (ℕ × ℕ)) (same : length xs ≡ length ys) where
+  trees_alike : AreAlike (tree_writes xs) (tree_writes ys)
+  trees_alike =
+      let p = paired xs ys same in
+      let front = planned_by (λ z. z.0) p.0 xs p.1 in
+      let back = planned_by (λ z. z.1) p.0 ys p.2 in
+      subst (λ (c : Child OwnBytes). AreAlike (child_image five 0 c) (tree_writes ys)) (sym front)
+      (subst (λ (c : Child OwnBytes). AreAlike (child_image five 0 (map_child (λ z. own z.0) (planned_alone 5 p.0))) (child_image five 0 c)) (sym back)
+      (child_alike u32_kind u32_kind 5 u32_laws u32_laws numbers_fit (λ z. own z.0) (λ z. own z.1) (λ z. own_is z.0) (λ z. own_is z.1) 0 (planned_alone 5 p.0) (alone_shape p.0)))
+
+  roots_alike : root_writes xs ≡ root_writes ys
+  roots_alike =
+      let p = paired xs ys same in
+      let ends = alike_length (tree_writes xs) (tree_writes ys) trees_alike in
+      let root : child_root five 0 (planned_alone 5 (map own xs)) ≡ child_root five 0 (planned_alone 5 (map own ys)) =
+      ap (child_root five 0) (planned_by (λ z. z.0) p.0 xs p.1)
+      ∙ (same_child_root u32_kind u32_kind 5 u32_laws u32_laws numbers_fit (λ z. own z.0) (λ z. own z.1) (λ z. own_is z.0) (λ z. own_is z.1) 0 (planned_alone 5 p.0) ∙ ap (child_root five 0) (sym (planned_by (λ z. z.1) p.0 ys p.2))) in
+      ap (λ n. root_image n (unwrap_or (child_root five 0 (planned_alone 5 (map own xs))) 0) (length xs)) ends
+      ∙ (ap (λ r. root_image (length (appended (tree_writes ys))) (unwrap_or r 0) (length xs)) root
+      ∙ ap (λ n. root_image (length (appended (tree_writes ys))) (unwrap_or (child_root five 0 (planned_alone 5 (map own ys))) 0) n) same)
+
+module _ {S : Type 0} (rest : S → List (ℕ × ℕ)) (entries : List (ℕ × ℕ)) where
+  -- writing the tree of as many entries was stopped
+  abbrev Given : {X : Type 0} → S → Writing → Fault X → Writing → Type 0
+  Given {X} iter from fault t = StoppedBuilding u32_kind u32_kind 5 numbers numbers (YieldsFirstBy pair rest) {X = X} iter (length entries) from fault t
+
+  stopped_tree : {X : Type 0} (iter : S) (from : Writing) (fault : Fault X) (t : Writing) → from ≡ nothing_written → (h : Given iter from fault t) → Stopped nothing_written (tree_writes h.entries) fault t
+  stopped_tree iter from fault t start h =
+      let tree = planned_alone 5 h.entries in
+      let stopped = child_stopped u32_kind u32_kind 5 u32_laws u32_laws numbers_fit (λ x. x) (λ x. x) (λ x. x < 2 ^ 32) (λ x. x < 2 ^ 32) (to_le_bytes w32) (to_le_bytes w32) u32_faithful.is_own u32_faithful.is_own nothing_written tree fault t (alone_shape h.entries)
+      (subst (λ (s : Writing). ChildStopped five numbers numbers s tree fault t) start (h.stopped h.entries h.claimed)) in
+      subst (λ (c : Child OwnBytes). Stopped nothing_written (child_image five 0 c) fault t) (sym (alone_mapped own 5 h.entries)) stopped
+
+  unbuilt_past : {X : Type 0} (xs : List (ℕ × ℕ)) (t : Writing) → length xs ≡ length entries → Stopped {E = X} nothing_written (tree_writes xs) PositionOverflow t → last_end < length (archive_of entries)
+  unbuilt_past xs t same h =
+      omega (
+        arith,
+        stopped_past nothing_written (tree_writes xs) t h,
+        alike_length (tree_writes xs) (tree_writes entries) (trees_alike xs entries same),
+        ap length (appended-append (tree_writes entries) (root_writes entries)),
+        length-append (appended (tree_writes entries)) (appended (root_writes entries)),
+      )
+
+  pub unbuilt : {X : Type 0} (iter : S) (from : Writing) (fault : Fault X) (t : Writing) → from ≡ nothing_written → rest iter ≡ entries → BuildFault u32_kind u32_kind 5 numbers numbers (YieldsFirstBy pair rest) iter (length entries) from fault t → IsUnbuilt entries fault
+  unbuilt iter from LengthOverflow t start is (inl h) = h.0
+  unbuilt {X} iter from LengthOverflow t start is (inr h) = absurd (stopped_tree {X = X} iter from LengthOverflow t start h).refused
+  unbuilt {X} iter from PositionOverflow t start is h = unbuilt_past {X = X} h.entries t h.claimed.count (stopped_tree {X = X} iter from PositionOverflow t start h)
+  unbuilt {X} iter from OffsetOverflow t start is h = λ all.
+      stopped_stray {E = X} nothing_written (tree_writes h.entries) t (stopped_tree {X = X} iter from OffsetOverflow t start h)
+      (alike_reach (tree_writes entries) (tree_writes h.entries) (trees_alike entries h.entries (sym h.claimed.count)) (reach_front (tree_writes entries) (root_writes entries) all))
+  unbuilt iter from (Writer error) t start is h = tt
+  unbuilt iter from (Memory error) t start is h = tt
+  unbuilt iter from (Length mismatch) t start is h = absurd (h.differs (sym (length-map h.items pair) ∙ ap length (drained_pairs rest iter h.items h.all ∙ is)))
+  unbuilt {X} iter from (Entry fault) t start is h = absurd (stopped_tree {X = X} iter from (Entry fault) t start h).refused
+
+-- neither is the map written
+module _ (entries : List (ℕ × ℕ)) (root : ℕ) (s : Writing) (tree : TreeIs entries root s) where
+  stopped_root : {X : Type 0} (fault : Fault X) (t : Writing) → Stopped s (root_image (position s) root (length entries)) fault t → Stopped s (root_writes entries) fault t
+  stopped_root fault t h = subst (λ ws. Stopped s ws fault t) (roots_are entries root s tree) h
+
+  unbuilt_root_past : {X : Type 0} (t : Writing) → Stopped {E = X} s (root_writes entries) PositionOverflow t → last_end < length (archive_of entries)
+  unbuilt_root_past t h =
+      omega (
+        arith,
+        stopped_past s (root_writes entries) t h,
+        ap length tree.wrote.done.contents,
+        tree.wrote.done.base,
+        ap length (appended-append (tree_writes entries) (root_writes entries)),
+        length-append (appended (tree_writes entries)) (appended (root_writes entries)),
+      )
+
+  pub unbuilt_root : {X : Type 0} (fault : Fault X) (t : Writing) → RootFault root (length entries) s fault t → IsUnbuilt entries fault
+  unbuilt_root LengthOverflow t h = h.0
+  unbuilt_root {X} PositionOverflow t h = unbuilt_root_past t (stopped_root {X = X} PositionOverflow t h)
+  unbuilt_root {X} OffsetOverflow t h = λ all. stopped_stray s (root_writes entries) t (stopped_root {X = X} OffsetOverflow t h) (reach_back (tree_writes entries) (root_writes entries) all)
+  unbuilt_root (Writer error) t h = tt
+  unbuilt_root (Memory error) t h = absurd h
+  unbuilt_root (Length mismatch) t h = absurd h
+  unbuilt_root (Entry fault) t h = absurd h
+
+-- what is built and written is accepted
+pub archive_accepted : (entries : List (ℕ × ℕ)) (items : List (Bor ℕ × Bor ℕ)) (root : ℕ) (from s t : Writing) → from.base ≡ 0 → s.base ≡ 0 → map pair items ≡ entries → length items ≤ last_end →
+    (0 < length items → Spelled u32_kind u32_kind 5 from (map (meaning_of u32_kind u32_kind numbers numbers (itself u32_kind) (itself u32_kind)) items) root s) → Wrote s (root_image (position s) root (length entries)) t → position t ≤ last_end → IsArchive t.contents entries
+archive_accepted entries items root from s t start zero are few spelled wrote end =
+    let count : length items ≡ length entries = sym (length-map items pair) ∙ ap length are in
+    let accepted = accepted_archive u32_kind u32_kind 5 u32_laws u32_laws from s t entries root start zero
+    (λ some. subst (λ (m : List (ℕ × ℕ)). Spelled u32_kind u32_kind 5 from m root s) are (spelled (omega arith))) (omega arith) wrote end in
+    let at : round_up (position s) 4 ≡ root_of t.contents = omega (arith, archive_length s t root (length entries) zero wrote) in
+    subst (λ (p : ℕ). (left : ℕ) × Accepted u32_kind u32_kind 5 t.contents 0 p p left entries) at accepted
+
+-- what was written of an input that is known
+pub output_built : (input old new : Option (List ℕ)) (text archive : List ℕ) (entries : List (ℕ × ℕ)) → IfSome input (λ bytes. text ≡ bytes) → IsLines text entries → HasArchive entries → IsArchive archive entries → archive ≡ archive_of entries → Appends old new archive →
+    IfSome input (λ bytes. (xs : List (ℕ × ℕ)) × IsLines bytes xs × HasArchive xs × IsArchive (archive_of xs) xs × Appends old new (archive_of xs))
+output_built None old new text archive entries is few fits accepted made written = tt
+output_built (Some bytes) old new text archive entries is few fits accepted made written = (
+  entries,
+  subst (λ (z : List ℕ). IsLines z entries) is few,
+  fits,
+  subst (λ (z : List ℕ). IsArchive z entries) made accepted,
+  subst (λ (z : List ℕ). Appends old new z) made written,
+)

@@ -1,0 +1,11 @@
+pub mod Again
+pub mod Between
+pub mod Built
+pub mod Edited
+pub mod Found
+pub mod Listed
+pub mod Replaced
+pub mod SetOut
+pub mod Spelling
+pub mod Told
+pub mod Written

@@ -1,0 +1,52 @@
+-- The archive of entries: their tree from position 0 on, and behind it the map.
+use Rattle.std.specs.Prelude.{ℕ, ◌<◌, ◌≤◌, List, ◌++◌, length, map, unwrap_or}
+use Rattle.std.specs.Int.{w32, to_le_bytes}
+use Rattle.rkyv_btree_base.specs.Image.{child_image, child_root, root_image}
+use Rattle.rkyv_btree_base.specs.InPlace.{OwnBytes}
+use Rattle.rkyv_btree_base.specs.Layout.{NodeLayout, layout_of}
+use Rattle.rkyv_btree_base.specs.Scalars.{u32_kind}
+use Rattle.rkyv_btree_base.specs.Plan.{planned_alone}
+use Rattle.rkyv_btree_base.specs.Writing.{Write, appended, AllReach, last_end}
+use Rattle.rkyv_btree_base.specs.Fault.{Fault}
+use Rattle.rkyv_btree_base.specs.Fault.TheVariants.{Length, LengthOverflow, PositionOverflow, OffsetOverflow, Writer, Memory, Entry}
+use Rattle.btreearc_lines.specs.declared.fault.ProgramFault.{ProgramFault}
+use Rattle.btreearc_lines.specs.declared.fault.ProgramFault.TheVariants.{NotBuilt}
+
+-- the own bytes of an entry's key and value
+abbrev pub own : ℕ × ℕ → OwnBytes
+own x = (to_le_bytes w32 x.0, to_le_bytes w32 x.1)
+
+-- the program's nodes have five entries
+abbrev pub five : NodeLayout
+five = layout_of u32_kind u32_kind 5
+
+-- the writes of the tree, and then of the map
+abbrev pub tree_writes : List (ℕ × ℕ) → List Write
+tree_writes entries = child_image five 0 (planned_alone 5 (map own entries))
+
+abbrev pub root_writes : List (ℕ × ℕ) → List Write
+root_writes entries = root_image (length (appended (tree_writes entries))) (unwrap_or (child_root five 0 (planned_alone 5 (map own entries))) 0) (length entries)
+
+abbrev pub archive_of : List (ℕ × ℕ) → List ℕ
+archive_of entries = appended (tree_writes entries ++ root_writes entries)
+
+-- entries have an archive: they are not too many, it ends at the last position at most, and each pointer in it reaches
+pub record HasArchive (entries : List (ℕ × ℕ)) : Type 0 where
+  pub count : length entries ≤ last_end
+  pub end : length (archive_of entries) ≤ last_end
+  pub reach : AllReach (tree_writes entries ++ root_writes entries)
+
+-- why entries have no archive: they are too many, or it ends past the last position, or a pointer in it would not reach; or a growth is refused
+abbrev pub IsUnbuilt : {X : Type 0} → List (ℕ × ℕ) → Fault X → Type 0
+IsUnbuilt entries LengthOverflow = last_end < length entries
+IsUnbuilt entries PositionOverflow = last_end < length (archive_of entries)
+IsUnbuilt entries OffsetOverflow = AllReach (tree_writes entries ++ root_writes entries) → ⊥
+IsUnbuilt entries (Writer error) = Unit {0}
+IsUnbuilt entries (Memory error) = Unit {0}
+IsUnbuilt entries (Length mismatch) = ⊥
+IsUnbuilt entries (Entry fault) = ⊥
+
+-- a fault of building an archive
+abbrev pub IsBuildFault : List (ℕ × ℕ) → ProgramFault → Type 0
+IsBuildFault entries (NotBuilt fault) = IsUnbuilt entries fault
+IsBuildFault entries _ = ⊥

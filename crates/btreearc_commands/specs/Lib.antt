@@ -1,0 +1,5 @@
+pub mod Archive
+pub mod Commands
+pub mod Opening
+pub mod Sessions
+pub mod Setting

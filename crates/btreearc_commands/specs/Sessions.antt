@@ -1,0 +1,54 @@
+-- What a command makes of what another has written.
+use Rattle.std.specs.Prelude.{◌≡◌, ℕ, List, ◌++◌, map, ◌==◌, if◌then◌else◌, Option, Some, Result, Ok, Err}
+use Rattle.std.specs.Io.KnownBytes.{Appends}
+use Rattle.std.specs.List.Sorted.{IsStrictlySortedBy}
+use Rattle.std.specs.Ordering.{nat_cmp}
+use Rattle.rkyv_btree_base.specs.Fault.TheVariants.{Writer, Memory as NoRoom}
+use Rattle.btreearc_commands.specs.Commands.{Builds, Sets}
+use Rattle.btreearc_lines.specs.Grammar.{IsLines}
+use Rattle.btreearc_lines.specs.declared.fault.ProgramFault.{ProgramFault}
+use Rattle.btreearc_lines.specs.declared.fault.ProgramFault.TheVariants.{NotBuilt, InputFailed, OutputFailed, Memory}
+
+-- `build` has written this archive, behind what was there before, for a text whose lines are these entries
+pub record IsBuilt (text : List ℕ) (entries : List (ℕ × ℕ)) (archive : List ℕ) : Type 0 where
+  pub lines : IsLines text entries
+  pub before : List ℕ
+  pub built : Builds (Some text) (Some before) (Some (before ++ archive)) (Ok 0)
+
+-- `set` has found the key in this archive, and has written that one, behind what was there before
+pub record IsSetIn (key value : ℕ) (archive made : List ℕ) : Type 0 where
+  pub before : List ℕ
+  pub set : Sets key value (Some archive) (Some before) (Some (before ++ made)) (Ok 0)
+
+-- a run has written such bytes and no others, with this status; or reading or a growth failed, and it has written nothing;
+-- or writing failed
+abbrev pub Writes : (List ℕ → Type 0) → ℕ → Option (List ℕ) → Option (List ℕ) → Result ℕ ProgramFault → Type 0
+Writes Are status old new (Ok told) = (told ≡ status) × ((bytes : List ℕ) × Are bytes × Appends old new bytes)
+Writes Are status old new (Err InputFailed) = new ≡ old
+Writes Are status old new (Err Memory) = new ≡ old
+Writes Are status old new (Err (NotBuilt (Writer error))) = new ≡ old
+Writes Are status old new (Err (NotBuilt (NoRoom error))) = new ≡ old
+Writes Are status old new (Err OutputFailed) = Unit {0}
+Writes Are status old new (Err _) = ⊥
+
+-- what is known of a run: the output before and after it, and its answer
+abbrev pub Runs : Type 1
+Runs = Option (List ℕ) → Option (List ℕ) → Result ℕ ProgramFault → Type 0
+
+-- each such run writes so, whatever was written before
+abbrev pub AlwaysWrites : Runs → (List ℕ → Type 0) → ℕ → Type 0
+AlwaysWrites Run Are status = (old new : Option (List ℕ)) (answer : Result ℕ ProgramFault) → Run old new answer → Writes Are status old new answer
+
+-- and these very bytes
+abbrev pub AlwaysPrints : Runs → List ℕ → ℕ → Type 0
+AlwaysPrints Run text status = AlwaysWrites Run (λ bytes. bytes ≡ text) status
+
+-- the keys of entries; that they strictly increase; and the entries with this value of the key
+abbrev pub keys : List (ℕ × ℕ) → List ℕ
+keys entries = map (λ e. e.0) entries
+
+abbrev pub KeysIncrease : List (ℕ × ℕ) → Type 0
+KeysIncrease entries = IsStrictlySortedBy nat_cmp (keys entries)
+
+abbrev pub with_value : ℕ → ℕ → List (ℕ × ℕ) → List (ℕ × ℕ)
+with_value key value entries = map (λ e. if e.0 == key then (key, value) else e) entries

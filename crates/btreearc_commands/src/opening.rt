@@ -1,0 +1,59 @@
+//! Opening archives that anybody wrote.
+ghost use Rattle.std.specs.Prelude.{◌≡◌, ℕ, List, IfOk, IfErr, IsOk, Err};
+ghost use Rattle.rkyv_btree_base.specs.Refusal.{Refusal};
+ghost use Rattle.btreearc_commands.specs.Opening.{IsArchive, IsOpenFault, RefusesArchive, entries_read, root_of};
+
+use btreearc_lines::fault::ProgramFault;
+use rkyv_btree::map::access;
+use rkyv_btree::view::View;
+use rkyv_btree_base::map::ArchivedBTreeMap;
+use rkyv_btree_base::numbers::ArchivedU32;
+use rkyv_btree_base::refusal::Refusal;
+use rkyv_btree_base::verify::faults_are_exact;
+
+/// The maps that the program archives.
+pub type Numbers = ArchivedBTreeMap<ArchivedU32, ArchivedU32, 5>;
+
+/// The bytes of a root.
+const ROOT_SIZE: usize = 8;
+
+/// The map of an archive, whose root is the last eight bytes. Fewer bytes are opened at position 0.
+///
+/// # Errors
+///
+/// `Refused` by the first fact, in the order of checking, for which the bytes are no archive.
+#[tactic(auto, using(crate::proofs::Built::numbers_fit))]
+pub fn open(archive: &[u8]) -> Result<View<'_, Numbers>, ProgramFault>
+    ensures buffer { IfOk result (λ map. map.buf.now ≡ archive.now) }
+    ensures position { IfOk result (λ map. map.pos ≡ root_of archive.now) }
+    ensures accepted { IfOk result (λ map.
+        IsArchive archive.now (entries_read map.buf.now map.pos)) }
+    ensures all_accepted { (entries : List (ℕ × ℕ)) → IsArchive archive.now entries → IsOk result }
+    ensures refused { IfErr result (IsOpenFault archive.now) }
+    ensures all_refused { (refusal : Refusal) → RefusesArchive archive.now refusal →
+        result ≡ Err (ProgramFault.Refused refusal) }
+{
+    let root = archive.len().saturating_sub(ROOT_SIZE);
+    let Ok(root) = u32::try_from(root) else {
+        return Err(ProgramFault::Refused(Refusal::TooLong));
+    };
+    match access::<ArchivedU32, ArchivedU32, 5>(archive, root) {
+        Ok(map) => Ok(map),
+        Err(refusal) => Err(ProgramFault::Refused(refusal)),
+    }
+}
+
+/// What is refused is no archive of any list.
+#[tactic(auto, using(crate::proofs::Built::numbers_fit))]
+pub fn refused_is_no_archive()
+    ensures { (b : List ℕ) (refusal : Refusal) (entries : List (ℕ × ℕ)) → RefusesArchive b refusal →
+        IsArchive b entries → ⊥ }
+{
+    faults_are_exact::<ArchivedU32, ArchivedU32, 5>();
+}
+
+/// Bytes are an archive of one list alone.
+pub fn one_list()
+    ensures { (b : List ℕ) (entries others : List (ℕ × ℕ)) → IsArchive b entries →
+        IsArchive b others → entries ≡ others }
+{}

@@ -1,0 +1,49 @@
+//! Why the program fails.
+ghost use Rattle.std.specs.Prelude.{Some};
+ghost use Rattle.btreearc_lines.specs.Faults.{line_of};
+
+use rkyv_btree_base::fault::Fault;
+use rkyv_btree_base::refusal::Refusal;
+use std::alloc::AllocError;
+use std::error::Error;
+use std::fmt;
+
+/// Why the program fails. Its text is the line that is printed.
+#[derive(Debug, Drop)]
+pub enum ProgramFault {
+    /// The words name no command, or are too few or too many.
+    Usage,
+    /// The first line that is no entry, counted from 1.
+    Line(u64),
+    /// The input is no archive.
+    Refused(Refusal),
+    /// The entries can't be archived.
+    NotBuilt(Fault<AllocError>),
+    /// A read failed.
+    InputFailed,
+    /// A write failed, and how much was written isn't known.
+    OutputFailed,
+    /// There is no memory for the input or the output.
+    Memory,
+}
+
+impl fmt::Display for ProgramFault {
+    ghost output = { λ fault. Some (line_of fault) };
+
+    fn fmt<W: fmt::Write>(&self, f: &mut fmt::Formatter<W>) -> fmt::Result {
+        match self {
+            ProgramFault::Usage => write!(
+                f,
+                "usage: btreearc build | list | get KEY | range LOW HIGH | check | set KEY VALUE"
+            ),
+            ProgramFault::Line(line) => write!(f, "btreearc: line {line}: not KEY VALUE"),
+            ProgramFault::Refused(refusal) => write!(f, "btreearc: refused: {refusal}"),
+            ProgramFault::NotBuilt(fault) => write!(f, "btreearc: not built: {fault}"),
+            ProgramFault::InputFailed => write!(f, "btreearc: input failed"),
+            ProgramFault::OutputFailed => write!(f, "btreearc: output failed"),
+            ProgramFault::Memory => write!(f, "btreearc: out of memory"),
+        }
+    }
+}
+
+impl Error for ProgramFault {}

@@ -1,0 +1,8 @@
+//! What the program `btreearc` reads and says: entries in lines of two numbers, the words of its commands, all bytes of a
+//! reader and to a writer, and its faults with their texts.
+#![tactic(auto)]
+
+pub mod command;
+pub mod fault;
+pub mod lines;
+pub mod streams;
