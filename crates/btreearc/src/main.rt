@@ -1,8 +1,8 @@
 //! Archived maps of `u32` to `u32`: built from lines, checked, listed, looked up in and edited.
 #![tactic(auto)]
 
-use btreearc_lines::fault::ProgramFault;
 use btreearc_commands::program;
+use btreearc_lines::fault::ProgramFault;
 use std::env;
 use std::io::ErrorKind;
 use std::process::ExitCode;

@@ -4,8 +4,8 @@ ghost use Rattle.std.specs.Iterator.{YieldsFirstBy, item_count};
 ghost use Rattle.btreearc_commands.specs.Archive.{archive_of, HasArchive, IsBuildFault};
 ghost use Rattle.btreearc_commands.specs.Opening.{IsArchive};
 
-use btreearc_lines::fault::ProgramFault;
 use crate::opening::Numbers;
+use btreearc_lines::fault::ProgramFault;
 use rkyv_btree_base::place::VecWriter;
 use std::alloc::Global;
 

@@ -5,9 +5,9 @@ ghost use Rattle.btreearc_lines.specs.Grammar.{IsLines, lines, text_of};
 ghost use Rattle.btreearc_commands.specs.Opening.{IsArchive};
 ghost use Rattle.btreearc_commands.specs.Sessions.{IsBuilt, IsSetIn, AlwaysWrites, AlwaysPrints, KeysIncrease, keys, with_value};
 
-use btreearc_lines::fault::ProgramFault;
 use crate::opening::{one_list, refused_is_no_archive};
 use crate::program::run;
+use btreearc_lines::fault::ProgramFault;
 use rkyv_btree::lookup::{increasing_keys_are_found, what_is_found_is_equal};
 use rkyv_btree_base::numbers::ArchivedU32;
 use std::alloc::Global;

@@ -5,12 +5,12 @@ ghost use Rattle.btreearc_commands.specs.Commands.{Builds, Lists, Checks, Gets, 
 ghost use Rattle.btreearc_lines.specs.Words.{IsWord, IsWordAndNumber, IsWordAndNumbers, IsNoCommand};
 
 use crate::build;
-use btreearc_lines::command::Command;
-use btreearc_lines::fault::ProgramFault;
-use btreearc_lines::lines::parse_lines;
 use crate::listing::write_entries;
 use crate::opening::open;
 use crate::setting::set_value;
+use btreearc_lines::command::Command;
+use btreearc_lines::fault::ProgramFault;
+use btreearc_lines::lines::parse_lines;
 use btreearc_lines::streams::{read_all, write_all};
 use std::alloc::Global;
 use std::io::{Read, Write};

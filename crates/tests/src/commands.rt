@@ -1,9 +1,9 @@
 //! The commands over readers and writers in memory. The archives' bytes are those of the format's definition.
 
 use crate::same::same;
-use btreearc_lines::fault::ProgramFault;
 use btreearc_commands::laws::round_trip;
 use btreearc_commands::program::run;
+use btreearc_lines::fault::ProgramFault;
 use rkyv_btree_base::fault::{EntryFault, Fault, IteratorLengthMismatch};
 use std::alloc::{AllocError, Global};
 use std::io::{self, ErrorKind, Read, Write};
