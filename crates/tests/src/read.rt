@@ -9,6 +9,11 @@ pub(crate) fn number(view: View<ArchivedU32>) -> u32 {
     view.to_native()
 }
 
+/// The number that is an entry's value.
+pub(crate) fn value(entry: (View<ArchivedU32>, View<ArchivedU32>)) -> u32 {
+    entry.1.to_native()
+}
+
 /// The text that a view reads.
 pub(crate) fn text<'a>(view: View<'a, ArchivedText>) -> &'a str {
     view.as_str()
