@@ -2,11 +2,13 @@
 //! for building, checking and walking it, look-ups in a map of numbers, and std's maps to bytes and back. Without an argument it does nothing.
 #![tactic(auto)]
 
+mod maps;
 mod numbers;
 mod report;
 mod std_maps;
 mod writes;
 
+use crate::maps::write;
 use crate::report::Report;
 use anyhow::{Context, ensure};
 use rkyv_btree::map::access;
@@ -47,31 +49,60 @@ fn tell(rt: &impl Print, what: &str, time: Duration, count: u32) -> io::Result<(
     println!(rt; "{what} {count} text entries: {each} ns an entry")
 }
 
-/// Builds, checks and walks the map of so many entries.
-fn measure(rt: &HostRuntime, count: u32) -> anyhow::Result<()> {
-    ensure!(layout::fits::<ArchivedText, ArchivedU32, 5>(), "too large");
-    let entries = entries(rt.alloc(), count)?;
-    let mut writer = VecWriter::new(rt.alloc());
+/// Times the writing of the map of the entries, and answers where it stands.
+fn build(
+    rt: &HostRuntime,
+    entries: &[(String, u32)],
+    count: u32,
+    writer: &mut VecWriter,
+) -> anyhow::Result<u32> {
     let start = Instant::now(rt)?;
-    let items = entries
-        .iter()
-        .map(|entry: &(String, u32)| (&entry.0, &entry.1));
-    let tree = Map::serialize_from_ordered_iter(rt.alloc(), entries.len(), items, &mut writer)?;
-    let root = Map::write_root(entries.len(), tree, &mut writer)?;
+    let root = write(rt.alloc(), entries, writer)?;
     tell(rt, "build", start.elapsed(rt)?, count)?;
+    Ok(root)
+}
+
+/// Times the check of the map.
+fn check<'a>(
+    rt: &HostRuntime,
+    bytes: &'a [u8],
+    root: u32,
+    count: u32,
+) -> anyhow::Result<View<'a, Map>> {
+    ensure!(layout::fits::<ArchivedText, ArchivedU32, 5>(), "too large");
     let start = Instant::now(rt)?;
-    let map = access::<ArchivedText, ArchivedU32, 5>(writer.bytes(), root)?;
+    let map = access::<ArchivedText, ArchivedU32, 5>(bytes, root)?;
     tell(rt, "check", start.elapsed(rt)?, count)?;
-    let start = Instant::now(rt)?;
+    Ok(map)
+}
+
+/// The sum of the values and of the lengths of the keys that a visit is called with.
+fn visit(map: View<Map>) -> u64 {
     let mut met = 0u64;
     map.visit(|key: View<ArchivedText>, value: View<ArchivedU32>| {
         let len = key.as_str().len() as u64;
         met = met.wrapping_add(u64::from(value.to_native()).wrapping_add(len));
         ControlFlow::<(), ()>::Continue(())
     });
+    met
+}
+
+/// Times a walk of the map.
+fn walk(rt: &HostRuntime, map: View<Map>, count: u32) -> anyhow::Result<()> {
+    let start = Instant::now(rt)?;
+    let met = visit(map);
     tell(rt, "walk", start.elapsed(rt)?, count)?;
     ensure!(met > 0 || count == 0, "nothing was met");
     Ok(())
+}
+
+/// Builds, checks and walks the map of so many entries.
+fn measure(rt: &HostRuntime, count: u32) -> anyhow::Result<()> {
+    let entries = entries(rt.alloc(), count)?;
+    let mut writer = VecWriter::new(rt.alloc());
+    let root = build(rt, entries.as_slice(), count, &mut writer)?;
+    let map = check(rt, writer.bytes(), root, count)?;
+    walk(rt, map, count)
 }
 
 fn main(rt: HostRuntime) -> anyhow::Result<()> {

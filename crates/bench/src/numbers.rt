@@ -1,6 +1,7 @@
 //! Times maps of `u32` to `u32`, beside std's `BTreeMap` and a binary search in a sorted `Vec`: a million look-ups of keys
 //! that are there, in random order; walks; and ranges from such keys on, of a million entries in all.
 
+use crate::maps::write;
 use crate::report::Report;
 use crate::writes;
 use anyhow::ensure;
@@ -146,56 +147,102 @@ fn range_std(map: &BTreeMap<u32, u32>, keys: &[u32], entries: u32) -> u64 {
     sum
 }
 
-/// Times walks and ranges of both maps.
+/// Times walks of both maps.
 fn measure_walks(
     report: &Report,
     map: View<Map>,
     std_map: &BTreeMap<u32, u32>,
-    keys: &[u32],
 ) -> anyhow::Result<()> {
     let visited = report.time("port", "visit", report.count, || visit_archived(map))?;
+    let (port, std) = measure_iterators(report, map, std_map)?;
+    ensure!(visited == port && port == std, "sums differ");
+    Ok(())
+}
+
+/// Times the iterators of both maps, and tells their sums.
+fn measure_iterators(
+    report: &Report,
+    map: View<Map>,
+    std_map: &BTreeMap<u32, u32>,
+) -> anyhow::Result<(u64, u64)> {
     let port = report.time("port", "iter", report.count, || iter_archived(map))?;
     let std = report.time("std", "iter", report.count, || iter_std(std_map))?;
-    ensure!(visited == port && port == std, "sums differ");
-    let (hundreds, _) = keys.split_at(keys.len() / 100);
-    let (tens, _) = keys.split_at(keys.len() / 10);
-    let runs = [("range of 100", hundreds, 100), ("range of 10", tens, 10)];
-    for (what, starts, entries) in runs {
-        let ranges = LOOKUPS / entries;
-        let port = report.time(
-            "port",
-            what,
-            ranges,
-            || range_archived(map, starts, entries),
-        )?;
-        let std = report.time("std", what, ranges, || range_std(std_map, starts, entries))?;
-        ensure!(port == std, "sums differ");
-    }
+    Ok((port, std))
+}
+
+/// Times ranges of so many entries of both maps.
+fn measure_ranges(
+    report: &Report,
+    what: &str,
+    map: View<Map>,
+    std_map: &BTreeMap<u32, u32>,
+    starts: &[u32],
+    entries: u32,
+) -> anyhow::Result<()> {
+    let ranges = LOOKUPS / entries.max(1);
+    let port = report.time(
+        "port",
+        what,
+        ranges,
+        || range_archived(map, starts, entries),
+    )?;
+    let std = report.time("std", what, ranges, || range_std(std_map, starts, entries))?;
+    ensure!(port == std, "sums differ");
     Ok(())
+}
+
+/// Times look-ups in both maps and in the sorted entries.
+fn measure_lookups(
+    report: &Report,
+    map: View<Map>,
+    std_map: &BTreeMap<u32, u32>,
+    entries: &[(u32, u32)],
+    keys: &[u32],
+) -> anyhow::Result<()> {
+    let port = report.time("port", "get", LOOKUPS, || get_archived(map, keys))?;
+    let std = report.time("std", "get", LOOKUPS, || get_std(std_map, keys))?;
+    let sorted = report.time("sorted", "get", LOOKUPS, || get_sorted(entries, keys))?;
+    ensure!(port == std && std == sorted, "sums differ");
+    Ok(())
+}
+
+/// Times look-ups, walks and ranges of an archive of the entries, whose map stands at `root`.
+fn measure_reads(
+    report: &Report,
+    bytes: &[u8],
+    root: u32,
+    std_map: &BTreeMap<u32, u32>,
+    entries: &[(u32, u32)],
+    keys: &[u32],
+) -> anyhow::Result<()> {
+    ensure!(layout::fits::<ArchivedU32, ArchivedU32, 5>(), "too large");
+    let map = access::<ArchivedU32, ArchivedU32, 5>(bytes, root)?;
+    measure_lookups(report, map, std_map, entries, keys)?;
+    measure_walks(report, map, std_map)?;
+    let (hundreds, _) = keys.split_at(keys.len() / 100);
+    measure_ranges(report, "range of 100", map, std_map, hundreds, 100)?;
+    let (tens, _) = keys.split_at(keys.len() / 10);
+    measure_ranges(report, "range of 10", map, std_map, tens, 10)
+}
+
+/// Std's map of the entries.
+fn std_map(alloc: Global, entries: &[(u32, u32)]) -> Result<BTreeMap<u32, u32>, AllocError> {
+    let mut map = BTreeMap::new(alloc);
+    for (key, value) in entries {
+        map.insert(*key, *value)?;
+    }
+    Ok(map)
 }
 
 /// Times look-ups, walks, ranges and writes of maps of so many entries.
 pub fn measure(rt: &HostRuntime, count: u32) -> anyhow::Result<()> {
-    ensure!(layout::fits::<ArchivedU32, ArchivedU32, 5>(), "too large");
     let entries = entries(rt.alloc(), count)?;
     let keys = queries(rt.alloc(), count)?;
     let mut writer = VecWriter::new(rt.alloc());
-    let items = entries
-        .iter()
-        .map(|entry: &(u32, u32)| (&entry.0, &entry.1));
-    let tree = Map::serialize_from_ordered_iter(rt.alloc(), entries.len(), items, &mut writer)?;
-    let root = Map::write_root(entries.len(), tree, &mut writer)?;
-    let map = access::<ArchivedU32, ArchivedU32, 5>(writer.bytes(), root)?;
-    let mut std_map = BTreeMap::new(rt.alloc());
-    for (key, value) in &entries {
-        std_map.insert(*key, *value)?;
-    }
+    let root = write(rt.alloc(), entries.as_slice(), &mut writer)?;
+    let mut std_map = std_map(rt.alloc(), &entries)?;
     let report = Report { rt, count };
-    let port = report.time("port", "get", LOOKUPS, || get_archived(map, &keys))?;
-    let std = report.time("std", "get", LOOKUPS, || get_std(&std_map, &keys))?;
-    let sorted = report.time("sorted", "get", LOOKUPS, || get_sorted(&entries, &keys))?;
-    ensure!(port == std && std == sorted, "sums differ");
-    measure_walks(&report, map, &std_map, &keys)?;
+    measure_reads(&report, writer.bytes(), root, &std_map, &entries, &keys)?;
     let mut archive = writer.bytes().to_vec(rt.alloc())?;
     writes::measure(&report, &mut archive, root, &mut std_map, &keys)
 }

@@ -31,9 +31,14 @@ impl Report<'_> {
             answer = run();
             best = best.min(start.elapsed(self.rt)?.as_nanos());
         }
-        let tenths = best.saturating_mul(10) / u128::from(operations.max(1));
-        let (whole, tenth) = (tenths / 10, tenths % 10);
-        println!(self.rt; "{who} {what} n={} {whole}.{tenth} ns", self.count)?;
+        self.tell(who, what, operations, best)?;
         Ok(answer)
+    }
+
+    /// Prints the time of one operation, of so many nanoseconds for all of them.
+    fn tell(&self, who: &str, what: &str, operations: u32, nanos: u128) -> io::Result<()> {
+        let tenths = nanos.saturating_mul(10) / u128::from(operations.max(1));
+        let (whole, tenth) = (tenths / 10, tenths % 10);
+        println!(self.rt; "{who} {what} n={} {whole}.{tenth} ns", self.count)
     }
 }

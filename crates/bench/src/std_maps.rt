@@ -3,24 +3,13 @@
 use crate::report::Report;
 use anyhow::{Context, ensure};
 use rkyv_btree::deserialize::Deserialize;
-use rkyv_btree::map::access;
-use rkyv_btree::view::View;
-use rkyv_btree_base::layout;
-use rkyv_btree_base::map::ArchivedBTreeMap;
-use rkyv_btree_base::numbers::ArchivedU32;
-use rkyv_btree_base::text::ArchivedText;
+use rkyv_btree::whole::open;
+use rkyv_btree_base::archive::{Archive, Serialize};
+use rkyv_btree_base::check::{CheckBytes, Portable};
+use rkyv_btree_base::place::VecWriter;
 use rkyv_btree_base::whole::to_archive;
 use std::alloc::{AllocError, Global};
 use std::collections::BTreeMap;
-
-type Numbers = ArchivedBTreeMap<ArchivedU32, ArchivedU32, 5>;
-
-type Texts = ArchivedBTreeMap<ArchivedText, ArchivedU32, 5>;
-
-/// Where the map of an archive stands.
-fn root_of(bytes: &[u8]) -> u32 {
-    u32::try_from(bytes.len().saturating_sub(8)).unwrap_or(0)
-}
 
 /// A map of so many numbers to themselves.
 fn numbers(alloc: Global, count: u32) -> Result<BTreeMap<u32, u32>, AllocError> {
@@ -40,58 +29,63 @@ fn texts(alloc: Global, count: u32) -> Result<BTreeMap<String, u32>, AllocError>
     Ok(map)
 }
 
-/// Times a map of numbers.
-fn measure_numbers(report: &Report, alloc: Global) -> anyhow::Result<()> {
-    ensure!(layout::fits::<ArchivedU32, ArchivedU32, 5>(), "too large");
-    let map = numbers(alloc, report.count)?;
-    let bytes = report
+/// Times the writing of a map's archive.
+fn to_bytes<T: Serialize<VecWriter, Global>>(
+    report: &Report,
+    alloc: Global,
+    what: &str,
+    map: &T,
+) -> anyhow::Result<Vec<u8>> {
+    ensure!(T::Archived::fits(), "too large");
+    report
+        .time("port", what, report.count, || to_archive(alloc, map).ok())?
+        .context("no archive")
+}
+
+/// Times the reading of a map from its archive.
+fn from_bytes<T: Archive + PartialEq + Drop>(
+    report: &Report,
+    alloc: Global,
+    what: &str,
+    bytes: &[u8],
+) -> anyhow::Result<T>
+where
+    T::Archived: CheckBytes + Deserialize<T>,
+{
+    ensure!(T::Archived::fits(), "too large");
+    let view = open::<T::Archived>(bytes)?;
+    report
         .time(
             "port",
-            "to bytes, u32",
+            what,
             report.count,
-            || to_archive(alloc, &map).ok(),
+            || T::Archived::deserialize(alloc, &view).ok(),
         )?
-        .context("no archive")?;
-    let view = access::<ArchivedU32, ArchivedU32, 5>(&bytes, root_of(&bytes))?;
-    let back = report
-        .time(
-            "port",
-            "to BTreeMap, u32",
-            report.count,
-            || Numbers::deserialize(alloc, &view).ok(),
-        )?
-        .context("no map")?;
-    ensure!(back == map, "another map");
+        .context("no map")
+}
+
+/// Times a map's writing and reading, and sees that it comes back.
+fn measure_map<T>(
+    report: &Report,
+    alloc: Global,
+    map: &T,
+    writing: &str,
+    reading: &str,
+) -> anyhow::Result<()>
+where
+    T: Archive + Serialize<VecWriter, Global> + PartialEq + Drop,
+    T::Archived: CheckBytes + Deserialize<T>,
+{
+    let bytes = to_bytes(report, alloc, writing, map)?;
+    let back: T = from_bytes(report, alloc, reading, &bytes)?;
+    ensure!(back == *map, "another map");
     Ok(())
 }
 
-/// Times a map of texts.
-fn measure_texts(report: &Report, alloc: Global) -> anyhow::Result<()> {
-    ensure!(layout::fits::<ArchivedText, ArchivedU32, 5>(), "too large");
-    let map = texts(alloc, report.count)?;
-    let bytes = report
-        .time(
-            "port",
-            "to bytes, text",
-            report.count,
-            || to_archive(alloc, &map).ok(),
-        )?
-        .context("no archive")?;
-    let view = access::<ArchivedText, ArchivedU32, 5>(&bytes, root_of(&bytes))?;
-    let back = report
-        .time(
-            "port",
-            "to BTreeMap, text",
-            report.count,
-            || Texts::deserialize(alloc, &view).ok(),
-        )?
-        .context("no map")?;
-    ensure!(back == map, "another map");
-    Ok(())
-}
-
-/// Times both.
+/// Times a map of numbers and one of texts.
 pub fn measure(report: &Report, alloc: Global) -> anyhow::Result<()> {
-    measure_numbers(report, alloc)?;
-    measure_texts(report, alloc)
+    let map = numbers(alloc, report.count)?;
+    measure_map(report, alloc, &map, "to bytes, u32", "to BTreeMap, u32")?;
+    let map = texts(alloc, report.count)?;
+    measure_map(report, alloc, &map, "to bytes, text", "to BTreeMap, text")
 }

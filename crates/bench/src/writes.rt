@@ -71,6 +71,20 @@ fn visit_std(map: &mut BTreeMap<u32, u32>) {
     }
 }
 
+/// Times writes into the archived map, and tells how many keys were found.
+fn measure_archived(report: &Report, map: &mut MapSeal<Map>, keys: &[u32]) -> anyhow::Result<u32> {
+    let found = report.time("port", "set", LOOKUPS, || set_archived(map, keys))?;
+    report.time("port", "visit_seal", report.count, || visit_archived(map))?;
+    Ok(found)
+}
+
+/// The same of std's map.
+fn measure_std(report: &Report, map: &mut BTreeMap<u32, u32>, keys: &[u32]) -> anyhow::Result<u32> {
+    let found = report.time("std", "set", LOOKUPS, || set_std(map, keys))?;
+    report.time("std", "iter_mut", report.count, || visit_std(map))?;
+    Ok(found)
+}
+
 /// Times writes into the archive of a map at `root`, and into std's map of the same entries.
 pub fn measure(
     report: &Report,
@@ -81,19 +95,10 @@ pub fn measure(
 ) -> anyhow::Result<()> {
     ensure!(layout::fits::<ArchivedU32, ArchivedU32, 5>(), "too large");
     let mut map = access_mut::<ArchivedU32, ArchivedU32, 5>(&mut *archive, root)?;
-    let port = report.time("port", "set", LOOKUPS, || set_archived(&mut map, keys))?;
-    report.time(
-        "port",
-        "visit_seal",
-        report.count,
-        || visit_archived(&mut map),
-    )?;
-    let std = report.time("std", "set", LOOKUPS, || set_std(std_map, keys))?;
-    report.time("std", "iter_mut", report.count, || visit_std(std_map))?;
+    let port = measure_archived(report, &mut map, keys)?;
+    let std = measure_std(report, std_map, keys)?;
     ensure!(port == std, "counts differ");
-    ensure!(
-        iter_archived(map.as_view()) == iter_std(std_map),
-        "sums differ"
-    );
+    let sums = (iter_archived(map.as_view()), iter_std(std_map));
+    ensure!(sums.0 == sums.1, "sums differ");
     Ok(())
 }

@@ -42,11 +42,17 @@ fn competes<const E: usize>(
     let built = read_tree::<E>(alloc, &words::<E>(rt, alloc, &other.entries)?)?;
     same(rt, (counts(&other), counts(&built)), (theirs, ours));
     same(rt, built.entries.as_slice(), other.entries.as_slice());
-    assert!(rt; built.nodes <= other.nodes);
-    assert!(rt; built.inners <= other.inners);
-    assert!(rt; built.levels <= other.levels);
-    assert!(rt; node_bytes::<E>(rt, &built) <= node_bytes::<E>(rt, &other));
+    is_no_greater::<E>(rt, &built, &other);
     Ok(())
+}
+
+/// Asserts that no count of a tree is greater than that of another, and that its nodes have no more bytes.
+fn is_no_greater<const E: usize>(rt: &impl Abort, built: &Reading, other: &Reading) {
+    same(rt, built.nodes <= other.nodes, true);
+    same(rt, built.inners <= other.inners, true);
+    same(rt, built.levels <= other.levels, true);
+    let (bytes, most) = (node_bytes::<E>(rt, built), node_bytes::<E>(rt, other));
+    same(rt, bytes <= most, true);
 }
 
 /// The bytes of nodes one behind the other, and of the map behind them.

@@ -7,6 +7,7 @@ use rkyv_btree::same_as::SameAs;
 use rkyv_btree::view::View;
 use rkyv_btree_base::archive::{Archive, Serialize};
 use rkyv_btree_base::check::{CheckBytes, Portable};
+use rkyv_btree_base::fault::Fault;
 use rkyv_btree_base::layout;
 use rkyv_btree_base::map::ArchivedBTreeMap;
 use rkyv_btree_base::numbers::{ArchivedU16, ArchivedU32, ArchivedU64};
@@ -14,11 +15,35 @@ use rkyv_btree_base::place::VecWriter;
 use rkyv_btree_base::scalars::{ArchivedChar, ArchivedNonZeroU32};
 use rkyv_btree_base::signed::{ArchivedI16, ArchivedI32, ArchivedI64};
 use rkyv_btree_base::text::ArchivedText;
-use std::alloc::Global;
+use std::alloc::{AllocError, Global};
 use std::collections::BTreeMap;
 use std::num::NonZeroU32;
 use std::process::Abort;
 use std::test::Fail;
+
+/// Archives entries that are claimed to be so many, and answers where their map stands.
+pub(crate) fn archive_claimed<KU, VU, K, V, const E: usize>(
+    rt: &impl Abort,
+    alloc: Global,
+    claim: usize,
+    entries: &[(KU, VU)],
+    writer: &mut VecWriter,
+) -> Result<u32, Fault<AllocError>>
+where
+    KU: Archive<Archived = K> + Serialize<VecWriter, Global>,
+    VU: Archive<Archived = V> + Serialize<VecWriter, Global>,
+    K: Portable,
+    V: Portable,
+{
+    assert!(rt; layout::fits::<K, V, E>());
+    let root = ArchivedBTreeMap::<K, V, E>::serialize_from_ordered_iter(
+        alloc,
+        claim,
+        entries.iter().map(|entry| (&entry.0, &entry.1)),
+        writer,
+    )?;
+    ArchivedBTreeMap::<K, V, E>::write_root(claim, root, writer)
+}
 
 /// Archives entries, and answers where their map stands.
 pub(crate) fn archive<KU, VU, K, V, const E: usize>(
@@ -33,14 +58,8 @@ where
     K: Portable,
     V: Portable,
 {
-    assert!(rt; layout::fits::<K, V, E>());
-    let root = ArchivedBTreeMap::<K, V, E>::serialize_from_ordered_iter(
-        alloc,
-        entries.len(),
-        entries.iter().map(|entry| (&entry.0, &entry.1)),
-        writer,
-    )?;
-    Ok(ArchivedBTreeMap::<K, V, E>::write_root(entries.len(), root, writer)?)
+    let len = entries.len();
+    Ok(archive_claimed::<KU, VU, K, V, E>(rt, alloc, len, entries, writer)?)
 }
 
 /// The map at a position.

@@ -1,4 +1,5 @@
 //! The headline's functions, at maps of numbers.
+use crate::read::{number, value};
 use crate::same::same;
 use examples::headline::{
     ArchiveAt, archived, archived_set, archived_std_map, archived_std_set, looked_up,
@@ -123,12 +124,8 @@ fn walks_give_the_entries(rt: HostRuntime) -> Result<(), Fail> {
     for (key, value) in given.entries {
         let (wanted, rest) = left.split_first().ok_or("too many entries")?;
         same(&rt, (key.to_native(), value.to_native()), *wanted);
-        same(&rt, keys.next().map(|key| key.to_native()), Some(wanted.0));
-        same(
-            &rt,
-            values.next().map(|value| value.to_native()),
-            Some(wanted.1),
-        );
+        same(&rt, keys.next().map(number), Some(wanted.0));
+        same(&rt, values.next().map(number), Some(wanted.1));
         left = rest;
     }
     assert!(rt; left.is_empty());
@@ -154,7 +151,6 @@ fn a_visit_ends_at_a_break(rt: HostRuntime) -> Result<(), Fail> {
 #[test]
 fn keys_are_looked_up(rt: HostRuntime) -> Result<(), Fail> {
     let made = archive(&rt, rt.alloc(), 5)?;
-    assert!(rt; layout::fits::<ArchivedU32, ArchivedU32, 2>());
     for (key, wanted) in [
         (0u32, None),
         (1, Some(10)),
@@ -162,10 +158,7 @@ fn keys_are_looked_up(rt: HostRuntime) -> Result<(), Fail> {
         (9, Some(90)),
         (10, None),
     ] {
-        let bytes = key.to_le_bytes();
-        let key = View::<ArchivedU32>::check(&bytes, 0)?;
-        let found = looked_up::<ArchivedU32, ArchivedU32, 2>(&made.bytes, made.pos, key)?;
-        same(&rt, found.map(|entry| entry.1.to_native()), wanted);
+        same(&rt, finds(&rt, &made.bytes, made.pos, key)?, wanted);
     }
     Ok(())
 }
@@ -190,22 +183,46 @@ fn ranges_are_within_their_bounds(rt: HostRuntime) -> Result<(), Fail> {
 #[test]
 fn one_value_is_sealed(rt: HostRuntime) -> Result<(), Fail> {
     let mut made = archive(&rt, rt.alloc(), 5)?;
-    assert!(rt; layout::fits::<ArchivedU32, ArchivedU32, 2>());
     let before = made.bytes.clone()?;
-    let key = 5u32.to_le_bytes();
-    let key = View::<ArchivedU32>::check(&key, 0)?;
-    assert!(rt; sealed::<ArchivedU32, ArchivedU32, 2>(&mut made.bytes, made.pos, key, 51)?);
+    let is_written = writes(&rt, &mut made.bytes, made.pos, 5, 51);
+    same(&rt, is_written, Ok(true));
     let changed = before
         .iter()
         .zip(made.bytes.iter())
         .filter(|pair| pair.0 != pair.1);
     same(&rt, changed.count(), 1);
-    let found = looked_up::<ArchivedU32, ArchivedU32, 2>(&made.bytes, made.pos, key)?;
-    same(&rt, found.map(|entry| entry.1.to_native()), Some(51));
-    let absent = 6u32.to_le_bytes();
-    let absent = View::<ArchivedU32>::check(&absent, 0)?;
-    assert!(rt; !sealed::<ArchivedU32, ArchivedU32, 2>(&mut made.bytes, made.pos, absent, 61)?);
-    let misplaced = sealed::<ArchivedU32, ArchivedU32, 2>(&mut made.bytes, 1, key, 0);
+    same(&rt, finds(&rt, &made.bytes, made.pos, 5)?, Some(51));
+    Ok(())
+}
+
+#[test]
+fn no_other_value_is_sealed(rt: HostRuntime) -> Result<(), Fail> {
+    let mut made = archive(&rt, rt.alloc(), 5)?;
+    let absent = writes(&rt, &mut made.bytes, made.pos, 6, 61);
+    same(&rt, absent, Ok(false));
+    let misplaced = writes(&rt, &mut made.bytes, 1, 5, 0);
     same(&rt, misplaced, Err(Refusal::Misaligned { pos: 1 }));
     Ok(())
+}
+
+/// Whether a key has a value that is written then.
+fn writes(
+    rt: &impl Abort,
+    bytes: &mut [u8],
+    pos: u32,
+    key: u32,
+    value: u32,
+) -> Result<bool, Refusal> {
+    assert!(rt; layout::fits::<ArchivedU32, ArchivedU32, 2>());
+    let key = key.to_le_bytes();
+    let key = View::<ArchivedU32>::check(&key, 0)?;
+    sealed::<ArchivedU32, ArchivedU32, 2>(bytes, pos, key, value)
+}
+
+/// The value of a key.
+fn finds(rt: &impl Abort, bytes: &[u8], pos: u32, key: u32) -> Result<Option<u32>, Refusal> {
+    assert!(rt; layout::fits::<ArchivedU32, ArchivedU32, 2>());
+    let key = key.to_le_bytes();
+    let key = View::<ArchivedU32>::check(&key, 0)?;
+    Ok(looked_up::<ArchivedU32, ArchivedU32, 2>(bytes, pos, key)?.map(value))
 }

@@ -56,6 +56,8 @@ mod prelude;
 #[cfg(test)]
 mod ranges;
 #[cfg(test)]
+mod read;
+#[cfg(test)]
 mod round_trips;
 #[cfg(test)]
 mod same;

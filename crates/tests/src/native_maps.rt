@@ -1,14 +1,17 @@
 //! Native maps and sets of archived ones: equal keys, other lists, maps in maps, damaged archives, and refused growths.
 
 use crate::convert::{self, archive, made};
+use crate::faults::tree;
 use crate::numbers::Numbers;
 use crate::opening::no_such_length;
+use crate::read::number;
 use crate::same::same;
 use rkyv_btree::deserialize::{Deserialize, DeserializeFault};
 use rkyv_btree::same_as::SameAs;
 use rkyv_btree::view::View;
 use rkyv_btree::whole::{ArchiveFault, from_archive, open};
 use rkyv_btree_base::archive::{Archive, Serialize};
+use rkyv_btree_base::build::BTreeMapResolver;
 use rkyv_btree_base::check::{CheckBytes, Portable};
 use rkyv_btree_base::layout;
 use rkyv_btree_base::map::ArchivedBTreeMap;
@@ -49,11 +52,7 @@ fn of_equal_keys_the_last_value_counts(rt: HostRuntime) -> Result<(), Fail> {
     let last = BTreeMap::from_array(rt.alloc(), [(1, 20)])?;
     assert!(rt; made == last);
     // A look-up finds the first, and the archive has two entries.
-    same(
-        &rt,
-        map.get_by(1u32).map(|value| value.to_native()),
-        Some(10),
-    );
+    same(&rt, map.get_by(1u32).map(number), Some(10));
     assert!(rt; !map.eq_map(&last));
     Ok(())
 }
@@ -68,22 +67,31 @@ fn equal_keys_stand_in_any_leaf(rt: HostRuntime) -> Result<(), Fail> {
     Ok(())
 }
 
+/// The native map of some entries.
+fn native(alloc: Global, entries: &[(u32, u32)]) -> Result<BTreeMap<u32, u32>, Fail> {
+    let mut map = BTreeMap::new(alloc);
+    for (key, value) in entries {
+        map.insert(*key, *value)?;
+    }
+    Ok(map)
+}
+
 #[test]
 fn a_map_is_the_same_as_its_own_entries_alone(rt: HostRuntime) -> Result<(), Fail> {
     let (bytes, pos) = archived(&rt, rt.alloc(), &[(1, 10), (2, 20)])?;
     let map = opened(&rt, bytes.as_slice(), pos);
-    let same = BTreeMap::from_array(rt.alloc(), [(2, 20), (1, 10)])?;
-    assert!(rt; map.eq_map(&same));
-    for others in [[(1, 10), (2, 21)], [(1, 11), (2, 20)], [(1, 10), (3, 20)]] {
-        let other = BTreeMap::from_array(rt.alloc(), others)?;
-        assert!(rt; !map.eq_map(&other));
+    let rows: [(&[(u32, u32)], bool); 7] = [
+        (&[(2, 20), (1, 10)], true),
+        (&[(1, 10), (2, 21)], false),
+        (&[(1, 11), (2, 20)], false),
+        (&[(1, 10), (3, 20)], false),
+        (&[(1, 10)], false),
+        (&[(1, 10), (2, 20), (3, 30)], false),
+        (&[], false),
+    ];
+    for (entries, is_same) in rows {
+        same(&rt, map.eq_map(&native(rt.alloc(), entries)?), is_same);
     }
-    let shorter = BTreeMap::from_array(rt.alloc(), [(1, 10)])?;
-    assert!(rt; !map.eq_map(&shorter));
-    let longer = BTreeMap::from_array(rt.alloc(), [(1, 10), (2, 20), (3, 30)])?;
-    assert!(rt; !map.eq_map(&longer));
-    let none: BTreeMap<u32, u32> = BTreeMap::new(rt.alloc());
-    assert!(rt; !map.eq_map(&none));
     Ok(())
 }
 
@@ -98,25 +106,25 @@ fn a_map_whose_keys_fall_is_no_native_one(rt: HostRuntime) -> Result<(), Fail> {
     Ok(())
 }
 
-/// A leaf with the key 7 over a map of numbers, whose tree comes first, and the root behind it.
-fn map_in_map(rt: &impl Abort, alloc: Global) -> Result<(Vec<u8>, u32), Fail> {
-    let mut writer = VecWriter::new(alloc);
-    let entries = [(1u32, 10u32), (1, 20), (2, 30)];
+/// A leaf at a position with the key 7 over a map of three entries: a kind, the key, the map's own bytes and the length.
+fn leaf_over(rt: &impl Abort, inner: BTreeMapResolver, at: u32) -> Result<[u8; 20], Fail> {
     assert!(rt; layout::fits::<ArchivedU32, ArchivedU32, 5>());
-    let inner = Numbers::serialize_from_ordered_iter(
-        alloc,
-        3,
-        entries.iter().map(|entry| (&entry.0, &entry.1)),
-        &mut writer,
-    )?;
-    // A kind, the key, the inner map's own bytes and the length.
     let mut leaf = [0; 20];
     leaf[4] = 7;
     leaf[16] = 1;
-    let at = u32::try_from(writer.pos()).expect(rt, "a position");
     let value = at.checked_add(8).expect(rt, "a position");
     assert!(rt; value <= 4_000_000_000);
     Numbers::resolve_from_len(3, inner, Place::new(value, &mut leaf[8..16]))?;
+    Ok(leaf)
+}
+
+/// A leaf with the key 7 over a map of numbers, whose tree comes first, and the root behind it.
+fn map_in_map(rt: &impl Abort, alloc: Global) -> Result<(Vec<u8>, u32), Fail> {
+    let mut writer = VecWriter::new(alloc);
+    let entries = [(1, 10), (1, 20), (2, 30)];
+    let inner = tree::<VecWriter>(rt, alloc, &entries, &mut writer)?;
+    let at = u32::try_from(writer.pos()).expect(rt, "a position");
+    let leaf = leaf_over(rt, inner, at)?;
     writer.write(&leaf)?;
     writer.write(&[0xEC, 0xFF, 0xFF, 0xFF, 1, 0, 0, 0])?;
     Ok((
@@ -165,6 +173,17 @@ where
     let bytes = to_archive(alloc, value)?;
     let view = open::<T::Archived>(bytes.as_slice())?;
     Ok(T::Archived::same_as(&view, other))
+}
+
+/// Asserts that the archive of neither of two values holds the same as the other.
+fn are_told_apart<T>(rt: &impl Abort, alloc: Global, one: &T, other: &T) -> Result<(), Fail>
+where
+    T: Archive + Serialize<VecWriter, Global>,
+    T::Archived: CheckBytes + SameAs<T>,
+{
+    same(rt, holds_the_same(rt, alloc, one, other)?, false);
+    same(rt, holds_the_same(rt, alloc, other, one)?, false);
+    Ok(())
 }
 
 /// Asserts that the archive of a value, with another byte at a place, is refused so.
@@ -292,13 +311,11 @@ fn a_set_comes_back_as_a_map_to_nothing(rt: HostRuntime) -> Result<(), Fail> {
 fn other_sets_are_told_apart(rt: HostRuntime) -> Result<(), Fail> {
     let alloc = rt.alloc();
     for count in COUNTS {
-        let own = numbers(alloc, count)?;
         let longer = numbers(alloc, count.wrapping_add(1))?;
-        assert!(rt; !holds_the_same(&rt, alloc, &own, &longer)?);
-        assert!(rt; !holds_the_same(&rt, alloc, &longer, &own)?);
         let mut other = numbers(alloc, count)?;
+        are_told_apart(&rt, alloc, &other, &longer)?;
         other.insert(count.wrapping_add(1))?;
-        assert!(rt; !holds_the_same(&rt, alloc, &longer, &other)?);
+        are_told_apart(&rt, alloc, &other, &longer)?;
     }
     Ok(())
 }
@@ -307,10 +324,15 @@ fn other_sets_are_told_apart(rt: HostRuntime) -> Result<(), Fail> {
 fn sets_of_other_pairs_are_told_apart(rt: HostRuntime) -> Result<(), Fail> {
     let alloc = rt.alloc();
     let own = BTreeSet::from_array(alloc, [(1u32, 2u8), (3, 4)])?;
-    assert!(rt; holds_the_same(&rt, alloc, &own, &own)?);
-    for others in [[(1, 2), (3, 5)], [(1, 2), (4, 4)], [(0, 2), (3, 4)]] {
-        let other = BTreeSet::from_array(alloc, others)?;
-        assert!(rt; !holds_the_same(&rt, alloc, &own, &other)?);
+    let rows = [
+        ([(1, 2), (3, 4)], true),
+        ([(1, 2), (3, 5)], false),
+        ([(1, 2), (4, 4)], false),
+        ([(0, 2), (3, 4)], false),
+    ];
+    for (keys, is_same) in rows {
+        let other = BTreeSet::from_array(alloc, keys)?;
+        same(&rt, holds_the_same(&rt, alloc, &own, &other)?, is_same);
     }
     Ok(())
 }
@@ -321,11 +343,15 @@ fn maps_of_other_maps_are_told_apart(rt: HostRuntime) -> Result<(), Fail> {
     let own = maps(alloc, 6)?;
     for (key, inner) in [(0, [(0, 6)]), (1, [(0, 5)]), (1, [(1, 6)]), (5, [(0, 6)])] {
         let mut other = maps(alloc, 6)?;
-        other.insert(key, BTreeMap::from_array(alloc, inner)?)?;
-        assert!(rt; !holds_the_same(&rt, alloc, &own, &other)?);
-        assert!(rt; !holds_the_same(&rt, alloc, &other, &own)?);
+        other.insert(key, native(alloc, &inner)?)?;
+        are_told_apart(&rt, alloc, &own, &other)?;
     }
     Ok(())
+}
+
+/// The set of one text.
+fn set_of(alloc: Global, text: &str) -> Result<BTreeSet<String>, Fail> {
+    Ok(BTreeSet::from_array(alloc, [String::from_str(alloc, text)?])?)
 }
 
 #[test]
@@ -334,10 +360,8 @@ fn maps_of_other_sets_are_told_apart(rt: HostRuntime) -> Result<(), Fail> {
     let own = sets(alloc, 6)?;
     for (key, text) in [(0, "0"), (1, ""), (1, "1"), (5, "0")] {
         let mut other = sets(alloc, 6)?;
-        let inner = BTreeSet::from_array(alloc, [String::from_str(alloc, text)?])?;
-        other.insert(key, inner)?;
-        assert!(rt; !holds_the_same(&rt, alloc, &own, &other)?);
-        assert!(rt; !holds_the_same(&rt, alloc, &other, &own)?);
+        other.insert(key, set_of(alloc, text)?)?;
+        are_told_apart(&rt, alloc, &own, &other)?;
     }
     Ok(())
 }
@@ -389,8 +413,7 @@ fn a_damaged_map_in_a_map_is_a_bad_entry(rt: HostRuntime) -> Result<(), Fail> {
 #[test]
 fn a_damaged_set_in_a_map_is_a_bad_entry(rt: HostRuntime) -> Result<(), Fail> {
     let alloc = rt.alloc();
-    let set = BTreeSet::from_array(alloc, [String::from_str(alloc, "a")?])?;
-    let map = BTreeMap::from_array(alloc, [(7u32, set)])?;
+    let map = BTreeMap::from_array(alloc, [(7u32, set_of(alloc, "a")?)])?;
     for change in [(0, 0xFF), (4, 2), (12, 5), (48, 6), (80, 2)] {
         is_refused_with(&rt, alloc, &map, change, Refusal::BadEntry { pos: 76 })?;
     }

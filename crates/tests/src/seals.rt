@@ -62,24 +62,29 @@ fn lends_nothing<const E: usize>(rt: &impl Abort, root: [u8; 8]) {
         ControlFlow::Break(())
     });
     same(rt, called, None);
-    assert!(rt; !map.set_by(0, 1));
-    let mut entries = opened::<E>(rt, &mut bytes, 0).iter_seal();
+    same(rt, map.set_by(0, 1), false);
+    cursors_lend_nothing::<E>(rt, &mut bytes);
+    same(rt, bytes, root);
+}
+
+/// Cursors along the empty map lend nothing, however often they are asked.
+fn cursors_lend_nothing<const E: usize>(rt: &impl Abort, bytes: &mut [u8]) {
+    let mut entries = opened::<E>(rt, &mut *bytes, 0).iter_seal();
     for _ in 0..3 {
-        assert!(rt; !entries.next());
+        same(rt, entries.next(), false);
         same(rt, entries.size_hint(), (0, Some(0)));
     }
-    let mut values = opened::<E>(rt, &mut bytes, 0).values_seal();
+    let mut values = opened::<E>(rt, &mut *bytes, 0).values_seal();
     for _ in 0..3 {
-        assert!(rt; !values.next());
+        same(rt, values.next(), false);
         same(rt, values.size_hint(), (0, Some(0)));
     }
     let from = Bound::Included(0u32);
-    let mut range = opened::<E>(rt, &mut bytes, 0).range_seal_by(from, Bound::Unbounded);
+    let mut range = opened::<E>(rt, &mut *bytes, 0).range_seal_by(from, Bound::Unbounded);
     for _ in 0..3 {
-        assert!(rt; !range.next());
+        same(rt, range.next(), false);
         same(rt, range.size_hint(), (0, None));
     }
-    same(rt, bytes, root);
 }
 
 #[test]
@@ -223,14 +228,41 @@ fn the_value_of_a_text_is_set(rt: HostRuntime) -> Result<(), Fail> {
     ];
     for (text, at) in rows {
         let want = with_minus_two(&rt, rt.alloc(), &before, at)?;
-        let mut bytes = before.as_slice().to_vec(rt.alloc())?;
-        assert_eq!(rt; is_set_by(&rt, &mut bytes, text), at.is_some(), "{text}");
-        assert_eq!(rt; bytes.as_slice(), want.as_slice(), "{text}");
-        let mut bytes = before.as_slice().to_vec(rt.alloc())?;
-        let is_set = is_set_by_view(&rt, rt.alloc(), &mut bytes, text)?;
-        assert_eq!(rt; is_set, at.is_some(), "{text}");
-        assert_eq!(rt; bytes.as_slice(), want.as_slice(), "{text}");
+        a_text_sets_its_value(&rt, rt.alloc(), &before, &want, text, at.is_some())?;
+        a_view_sets_its_value(&rt, rt.alloc(), &before, &want, text, at.is_some())?;
     }
+    Ok(())
+}
+
+/// Whether the value of a text is set is told, and these bytes are made of those.
+fn a_text_sets_its_value(
+    rt: &impl Abort,
+    alloc: Global,
+    before: &[u8],
+    want: &[u8],
+    text: &str,
+    is_there: bool,
+) -> Result<(), Fail> {
+    let mut bytes = before.to_vec(alloc)?;
+    let is_set = is_set_by(rt, &mut bytes, text);
+    same(rt, (text, is_set), (text, is_there));
+    assert_eq!(rt; bytes.as_slice(), want, "{text}");
+    Ok(())
+}
+
+/// The same by the view of a text.
+fn a_view_sets_its_value(
+    rt: &impl Abort,
+    alloc: Global,
+    before: &[u8],
+    want: &[u8],
+    text: &str,
+    is_there: bool,
+) -> Result<(), Fail> {
+    let mut bytes = before.to_vec(alloc)?;
+    let is_set = is_set_by_view(rt, alloc, &mut bytes, text)?;
+    same(rt, (text, is_set), (text, is_there));
+    assert_eq!(rt; bytes.as_slice(), want, "{text}");
     Ok(())
 }
 

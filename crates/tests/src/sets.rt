@@ -1,7 +1,9 @@
 //! Archived sets: their bytes, and what they answer beside std's.
 
+use crate::convert;
 use crate::ranges::is_between;
-use crate::same::same;
+use crate::read::{number, text};
+use crate::same::{same, shown};
 use crate::views::hashed;
 use rkyv_btree::set::access;
 use rkyv_btree::view::View;
@@ -9,9 +11,9 @@ use rkyv_btree_base::archive::{Archive, Serialize};
 use rkyv_btree_base::check::{CheckBytes, Portable};
 use rkyv_btree_base::fault::Fault;
 use rkyv_btree_base::layout;
-use rkyv_btree_base::map::ArchivedBTreeMap;
 use rkyv_btree_base::numbers::ArchivedU32;
 use rkyv_btree_base::place::VecWriter;
+use rkyv_btree_base::refusal::Refusal;
 use rkyv_btree_base::set::ArchivedBTreeSet;
 use rkyv_btree_base::text::ArchivedText;
 use std::alloc::{AllocError, Global};
@@ -72,17 +74,8 @@ fn the_set_of_one_empty_value_is_the_map_of_it(rt: HostRuntime) -> Result<(), Fa
     same(&rt, pos, 8);
     let want = [0u8, 0, 0, 0, 1, 0, 0, 0, 248, 255, 255, 255, 1, 0, 0, 0];
     same(&rt, set.bytes(), want.as_slice());
-    assert!(rt; layout::fits::<(), (), 5>());
     let mut map = VecWriter::new(rt.alloc());
-    let root = ArchivedBTreeMap::<(), (), 5>::serialize_from_ordered_iter(
-        rt.alloc(),
-        1,
-        [((), ())]
-            .iter()
-            .map(|entry: &((), ())| (&entry.0, &entry.1)),
-        &mut map,
-    )?;
-    ArchivedBTreeMap::<(), (), 5>::write_root(1, root, &mut map)?;
+    convert::archive::<(), (), (), (), 5>(&rt, rt.alloc(), &[((), ())], &mut map)?;
     same(&rt, map.bytes(), set.bytes());
     assert!(rt; opened::<(), 5>(&rt, set.bytes(), pos).contains_by(()));
     Ok(())
@@ -95,19 +88,20 @@ fn the_empty_set_has_no_keys(rt: HostRuntime) -> Result<(), Fail> {
     same(&rt, pos, 0);
     same(&rt, writer.bytes(), [1u8, 0, 0, 0, 0, 0, 0, 0].as_slice());
     let set = opened::<ArchivedU32, 5>(&rt, writer.bytes(), pos);
-    assert!(rt; set.is_empty());
-    same(&rt, set.len(), 0);
-    assert!(rt; set.iter().next().is_none());
-    assert!(rt;
-        set.range_by(Bound::<u32>::Unbounded, Bound::Unbounded)
-            .next()
-            .is_none()
-    );
-    let met = set.visit_keys(|key: View<ArchivedU32>| ControlFlow::Break(key.to_native()));
-    same(&rt, met, None);
-    assert!(rt; !set.contains_by(0));
-    assert!(rt; set.get_by(0).is_none());
+    same(&rt, (set.is_empty(), set.len()), (true, 0));
+    walks_meet_none(&rt, set);
+    same(&rt, set.contains_by(0), false);
+    same(&rt, set.get_by(0).is_none(), true);
     Ok(())
+}
+
+/// No walk of a set meets a key.
+fn walks_meet_none(rt: &impl Abort, set: View<ArchivedBTreeSet<ArchivedU32, 5>>) {
+    same(rt, set.iter().next().is_none(), true);
+    let mut range = set.range_by(Bound::<u32>::Unbounded, Bound::Unbounded);
+    same(rt, range.next().is_none(), true);
+    let met = set.visit_keys(|key: View<ArchivedU32>| ControlFlow::Break(key.to_native()));
+    same(rt, met, None);
 }
 
 #[test]
@@ -116,13 +110,11 @@ fn an_iterator_counts_what_is_left(rt: HostRuntime) -> Result<(), Fail> {
     let pos = archive::<u32, _, 1>(&rt, rt.alloc(), &[1, 2], &mut writer)?;
     let set = opened::<ArchivedU32, 1>(&rt, writer.bytes(), pos);
     let mut keys = set.iter();
-    same(&rt, keys.len(), 2);
-    same(&rt, keys.size_hint(), (2, Some(2)));
-    same(&rt, keys.next().map(|key| key.to_native()), Some(1));
-    same(&rt, keys.len(), 1);
-    same(&rt, keys.next().map(|key| key.to_native()), Some(2));
-    same(&rt, keys.len(), 0);
-    assert!(rt; keys.next().is_none());
+    for (left, key) in [(2, Some(1)), (1, Some(2)), (0, None)] {
+        same(&rt, keys.len(), left);
+        same(&rt, keys.size_hint(), (left, Some(left)));
+        same(&rt, keys.next().map(number), key);
+    }
     Ok(())
 }
 
@@ -143,18 +135,14 @@ type Texts = ArchivedBTreeSet<ArchivedText, 2>;
 fn texts_are_found(rt: &impl Abort, set: &View<Texts>) {
     assert!(rt; set.contains_by("b"));
     assert!(rt; !set.contains_by("ab"));
-    same(
-        rt,
-        set.get_by("\u{E9}").map(|key| key.as_str()),
-        Some("\u{E9}"),
-    );
+    same(rt, set.get_by("\u{E9}").map(text), Some("\u{E9}"));
 }
 
 /// The range behind the second of the four texts has the last two.
 fn has_range_of_texts(rt: &impl Abort, set: &View<Texts>) {
     let mut within = set.range_by(Bound::Excluded("a"), Bound::Unbounded);
-    same(rt, within.next().map(|key| key.as_str()), Some("b"));
-    same(rt, within.next().map(|key| key.as_str()), Some("\u{E9}"));
+    same(rt, within.next().map(text), Some("b"));
+    same(rt, within.next().map(text), Some("\u{E9}"));
     assert!(rt; within.next().is_none());
 }
 
@@ -165,7 +153,7 @@ fn a_set_of_texts_is_read(rt: HostRuntime) -> Result<(), Fail> {
     same(&rt, set.len(), 4);
     texts_are_found(&rt, &set);
     has_range_of_texts(&rt, &set);
-    let told = format!(in rt.alloc(); "{set:?}")?;
+    let told = shown(rt.alloc(), &set)?;
     same(&rt, told.as_str(), "{\"\", \"a\", \"b\", \"\u{E9}\"}");
     Ok(())
 }
@@ -207,7 +195,7 @@ fn is_walked_as<const E: usize>(
     same(rt, set.is_empty(), keys.is_empty());
     let mut met = set.iter();
     for key in keys.iter() {
-        same(rt, met.next().map(|key| key.to_native()), Some(*key));
+        same(rt, met.next().map(number), Some(*key));
     }
     assert!(rt; met.next().is_none());
 }
@@ -248,17 +236,9 @@ fn is_searched_as<const E: usize>(
     for query in asked.iter() {
         let key = query.to_native();
         same(rt, set.contains_by(key), keys.contains(&key));
-        same(
-            rt,
-            set.get_by(key).map(|met| met.to_native()),
-            keys.get(&key).copied(),
-        );
+        same(rt, set.get_by(key).map(number), keys.get(&key).copied());
         same(rt, set.contains_key(query), keys.contains(&key));
-        same(
-            rt,
-            set.get(query).map(|met| met.to_native()),
-            keys.get(&key).copied(),
-        );
+        same(rt, set.get(query).map(number), keys.get(&key).copied());
     }
 }
 
@@ -273,7 +253,7 @@ fn has_range<const E: usize>(
     let mut met = set.range_by(low, high);
     for key in keys.iter() {
         if is_between(low, high, *key) {
-            same(rt, met.next().map(|key| key.to_native()), Some(*key));
+            same(rt, met.next().map(number), Some(*key));
         }
     }
     assert!(rt; met.next().is_none());
@@ -347,68 +327,117 @@ fn a_range_between_archived_keys(rt: HostRuntime) -> Result<(), Fail> {
     let low = set.get_by(3).expect(&rt, "a key");
     let high = set.get_by(7).expect(&rt, "a key");
     let mut within = set.range(Bound::Included(low), Bound::Excluded(high));
-    same(&rt, within.next().map(|key| key.to_native()), Some(3));
-    same(&rt, within.next().map(|key| key.to_native()), Some(5));
+    same(&rt, within.next().map(number), Some(3));
+    same(&rt, within.next().map(number), Some(5));
     assert!(rt; within.next().is_none());
     Ok(())
 }
 
+/// Whether the sets of two lists of keys, of which the second stands behind some bytes, are equal, and so are their hashes.
+fn are_equal(
+    rt: &impl Abort,
+    alloc: Global,
+    one: &[u32],
+    other: &[u32],
+) -> Result<(bool, bool), Fail> {
+    let mut first = VecWriter::new(alloc);
+    let pos = archive::<u32, _, 5>(rt, alloc, one, &mut first)?;
+    let set = opened::<ArchivedU32, 5>(rt, first.bytes(), pos);
+    let mut second = VecWriter::from_vec([7, 8, 9].to_vec(alloc)?);
+    let pos = archive::<u32, _, 5>(rt, alloc, other, &mut second)?;
+    let like = opened::<ArchivedU32, 5>(rt, second.bytes(), pos);
+    same(rt, set != like, !(set == like));
+    Ok((set == like, hashed(&set) == hashed(&like)))
+}
+
 #[test]
 fn sets_of_equal_keys_are_equal(rt: HostRuntime) -> Result<(), Fail> {
-    let alloc = rt.alloc();
-    let mut first = VecWriter::new(alloc);
-    let pos = archive::<u32, _, 5>(&rt, alloc, &[1, 2], &mut first)?;
-    let set = opened::<ArchivedU32, 5>(&rt, first.bytes(), pos);
-    let mut second = VecWriter::from_vec([7, 8, 9].to_vec(alloc)?);
-    let pos = archive::<u32, _, 5>(&rt, alloc, &[1, 2], &mut second)?;
-    let alike = opened::<ArchivedU32, 5>(&rt, second.bytes(), pos);
-    let mut third = VecWriter::new(alloc);
-    let pos = archive::<u32, _, 5>(&rt, alloc, &[1, 3], &mut third)?;
-    let other = opened::<ArchivedU32, 5>(&rt, third.bytes(), pos);
-    assert!(rt; set == alike);
-    assert!(rt; set != other);
-    same(&rt, hashed(&set), hashed(&alike));
-    assert!(rt; hashed(&set) != hashed(&other));
-    let told = format!(in alloc; "{set:?}")?;
-    same(&rt, told.as_str(), "{1, 2}");
+    for (other, is_equal) in [([1, 2], true), ([1, 3], false)] {
+        let told = are_equal(&rt, rt.alloc(), &[1, 2], &other)?;
+        same(&rt, told, (is_equal, is_equal));
+    }
     Ok(())
 }
 
 #[test]
-fn a_set_is_the_same_as_its_own_keys_alone(rt: HostRuntime) -> Result<(), Fail> {
-    let alloc = rt.alloc();
+fn a_set_shows_its_keys(rt: HostRuntime) -> Result<(), Fail> {
+    let mut writer = VecWriter::new(rt.alloc());
+    let pos = archive::<u32, _, 5>(&rt, rt.alloc(), &[1, 2], &mut writer)?;
+    let set = opened::<ArchivedU32, 5>(&rt, writer.bytes(), pos);
+    let told = shown(rt.alloc(), &set)?;
+    same(&rt, told.as_str(), "{1, 2}");
+    Ok(())
+}
+
+/// Whether the set of a list of keys is the same as the native set of another.
+fn is_native_set(
+    rt: &impl Abort,
+    alloc: Global,
+    keys: &[u32],
+    others: &[u32],
+) -> Result<bool, Fail> {
     let mut writer = VecWriter::new(alloc);
-    let pos = archive::<u32, _, 2>(&rt, alloc, &[1, 3, 5], &mut writer)?;
-    let set = opened::<ArchivedU32, 2>(&rt, writer.bytes(), pos);
-    assert!(rt; set.eq_set(&BTreeSet::from_array(alloc, [5, 3, 1])?));
-    for others in [[0, 3, 5], [1, 4, 5], [1, 3, 6]] {
-        assert!(rt; !set.eq_set(&BTreeSet::from_array(alloc, others)?));
+    let pos = archive::<u32, _, 2>(rt, alloc, keys, &mut writer)?;
+    let set = opened::<ArchivedU32, 2>(rt, writer.bytes(), pos);
+    let mut native = BTreeSet::new(alloc);
+    for key in others {
+        native.insert(*key)?;
     }
-    assert!(rt; !set.eq_set(&BTreeSet::from_array(alloc, [1, 3])?));
-    assert!(rt; !set.eq_set(&BTreeSet::from_array(alloc, [1, 3, 5, 7])?));
-    let none: BTreeSet<u32> = BTreeSet::new(alloc);
-    assert!(rt; !set.eq_set(&none));
+    Ok(set.eq_set(&native))
+}
+
+#[test]
+fn a_set_is_the_same_as_its_own_keys_alone(rt: HostRuntime) -> Result<(), Fail> {
+    let rows: [(&[u32], bool); 7] = [
+        (&[5, 3, 1], true),
+        (&[0, 3, 5], false),
+        (&[1, 4, 5], false),
+        (&[1, 3, 6], false),
+        (&[1, 3], false),
+        (&[1, 3, 5, 7], false),
+        (&[], false),
+    ];
+    for (keys, is_same) in rows {
+        same(
+            &rt,
+            is_native_set(&rt, rt.alloc(), &[1, 3, 5], keys)?,
+            is_same,
+        );
+    }
     Ok(())
 }
 
 // A native set has no key twice.
 #[test]
 fn a_set_of_equal_keys_is_no_native_one(rt: HostRuntime) -> Result<(), Fail> {
-    let alloc = rt.alloc();
-    let mut writer = VecWriter::new(alloc);
-    let pos = archive::<u32, _, 2>(&rt, alloc, &[1, 1], &mut writer)?;
-    let set = opened::<ArchivedU32, 2>(&rt, writer.bytes(), pos);
-    assert!(rt; !set.eq_set(&BTreeSet::from_array(alloc, [1])?));
-    assert!(rt; !set.eq_set(&BTreeSet::from_array(alloc, [1, 2])?));
+    same(&rt, is_native_set(&rt, rt.alloc(), &[1, 1], &[1])?, false);
+    same(
+        &rt,
+        is_native_set(&rt, rt.alloc(), &[1, 1], &[1, 2])?,
+        false,
+    );
     Ok(())
+}
+
+/// The length of the set at a position, or why there is none.
+fn length_of_set(rt: &impl Abort, bytes: &[u8], pos: u32) -> Result<u32, Refusal> {
+    assert!(rt; layout::fits::<ArchivedU32, (), 2>());
+    Ok(access::<ArchivedU32, 2>(bytes, pos)?.len())
+}
+
+/// The length of the map at a position, or why there is none.
+fn length_of_map(rt: &impl Abort, bytes: &[u8], pos: u32) -> Result<u32, Refusal> {
+    assert!(rt; layout::fits::<ArchivedU32, (), 2>());
+    Ok(rkyv_btree::map::access::<ArchivedU32, (), 2>(bytes, pos)?.len())
 }
 
 /// Asserts that the bytes are refused as the map's, or are a set of as many keys as the map has.
 fn is_taken_as_the_map(rt: &impl Abort, bytes: &[u8], pos: u32) {
-    assert!(rt; layout::fits::<ArchivedU32, (), 2>());
-    let map = rkyv_btree::map::access::<ArchivedU32, (), 2>(bytes, pos);
-    let set = access::<ArchivedU32, 2>(bytes, pos);
-    same(rt, set.map(|set| set.len()), map.map(|map| map.len()));
+    same(
+        rt,
+        length_of_set(rt, bytes, pos),
+        length_of_map(rt, bytes, pos),
+    );
 }
 
 #[test]

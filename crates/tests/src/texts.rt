@@ -2,6 +2,7 @@
 
 use crate::faults::Failing;
 use crate::same::same;
+use crate::walks::long_text;
 use rkyv_btree_base::archive::{Archive, Serialize};
 use rkyv_btree_base::check::{CheckBytes, Portable, Window};
 use rkyv_btree_base::fault::{Fault, ResolveFault};
@@ -200,10 +201,7 @@ fn texts_of_a_leaf_stand_one_behind_another(rt: HostRuntime) -> Result<(), Fail>
 
 #[test]
 fn written_texts_are_accepted(rt: HostRuntime) -> Result<(), Fail> {
-    let mut long = String::new(rt.alloc());
-    for _ in 0..7000 {
-        long.push_str("ten bytes.")?;
-    }
+    let long = long_text(rt.alloc())?;
     let texts = [
         ("", 1u32),
         ("a", 2),

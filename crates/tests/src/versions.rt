@@ -1,8 +1,12 @@
 //! Maps of versions, as a program archives and reads them, and a map that is built in a heap of one's own.
+use crate::convert::{self, archive_claimed};
+use crate::faults::mismatch;
+use crate::read::number;
 use crate::same::same;
+use crate::texts::with_texts;
 use examples::version::{ArchivedVersion, NO_VERSION, Version};
 use linked_list_allocator::LocalHeap;
-use rkyv_btree::base::fault::{EntryFault, Fault, IteratorLengthMismatch};
+use rkyv_btree::base::fault::{EntryFault, Fault};
 use rkyv_btree::base::layout;
 use rkyv_btree::base::map::ArchivedBTreeMap;
 use rkyv_btree::base::numbers::ArchivedU32;
@@ -34,10 +38,15 @@ fn archive(
     releases: &[(Version, u32)],
     writer: &mut VecWriter,
 ) -> Result<u32, Fault<AllocError>> {
-    assert!(rt; layout::fits::<ArchivedVersion, ArchivedU32, 2>());
-    let items = releases.iter().map(|release| (&release.0, &release.1));
-    let root = Releases::serialize_from_ordered_iter(alloc, releases.len(), items, writer)?;
-    Releases::write_root(releases.len(), root, writer)
+    let len = releases.len();
+    archive_claimed::<Version, u32, ArchivedVersion, ArchivedU32, 2>(
+        rt, alloc, len, releases, writer,
+    )
+}
+
+/// The map of versions at a position.
+fn opened<'a>(rt: &impl Abort, bytes: &'a [u8], pos: u32) -> View<'a, Releases> {
+    convert::opened::<ArchivedVersion, ArchivedU32, 2>(rt, bytes, pos)
 }
 
 #[test]
@@ -49,18 +58,27 @@ fn versions_are_archived_and_read(rt: HostRuntime) -> Result<(), Fail> {
     ];
     let mut writer = VecWriter::new(rt.alloc());
     let pos = archive(&rt, rt.alloc(), &releases, &mut writer)?;
-    assert!(rt; layout::fits::<ArchivedVersion, ArchivedU32, 2>());
-    let opened = access::<ArchivedVersion, ArchivedU32, 2>(writer.bytes(), pos);
-    let map = opened.expect(&rt, "a map");
+    let map = opened(&rt, writer.bytes(), pos);
     let mut left = releases.as_slice();
     for (key, year) in map.iter() {
         let (first, rest) = left.split_first().ok_or("too many entries")?;
-        same(&rt, (key.to_native(), year.to_native()), *first);
-        let made = ArchivedVersion::deserialize(rt.alloc(), &key)?;
-        same(&rt, made, first.0);
+        same(&rt, year.to_native(), first.1);
+        is_read_as(&rt, rt.alloc(), &key, first.0)?;
         left = rest;
     }
-    assert!(rt; left.is_empty());
+    same(&rt, left.len(), 0);
+    Ok(())
+}
+
+/// A version is read so, whichever way.
+fn is_read_as(
+    rt: &impl Abort,
+    alloc: Global,
+    view: &View<ArchivedVersion>,
+    wanted: Version,
+) -> Result<(), Fail> {
+    same(rt, view.to_native(), wanted);
+    same(rt, ArchivedVersion::deserialize(alloc, view)?, wanted);
     Ok(())
 }
 
@@ -73,9 +91,7 @@ fn versions_are_looked_up(rt: HostRuntime) -> Result<(), Fail> {
     ];
     let mut writer = VecWriter::new(rt.alloc());
     let pos = archive(&rt, rt.alloc(), &releases, &mut writer)?;
-    assert!(rt; layout::fits::<ArchivedVersion, ArchivedU32, 2>());
-    let opened = access::<ArchivedVersion, ArchivedU32, 2>(writer.bytes(), pos);
-    let map = opened.expect(&rt, "a map");
+    let map = opened(&rt, writer.bytes(), pos);
     let rows = [
         (version(0, 9, 0), None),
         (version(0, 9, 1), Some(2019)),
@@ -86,19 +102,21 @@ fn versions_are_looked_up(rt: HostRuntime) -> Result<(), Fail> {
         (version(0, 0, 0), None),
     ];
     for (wanted, year) in rows {
-        let found = map.get_by(wanted).map(|value| value.to_native());
-        same(&rt, found, year);
-        let numbers = (wanted.major, wanted.minor, wanted.patch);
-        let found = map.get_by(numbers).map(|value| value.to_native());
-        same(&rt, found, year);
-        same(&rt, map.contains_by(wanted), year.is_some());
+        is_looked_up(&rt, &map, wanted, year);
     }
-    assert!(rt; map.contains_by((1, 0, 0)));
+    same(&rt, map.contains_by((1, 0, 0)), true);
     for (key, value) in map.iter() {
-        let found = map.get(key).map(|value| value.to_native());
-        same(&rt, found, Some(value.to_native()));
+        same(&rt, map.get(key).map(number), Some(value.to_native()));
     }
     Ok(())
+}
+
+/// Look-ups of a version, and of its numbers, find this year.
+fn is_looked_up(rt: &impl Abort, map: &View<Releases>, wanted: Version, year: Option<u32>) {
+    same(rt, map.get_by(wanted).map(number), year);
+    let numbers = (wanted.major, wanted.minor, wanted.patch);
+    same(rt, map.get_by(numbers).map(number), year);
+    same(rt, map.contains_by(wanted), year.is_some());
 }
 
 // A leaf of one entry: its kind, both keys, padding, both values, the length and the map.
@@ -171,53 +189,78 @@ fn views_of_versions_compare_as_versions(rt: HostRuntime) {
 
 type Texts = ArchivedBTreeMap<ArchivedText, ArchivedU32, 2>;
 
+/// What building the tree of some texts in a heap comes to.
+fn build_texts(
+    rt: &impl Abort,
+    heap: &LocalHeap,
+    texts: &[(String, u32)],
+    writer: &mut VecWriter,
+) -> Result<(), Fault<AllocError>> {
+    assert!(rt; layout::fits::<ArchivedText, ArchivedU32, 2>());
+    let items = texts.iter().map(|entry| (&entry.0, &entry.1));
+    Texts::serialize_from_ordered_iter(heap, texts.len(), items, writer)?;
+    Ok(())
+}
+
+/// Whether building in a heap with so much room succeeds. Else it has refused a growth, and has written nothing.
+fn has_room(
+    rt: &impl Abort,
+    alloc: Global,
+    texts: &[(String, u32)],
+    room: usize,
+) -> Result<bool, Fail> {
+    let heap = LocalHeap::new(alloc, room)?;
+    let mut writer = VecWriter::from_vec([0xAA].to_vec(alloc)?);
+    match build_texts(rt, &heap, texts, &mut writer) {
+        Ok(()) => return Ok(true),
+        Err(Fault::Memory(_)) => {}
+        Err(fault) => return Err(fault.into()),
+    }
+    same(rt, writer.bytes(), [0xAA].as_slice());
+    same(rt, heap.used(), 0);
+    Ok(false)
+}
+
 // The heap has room for one growth of building more from time to time, so each is the first to be refused.
 #[test]
 fn a_refused_growth_writes_nothing(rt: HostRuntime) -> Result<(), Fail> {
-    assert!(rt; layout::fits::<ArchivedText, ArchivedU32, 2>());
-    let texts = [
-        (String::from_str(rt.alloc(), "bar")?, 20u32),
-        (String::from_str(rt.alloc(), "bat")?, 80),
-        (String::from_str(rt.alloc(), "baz")?, 40),
-        (String::from_str(rt.alloc(), "foo")?, 10),
-    ];
+    let texts = [("bar", 20u32), ("bat", 80), ("baz", 40), ("foo", 10)];
+    let texts = with_texts(rt.alloc(), &texts)?;
     for room in 0..1000 {
-        let heap = LocalHeap::new(rt.alloc(), 16 * room)?;
-        let mut writer = VecWriter::from_vec([0xAA].to_vec(rt.alloc())?);
-        let items = texts.iter().map(|entry| (&entry.0, &entry.1));
-        match Texts::serialize_from_ordered_iter(&heap, texts.len(), items, &mut writer) {
-            Ok(_) => {
-                assert!(rt; room >= 6);
-                return Ok(());
-            }
-            Err(Fault::Memory(_)) => {}
-            Err(fault) => return Err(fault.into()),
+        if has_room(&rt, rt.alloc(), &texts, 16 * room)? {
+            same(&rt, room >= 6, true);
+            return Ok(());
         }
-        same(&rt, writer.bytes(), [0xAA].as_slice());
-        same(&rt, heap.used(), 0);
     }
     Err("no heap had room".into())
+}
+
+/// What building the tree of some versions, which are claimed to be so many, in a heap comes to.
+fn build_claimed(
+    rt: &impl Abort,
+    heap: &LocalHeap,
+    claim: usize,
+    releases: &[(Version, u32)],
+    writer: &mut VecWriter,
+) -> Result<(), Fault<AllocError>> {
+    assert!(rt; layout::fits::<ArchivedVersion, ArchivedU32, 2>());
+    let items = releases.iter().map(|release| (&release.0, &release.1));
+    Releases::serialize_from_ordered_iter(heap, claim, items, writer)?;
+    Ok(())
 }
 
 // The heap has no room at all, so that every growth is refused.
 #[test]
 fn a_claim_of_nothing_takes_no_memory(rt: HostRuntime) -> Result<(), Fail> {
-    assert!(rt; layout::fits::<ArchivedVersion, ArchivedU32, 2>());
     let heap = LocalHeap::new(rt.alloc(), 0)?;
     let mut writer = VecWriter::from_vec([0xAA].to_vec(rt.alloc())?);
     let releases = [(version(0, 9, 1), 2019u32), (version(1, 0, 0), 2020)];
-    let one = releases[..1].iter().map(|release| (&release.0, &release.1));
-    let refused = Releases::serialize_from_ordered_iter(&heap, 1, one, &mut writer);
-    assert!(rt; matches!(refused, Err(Fault::Memory(_))));
-    let none = releases[..0].iter().map(|release| (&release.0, &release.1));
-    assert!(rt; Releases::serialize_from_ordered_iter(&heap, 0, none, &mut writer).is_ok());
-    let two = releases.iter().map(|release| (&release.0, &release.1));
-    let refused = Releases::serialize_from_ordered_iter(&heap, 0, two, &mut writer);
-    let wrong = IteratorLengthMismatch {
-        expected: 0,
-        actual: 2,
-    };
-    assert!(rt; matches!(refused, Err(Fault::Length(mismatch)) if mismatch == wrong));
+    let refused = build_claimed(&rt, &heap, 1, &releases[..1], &mut writer);
+    same(&rt, matches!(refused, Err(Fault::Memory(_))), true);
+    let made = build_claimed(&rt, &heap, 0, &releases[..0], &mut writer);
+    same(&rt, made.is_ok(), true);
+    let refused = build_claimed(&rt, &heap, 0, &releases, &mut writer);
+    same(&rt, mismatch(refused), Some((0, 2)));
     same(&rt, writer.bytes(), [0xAA].as_slice());
     Ok(())
 }

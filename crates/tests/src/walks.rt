@@ -4,15 +4,15 @@ ghost use Rattle.rkyv_btree_base.specs.Scalars.{u32_kind};
 ghost use Rattle.rkyv_btree_base.specs.Read.{read_map};
 ghost use Rattle.rkyv_btree.specs.Visit.{first_given};
 
-use crate::convert::archive;
+use crate::convert::{archive, opened};
 use crate::same::same;
-use rkyv_btree::map::{access, access_valid};
+use rkyv_btree::map::access_valid;
 use rkyv_btree::view::View;
-use rkyv_btree_base::layout;
 use rkyv_btree_base::map::ArchivedBTreeMap;
 use rkyv_btree_base::numbers::{ArchivedU32, ArchivedU64};
 use rkyv_btree_base::place::VecWriter;
 use rkyv_btree_base::text::ArchivedText;
+use std::alloc::{AllocError, Global};
 use std::ops::ControlFlow;
 use std::test::Fail;
 
@@ -67,26 +67,36 @@ fn a_tree_is_walked(rt: HostRuntime) {
     );
 }
 
-#[test]
-fn written_texts_are_read(rt: HostRuntime) -> Result<(), Fail> {
-    let mut long = String::new(rt.alloc());
+/// A text of 70000 bytes.
+pub(crate) fn long_text(alloc: Global) -> Result<String, AllocError> {
+    let mut long = String::new(alloc);
     for _ in 0..7000 {
         long.push_str("ten bytes.")?;
     }
-    let texts = ["", "a", "\u{E9}", "\u{20AC}", "a\u{1F600}", long.as_str()];
-    let mut entries = Vec::new(rt.alloc());
+    Ok(long)
+}
+
+/// Each text with its length.
+fn with_lengths(alloc: Global, texts: &[&str]) -> Result<Vec<(String, u64)>, AllocError> {
+    let mut entries = Vec::new(alloc);
     for text in texts {
-        entries.push((String::from_str(rt.alloc(), text)?, text.len() as u64))?;
+        entries.push((String::from_str(alloc, text)?, text.len() as u64))?;
     }
+    Ok(entries)
+}
+
+#[test]
+fn written_texts_are_read(rt: HostRuntime) -> Result<(), Fail> {
+    let long = long_text(rt.alloc())?;
+    let texts = ["", "a", "\u{E9}", "\u{20AC}", "a\u{1F600}", long.as_str()];
+    let entries = with_lengths(rt.alloc(), &texts)?;
     let mut writer = VecWriter::new(rt.alloc());
     let root = archive::<String, u64, _, _, 2>(&rt, rt.alloc(), &entries, &mut writer)?;
-    assert!(rt; layout::fits::<ArchivedText, ArchivedU64, 2>());
-    let opened = access::<ArchivedText, ArchivedU64, 2>(writer.bytes(), root);
-    let mut read = opened.expect(&rt, "a map").iter();
+    let mut read = opened::<ArchivedText, ArchivedU64, 2>(&rt, writer.bytes(), root).iter();
     for text in texts {
         let met = read.next().map(|(k, v)| (k.as_str(), v.to_native()));
         same(&rt, met, Some((text, text.len() as u64)));
     }
-    assert!(rt; read.next().is_none());
+    same(&rt, read.next().is_none(), true);
     Ok(())
 }
