@@ -1,10 +1,10 @@
 //! Built archives with a byte changed, or cut.
 
+use crate::numbers::{archive, tens};
 use crate::same::same;
 use rkyv_btree::map::access;
 use rkyv_btree::view::View;
 use rkyv_btree_base::layout;
-use rkyv_btree_base::map::ArchivedBTreeMap;
 use rkyv_btree_base::numbers::ArchivedU32;
 use rkyv_btree_base::place::VecWriter;
 use std::alloc::Global;
@@ -14,22 +14,9 @@ use std::test::Fail;
 
 /// The archive of the keys 1 to `count`, each with ten times itself as its value.
 fn built(rt: &impl Abort, alloc: Global, count: u32) -> Result<Vec<u8>, Fail> {
-    assert!(rt; layout::fits::<ArchivedU32, ArchivedU32, 5>());
-    let mut entries = Vec::new(alloc);
-    for key in 0..count {
-        let key = key.wrapping_add(1);
-        entries.push((key, key.wrapping_mul(10)))?;
-    }
+    let entries = tens(alloc, count)?;
     let mut writer = VecWriter::new(alloc);
-    let root = ArchivedBTreeMap::<ArchivedU32, ArchivedU32, 5>::serialize_from_ordered_iter(
-        alloc,
-        entries.len(),
-        entries
-            .iter()
-            .map(|entry: &(u32, u32)| (&entry.0, &entry.1)),
-        &mut writer,
-    )?;
-    ArchivedBTreeMap::<ArchivedU32, ArchivedU32, 5>::write_root(entries.len(), root, &mut writer)?;
+    archive::<5>(rt, alloc, entries.len(), &entries, &mut writer)?;
     Ok(writer.into_vec())
 }
 

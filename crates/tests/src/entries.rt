@@ -1,11 +1,10 @@
 //! Entries as values.
 ghost use Rattle.std.specs.Prelude.{◌+◌, ◌*◌, ◌%◌, ◌^◌, fold};
 
-use crate::same::same;
+use crate::convert::archive;
+use crate::same::{same, shown};
 use rkyv_btree_base::archive::{Archive, Serialize};
 use rkyv_btree_base::check::{CheckBytes, Portable, Window};
-use rkyv_btree_base::layout;
-use rkyv_btree_base::map::ArchivedBTreeMap;
 use rkyv_btree_base::numbers::{ArchivedU16, ArchivedU32};
 use rkyv_btree_base::place::{Place, VecWriter};
 use rkyv_btree_base::refusal::Refusal;
@@ -147,20 +146,18 @@ fn an_entry_feeds_a_hasher_its_key_and_then_its_value(rt: HostRuntime) {
 
 #[test]
 fn parts_of_entries_have_names(rt: HostRuntime) -> Result<(), Fail> {
-    let told = format!(in rt.alloc();
-        "{:?}",
-        Entry {
-            key: 1u8,
-            value: true
-        }
-    )?;
+    let entry = Entry {
+        key: 1u8,
+        value: true,
+    };
+    let told = shown(rt.alloc(), &entry)?;
     same(&rt, told.as_str(), "Entry { key: 1, value: true }");
     let (key, value) = (1u8, true);
     let adapter = EntryAdapter::new(&key, &value);
     same(&rt, (*adapter.key, *adapter.value), (1, true));
     let resolver = EntryResolver { key, value };
     same(&rt, (resolver.key, resolver.value), (1, true));
-    let told = format!(in rt.alloc(); "{resolver:?}")?;
+    let told = shown(rt.alloc(), &resolver)?;
     same(&rt, told.as_str(), "EntryResolver { key: 1, value: true }");
     Ok(())
 }
@@ -211,21 +208,18 @@ fn an_entry_of_an_entry_is_padded_behind_both(rt: HostRuntime) -> Result<(), Fai
     Ok(())
 }
 
-type Entries = ArchivedBTreeMap<ArchivedU32, Entry<u8, ArchivedU16>, 1>;
-
 #[test]
 fn entries_are_values_of_a_map(rt: HostRuntime) -> Result<(), Fail> {
     let (key, value) = (1u8, 513u16);
     let items = [(7u32, EntryAdapter::new(&key, &value))];
     let mut writer = VecWriter::new(rt.alloc());
-    assert!(rt; layout::fits::<ArchivedU32, Entry<u8, ArchivedU16>, 1>());
-    let root = Entries::serialize_from_ordered_iter(
+    let pos = archive::<_, _, ArchivedU32, Entry<u8, ArchivedU16>, 1>(
+        &rt,
         rt.alloc(),
-        1,
-        items.iter().map(|item| (&item.0, &item.1)),
+        &items,
         &mut writer,
     )?;
-    same(&rt, Entries::write_root(1, root, &mut writer)?, 16);
+    same(&rt, pos, 16);
     let want = [
         0, 0, 0, 0, 7, 0, 0, 0, 1, 0, 1, 2, 1, 0, 0, 0, 0xF0, 0xFF, 0xFF, 0xFF, 1, 0, 0, 0,
     ];

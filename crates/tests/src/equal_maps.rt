@@ -4,7 +4,7 @@ use crate::convert;
 use crate::entries::Recorder;
 use crate::foreign::{CHILDLESS, OVER_EMPTY};
 use crate::numbers::archive;
-use crate::same::same;
+use crate::same::{same, shown};
 use crate::texts::{archive_texts, with_texts};
 use crate::views::hashed;
 use rkyv_btree::compare::{ViewEq, ViewHash};
@@ -155,7 +155,7 @@ fn a_map_of_texts_is_hashed_and_shown_entry_by_entry(rt: HostRuntime) -> Result<
     "b".hash(&mut state);
     2i32.hash(&mut state);
     same(&rt, hash_of(&map), state.finish());
-    let told = format!(in rt.alloc(); "{map:?}")?;
+    let told = shown(rt.alloc(), &map)?;
     same(&rt, told.as_str(), "{\"a\": 1, \"b\": 2}");
     Ok(())
 }
@@ -171,7 +171,7 @@ fn is_taken_and_shown_as<T: ViewHash + ViewDebug>(
     let mut taken = Recorder(0);
     map.hash(&mut taken);
     same(rt, taken.finish(), bytes);
-    let told = format!(in alloc; "{map:?}")?;
+    let told = shown(alloc, &map)?;
     same(rt, told.as_str(), text);
     Ok(())
 }

@@ -3,6 +3,7 @@ ghost use Rattle.std.specs.Prelude.{◌≤◌};
 
 use crate::convert::opened;
 use crate::opening::{begun, changed, no_such_length, opens, refusal_of, refuses};
+use crate::read::text_and_number;
 use crate::same::same;
 use rkyv_btree::view::View;
 use rkyv_btree_base::numbers::ArchivedU32;
@@ -132,11 +133,6 @@ const TEXTS: [u8; 60] = [
     216, 255, 255, 255, 1, 0, 0, 0, // pointers
     232, 255, 255, 255, 2, 0, 0, 0, // map
 ];
-
-/// The text and the number of an entry.
-fn text_and_number<'a>(entry: (View<'a, ArchivedText>, View<'a, ArchivedU32>)) -> (&'a str, u32) {
-    (entry.0.as_str(), entry.1.to_native())
-}
 
 #[test]
 fn no_two_keys_share_a_text(rt: HostRuntime) {

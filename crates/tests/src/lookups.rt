@@ -5,6 +5,7 @@ ghost use Rattle.rkyv_btree.specs.View.{reads};
 
 use crate::equal_maps::opened;
 use crate::numbers::archive;
+use crate::read::{number, numbers};
 use rkyv_btree::compare::ViewOrd;
 use rkyv_btree::native::ToNative;
 use rkyv_btree::query::CompareWith;
@@ -24,11 +25,6 @@ pub(crate) fn compare(query: &u32, key: View<ArchivedU32>) -> Ordering
     ensures { result ≡ nat_cmp query.now (reads key.entry) }
 {
     query.cmp(&key.to_native())
-}
-
-/// The numbers of an entry.
-pub(crate) fn numbers(entry: (View<ArchivedU32>, View<ArchivedU32>)) -> (u32, u32) {
-    (entry.0.to_native(), entry.1.to_native())
 }
 
 /// Asserts that each look-up finds this value of the key, or none.
@@ -67,9 +63,9 @@ fn finds_value<const E: usize>(
     want: Option<u32>,
 ) {
     let key = view.to_native();
-    let value = map.get(*view).map(|value| value.to_native());
+    let value = map.get(*view).map(number);
     assert_eq!(rt; value, want, "{key}");
-    let value = map.get_by(key).map(|value| value.to_native());
+    let value = map.get_by(key).map(number);
     assert_eq!(rt; value, want, "{key}");
 }
 

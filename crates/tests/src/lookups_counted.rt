@@ -1,7 +1,8 @@
 //! How many comparisons look-ups take, and look-ups by comparisons of one's own.
 
-use crate::lookups::{compare, numbers};
+use crate::lookups::compare;
 use crate::numbers::{Numbers, archive, tens};
+use crate::read::{numbers, value};
 use crate::same::same;
 use rkyv_btree::map::access;
 use rkyv_btree::view::View;
@@ -30,7 +31,7 @@ pub(crate) fn counted<const E: usize>(
     let mut steps = StepCounter::new();
     let found = map.get_key_value_counted(&key, count, &mut steps);
     assert_eq!(rt; steps.count(), calls.get(), "{key}");
-    (found.map(|entry| entry.1.to_native()), steps.count())
+    (found.map(value), steps.count())
 }
 
 /// The map of 1 to 9, five a node: a leaf with 1 to 4 stands under 5 to 9.

@@ -1,8 +1,8 @@
 //! Look-ups of keys of each type, by their views and by native values.
 
-use crate::convert;
 use crate::lookups::{is_there, is_there_by};
 use crate::same::same;
+use crate::{convert, read};
 use rkyv_btree::compare::ViewOrd;
 use rkyv_btree::query::CompareWith;
 use rkyv_btree::view::View;
@@ -95,9 +95,9 @@ where
     K: CheckBytes + ViewOrd + CompareWith<N>,
 {
     let want = (number != without).then_some(number);
-    let found = map.get(*key).map(|value| value.to_native());
+    let found = map.get(*key).map(read::number);
     assert_eq!(rt; found, want, "{number} without {without}");
-    let found = map.get_by(query).map(|value| value.to_native());
+    let found = map.get_by(query).map(read::number);
     assert_eq!(rt; found, want, "{number} without {without}");
     let is_told = is_there::<K, ArchivedU32, E>(map, key);
     same(rt, is_told, want.is_some());

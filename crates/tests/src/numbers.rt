@@ -1,5 +1,6 @@
 //! Archives of numbers, byte for byte.
 
+use crate::convert;
 use crate::same::same;
 use rkyv_btree_base::check::{CheckBytes, Window};
 use rkyv_btree_base::fault::Fault;
@@ -23,14 +24,9 @@ pub(crate) fn archive<const E: usize>(
     entries: &[(u32, u32)],
     writer: &mut VecWriter,
 ) -> Result<u32, Fault<AllocError>> {
-    assert!(rt; layout::fits::<ArchivedU32, ArchivedU32, E>());
-    let root = ArchivedBTreeMap::<ArchivedU32, ArchivedU32, E>::serialize_from_ordered_iter(
-        alloc,
-        claim,
-        entries.iter().map(|entry| (&entry.0, &entry.1)),
-        writer,
-    )?;
-    ArchivedBTreeMap::<ArchivedU32, ArchivedU32, E>::write_root(claim, root, writer)
+    convert::archive_claimed::<u32, u32, ArchivedU32, ArchivedU32, E>(
+        rt, alloc, claim, entries, writer,
+    )
 }
 
 /// The bytes of the map with the one entry 7 to 11, from a leaf at the first of them on.
@@ -86,20 +82,9 @@ fn a_leaf_starts_at_a_multiple_of_its_alignment(rt: HostRuntime) -> Result<(), F
 
 #[test]
 fn the_length_stands_behind_the_padding_of_the_values(rt: HostRuntime) -> Result<(), Fail> {
-    assert!(rt; layout::fits::<ArchivedU64, u8, 1>());
     let mut writer = VecWriter::new(rt.alloc());
-    let entries = [(5, 9)];
-    let root = ArchivedBTreeMap::<ArchivedU64, u8, 1>::serialize_from_ordered_iter(
-        rt.alloc(),
-        1,
-        entries.iter().map(|entry: &(u64, u8)| (&entry.0, &entry.1)),
-        &mut writer,
-    )?;
-    same(
-        &rt,
-        ArchivedBTreeMap::<ArchivedU64, u8, 1>::write_root(1, root, &mut writer)?,
-        32,
-    );
+    let pos = convert::archive::<u64, u8, _, _, 1>(&rt, rt.alloc(), &[(5, 9)], &mut writer)?;
+    same(&rt, pos, 32);
     let want = [
         0, 0, 0, 0, 0, 0, 0, 0, 5, 0, 0, 0, 0, 0, 0, 0, 9, 0, 0, 0, 0, 0, 0, 0, 1, 0, 0, 0, 0, 0,
         0, 0, 0xE0, 0xFF, 0xFF, 0xFF, 1, 0, 0, 0,
@@ -110,14 +95,11 @@ fn the_length_stands_behind_the_padding_of_the_values(rt: HostRuntime) -> Result
 
 #[test]
 fn keys_other_than_0_are_archived_as_numbers(rt: HostRuntime) -> Result<(), Fail> {
-    type Map = ArchivedBTreeMap<ArchivedNonZeroU32, ArchivedU32, 5>;
-    assert!(rt; layout::fits::<ArchivedNonZeroU32, ArchivedU32, 5>());
     let mut writer = VecWriter::new(rt.alloc());
     let seven = NonZeroU32::new(7).ok_or("7 is 0")?;
     let entries = [(seven, 11u32)];
-    let items = entries.iter().map(|entry| (&entry.0, &entry.1));
-    let root = Map::serialize_from_ordered_iter(rt.alloc(), 1, items, &mut writer)?;
-    same(&rt, Map::write_root(1, root, &mut writer)?, 48);
+    let pos = convert::archive::<NonZeroU32, u32, _, _, 5>(&rt, rt.alloc(), &entries, &mut writer)?;
+    same(&rt, pos, 48);
     same(&rt, writer.bytes(), one_entry().as_slice());
     Ok(())
 }
@@ -128,9 +110,7 @@ fn characters_and_nothing_are_archived(rt: HostRuntime) -> Result<(), Fail> {
     assert!(rt; layout::fits::<ArchivedChar, (), 2>());
     let mut writer = VecWriter::new(rt.alloc());
     let entries = [('a', ()), ('\u{10FFFF}', ())];
-    let items = entries.iter().map(|entry| (&entry.0, &entry.1));
-    let root = Map::serialize_from_ordered_iter(rt.alloc(), 2, items, &mut writer)?;
-    let pos = Map::write_root(2, root, &mut writer)?;
+    let pos = convert::archive::<char, (), _, _, 2>(&rt, rt.alloc(), &entries, &mut writer)?;
     let want = [
         0, 0, 0, 0, 97, 0, 0, 0, 0xFF, 0xFF, 0x10, 0, 2, 0, 0, 0, // leaf
         0xF0, 0xFF, 0xFF, 0xFF, 2, 0, 0, 0, // map

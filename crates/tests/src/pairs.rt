@@ -3,7 +3,7 @@ ghost use Rattle.std.specs.Prelude.{◌≡◌};
 ghost use Rattle.rkyv_btree_base.specs.Entry.{entry_kind};
 ghost use Rattle.rkyv_btree_base.specs.Scalars.{u8_kind, u32_kind};
 
-use crate::same::same;
+use crate::same::{same, shown};
 use crate::views::hashed;
 use rkyv_btree::view::View;
 use rkyv_btree_base::archive::{Archive, Serialize};
@@ -56,7 +56,7 @@ fn entries_of_entries_are_viewed(rt: HostRuntime) -> Result<(), Fail> {
     same(&rt, pair(entry.key()), (3, 4));
     assert!(rt; entry.value().to_native());
     same(&rt, hashed(&entry), hashed(&((3u8, 4u32), true)));
-    let told = format!(in rt.alloc(); "{entry:?}")?;
+    let told = shown(rt.alloc(), &entry)?;
     same(
         &rt,
         told.as_str(),

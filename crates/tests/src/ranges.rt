@@ -3,6 +3,7 @@
 use crate::convert;
 use crate::equal_maps::opened;
 use crate::numbers::{archive, tens};
+use crate::read::{number, numbers, text_and_number};
 use crate::same::same;
 use crate::texts::archive_texts;
 use rkyv_btree::range::Range;
@@ -35,6 +36,11 @@ pub(crate) fn is_between(low: Bound<u32>, high: Bound<u32>, key: u32) -> bool {
 
 type Numbers<const E: usize> = ArchivedBTreeMap<ArchivedU32, ArchivedU32, E>;
 
+/// The number that is an entry's key.
+fn key_number(entry: (View<ArchivedU32>, View<ArchivedU32>)) -> u32 {
+    entry.0.to_native()
+}
+
 /// The ranges of a map of numbers between these bounds have these keys.
 fn have_keys<const E: usize>(
     rt: &impl Abort,
@@ -48,8 +54,7 @@ fn have_keys<const E: usize>(
     for (low, high, keys) in ranges {
         let mut range = map.range_by(*low, *high);
         for key in *keys {
-            let met = range.next().map(|(k, _)| k.to_native());
-            same(rt, met, Some(*key));
+            same(rt, range.next().map(key_number), Some(*key));
         }
         assert!(rt; range.next().is_none());
         assert!(rt; range.next().is_none());
@@ -97,7 +102,7 @@ fn is_that_of_list<const E: usize>(
     }
     let mut range = map.range_by(low, high);
     for entry in within.as_slice() {
-        let met = range.next().map(|(k, v)| (k.to_native(), v.to_native()));
+        let met = range.next().map(numbers);
         same(rt, met, Some(*entry));
     }
     assert!(rt; range.next().is_none());
@@ -162,9 +167,9 @@ fn a_list_out_of_order_is_walked(rt: HostRuntime) -> Result<(), Fail> {
     let mut all = map.iter();
     let mut open = map.range_by(Bound::<u32>::Unbounded, Bound::Unbounded);
     for entry in entries {
-        let met = all.next().map(|(k, v)| (k.to_native(), v.to_native()));
+        let met = all.next().map(numbers);
         same(&rt, met, Some(entry));
-        let met = open.next().map(|(k, v)| (k.to_native(), v.to_native()));
+        let met = open.next().map(numbers);
         same(&rt, met, Some(entry));
     }
     assert!(rt; all.next().is_none());
@@ -179,7 +184,7 @@ fn keys_count_down(rt: &impl Abort, map: &View<Numbers<2>>, entries: &[(u32, u32
     for (key, _) in entries {
         same(rt, keys.len(), left);
         left = left.wrapping_sub(1);
-        same(rt, keys.next().map(|k| k.to_native()), Some(*key));
+        same(rt, keys.next().map(number), Some(*key));
     }
     for _ in 0..2 {
         same(rt, keys.len(), 0);
@@ -194,7 +199,7 @@ fn values_count_down(rt: &impl Abort, map: &View<Numbers<2>>, entries: &[(u32, u
     for (_, value) in entries {
         same(rt, values.size_hint(), (left, Some(left)));
         left = left.wrapping_sub(1);
-        same(rt, values.next().map(|v| v.to_native()), Some(*value));
+        same(rt, values.next().map(number), Some(*value));
     }
     for _ in 0..2 {
         same(rt, values.len(), 0);
@@ -289,6 +294,11 @@ fn opened_letters<'a>(rt: &impl Abort, bytes: &'a [u8], pos: u32) -> View<'a, Le
     convert::opened::<ArchivedText, ArchivedU32, 5>(rt, bytes, pos)
 }
 
+/// The number of a letter.
+fn letter_number(entry: (View<ArchivedText>, View<ArchivedU32>)) -> u32 {
+    entry.1.to_native()
+}
+
 /// The range of letters from d to before w has their numbers.
 fn has_range_by_first_characters(rt: &impl Abort, map: &View<Letters>) {
     let mut range = map.range_with(
@@ -297,8 +307,7 @@ fn has_range_by_first_characters(rt: &impl Abort, map: &View<Letters>) {
         |letter: &char, key: View<ArchivedText>| Some(*letter).cmp(&key.as_str().chars().next()),
     );
     for letter in 'd'..='v' {
-        let met = range.next().map(|(_, v)| v.to_native());
-        same(rt, met, Some(u32::from(letter)));
+        same(rt, range.next().map(letter_number), Some(u32::from(letter)));
     }
     assert!(rt; range.next().is_none());
 }
@@ -308,7 +317,7 @@ fn has_range_between_views(rt: &impl Abort, map: &View<Letters>) {
     let (low, _) = map.iter().nth(2).expect(rt, "a third entry");
     let (high, _) = map.iter().nth(3).expect(rt, "a fourth entry");
     let mut range = map.range(Bound::Excluded(low), Bound::Included(high));
-    same(rt, range.next().map(|(k, _)| k.as_str()), Some("d"));
+    same(rt, range.next().map(text_and_number), Some(("d", 100)));
     assert!(rt; range.next().is_none());
 }
 
@@ -322,6 +331,6 @@ fn ranges_of_texts(rt: HostRuntime) -> Result<(), Fail> {
     has_range_by_first_characters(&rt, &map);
     has_range_between_views(&rt, &map);
     let mut range = map.range_by(Bound::Excluded("wz"), Bound::Unbounded);
-    same(&rt, range.next().map(|(k, _)| k.as_str()), Some("x"));
+    same(&rt, range.next().map(text_and_number), Some(("x", 120)));
     Ok(())
 }

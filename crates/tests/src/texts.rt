@@ -1,5 +1,6 @@
 //! Texts, checked by themselves and archived as keys.
 
+use crate::convert::archive_claimed;
 use crate::faults::Failing;
 use crate::same::same;
 use crate::walks::long_text;
@@ -129,14 +130,8 @@ where
     VU: Archive<Archived = V> + Serialize<VecWriter, Global>,
     V: Portable,
 {
-    assert!(rt; layout::fits::<ArchivedText, V, E>());
-    let root = ArchivedBTreeMap::<ArchivedText, V, E>::serialize_from_ordered_iter(
-        alloc,
-        entries.len(),
-        entries.iter().map(|entry| (&entry.0, &entry.1)),
-        writer,
-    )?;
-    ArchivedBTreeMap::<ArchivedText, V, E>::write_root(entries.len(), root, writer)
+    let len = entries.len();
+    archive_claimed::<String, VU, ArchivedText, V, E>(rt, alloc, len, entries, writer)
 }
 
 #[test]
