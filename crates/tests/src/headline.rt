@@ -1,5 +1,5 @@
 //! The headline's functions, at maps of numbers.
-use crate::read::{number, numbers, value};
+use crate::read::{number, value};
 use crate::same::same;
 use examples::headline::{
     ArchiveAt, archived, archived_set, archived_std_map, archived_std_set, looked_up,
