@@ -12,10 +12,10 @@ use Rattle.rkyv_btree_base.specs.Spells.{SpellsRoot}
 use Rattle.rkyv_btree_base.specs.Tree.{list, height}
 use Rattle.rkyv_btree_base.specs.Views.{stands}
 use Rattle.rkyv_btree_base.specs.laws.Views.{means_read, fitting_of}
-use Rattle.rkyv_btree_base.proofs.MapLaws.{map_laws, map_length}
+use Rattle.rkyv_btree_base.proofs.MapLaws.{map_laws, map_length, map_short}
 use Rattle.rkyv_btree_walk.specs.Search.{asked, probe}
 use Rattle.rkyv_btree_walk.specs.mirror.Search.{searched, searched_map}
-use Rattle.rkyv_btree_walk.specs.mirror.Node.{natural, LeadsBefore, TreeStands}
+use Rattle.rkyv_btree_walk.specs.mirror.Node.{natural, LeadsBefore, TreeStands, TreeCanBeRead}
 use Rattle.rkyv_btree_walk.specs.mirror.Path.{tree_rest}
 use Rattle.rkyv_btree_walk.proofs.Nodes.{starts_before, spelled_stands}
 use Rattle.rkyv_btree_walk.proofs.Paths.{tree_from}
@@ -57,6 +57,9 @@ module _ (K V : Kind) (E : ℕ) (k : IsLawful K) (v : IsLawful V) (b : List ℕ)
       let room = (means_read (map_laws K V E k v) b at h).means.room in
       let same : r.start ≡ q = cc (rw r.leads at to) in
       rw (← same) (spelled_stands K V E b k v (fitting_of (map_kind K V E) b at h) r.tree 32 0 at r.start r.spelled r.levels (omega arith))
+
+  pub root_readable : 0 < length (read_map K V E b at) → (q : ℕ) → natural (Some (place_at b at)) ≡ Some q → TreeCanBeRead K V E b q
+  root_readable some q to = record { fitting = fitting_of (map_kind K V E) b at h; short = map_short K V E k v b at h; tree = root_stands some q to }
 
   pub root_list : 0 < length (read_map K V E b at) → (q : ℕ) → natural (Some (place_at b at)) ≡ Some q → tree_rest (layout_of K V E) b 32 q 0 ≡ list (map_tree (layout_of K V E) b at)
   root_list some q to =

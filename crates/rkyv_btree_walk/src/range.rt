@@ -12,7 +12,7 @@ ghost use Rattle.rkyv_btree_base.specs.Views.{stands};
 ghost use Rattle.rkyv_btree_walk.specs.Bounds.{IsRun, IsWithin, ByBounds};
 ghost use Rattle.rkyv_btree_walk.specs.Search.{ComparesBy, shown};
 ghost use Rattle.rkyv_btree_walk.specs.mirror.Below.{root_place, PartBelow, PathStaysBelow, StepStaysBelow};
-ghost use Rattle.rkyv_btree_walk.specs.mirror.Node.{natural, TreeStands, RunStands};
+ghost use Rattle.rkyv_btree_walk.specs.mirror.Node.{natural, RunStands, TreeCanBeRead};
 ghost use Rattle.rkyv_btree_walk.specs.mirror.Path.{path_rest, IsPath, LeafStands, StepStands};
 ghost use Rattle.rkyv_btree_walk.specs.mirror.Range.{reached_at, from_at, past_at, IsKept, IsEnd, IsFound, IsMiddle, first_of, first_passes, is_stop as stops_at, take_before, range_rest, tree_list, part_rest, part_range, read_range, PartStands, StepsBefore};
 
@@ -76,9 +76,7 @@ fn seek_low<
     C: Fn(&Q, W) -> Ordering,
 >(buf: &'a [u8], root: u32, low: Bound<&Q>, cmp: &C, path: &mut Path) -> Part
     requires callable { C.IsAlwaysCallable cmp.now }
-    requires fitting { IsTrue (are_fitting K.kind V.kind M.E) }
-    requires short { length buf.now ≤ 4294967295 }
-    requires tree { TreeStands K.kind V.kind M.E buf.now 32 root }
+    requires tree { TreeCanBeRead K.kind V.kind M.E buf.now root }
     requires empty { path.old.items ≡ [] }
     ensures path { IsPath K.kind V.kind M.E buf.now 32 path.new.items }
     ensures stands { PartStands K.kind V.kind M.E buf.now result }
@@ -120,9 +118,7 @@ fn first_reaching<
     C: Fn(&Q, W) -> Ordering,
 >(buf: &'a [u8], root: u32, key: &Q, cmp: &C, past: bool) -> Option<(u32, u32)>
     requires callable { C.IsAlwaysCallable cmp.now }
-    requires fitting { IsTrue (are_fitting K.kind V.kind M.E) }
-    requires short { length buf.now ≤ 4294967295 }
-    requires tree { TreeStands K.kind V.kind M.E buf.now 32 root }
+    requires tree { TreeCanBeRead K.kind V.kind M.E buf.now root }
     ensures { (c : Q → K.kind.Value → Answer)
         → ComparesBy (C.post cmp.now) (shown K.kind W.Shows) c
         → IsFound (reached_at K.kind V.kind M.E buf.now past (c key.now))
@@ -144,9 +140,7 @@ fn first_past<
     C: Fn(&Q, W) -> Ordering,
 >(buf: &'a [u8], root: u32, high: Bound<&Q>, cmp: &C) -> Option<(u32, u32)>
     requires callable { C.IsAlwaysCallable cmp.now }
-    requires fitting { IsTrue (are_fitting K.kind V.kind M.E) }
-    requires short { length buf.now ≤ 4294967295 }
-    requires tree { TreeStands K.kind V.kind M.E buf.now 32 root }
+    requires tree { TreeCanBeRead K.kind V.kind M.E buf.now root }
     ensures whole { high.entry ≡ Unbounded → result ≡ None }
     ensures first { (c : Q → K.kind.Value → Answer)
         → ComparesBy (C.post cmp.now) (shown K.kind W.Shows) c
@@ -318,9 +312,7 @@ fn between_in<
     path: &mut Path,
 ) -> (Part, Option<(u32, u32)>)
     requires callable { C.IsAlwaysCallable cmp.now }
-    requires fitting { IsTrue (are_fitting K.kind V.kind M.E) }
-    requires short { length buf.now ≤ 4294967295 }
-    requires tree { TreeStands K.kind V.kind M.E buf.now 32 root }
+    requires tree { TreeCanBeRead K.kind V.kind M.E buf.now root }
     requires empty { path.old.items ≡ [] }
     ensures path { IsPath K.kind V.kind M.E buf.now 32 path.new.items }
     ensures stands { PartStands K.kind V.kind M.E buf.now result.0 }
@@ -356,9 +348,7 @@ fn tree_root<K: Portable, V: Portable, M: ArchivedMap<Key = K, Mapped = V>>(
 ) -> u32
     requires stands { IsTrue (stands (map_kind K.kind V.kind M.E) buf.now pos) }
     requires some { 0 < length (read_map K.kind V.kind M.E buf.now pos) }
-    ensures fitting { IsTrue (are_fitting K.kind V.kind M.E) }
-    ensures short { length buf.now ≤ 4294967295 }
-    ensures tree { TreeStands K.kind V.kind M.E buf.now 32 result }
+    ensures tree { TreeCanBeRead K.kind V.kind M.E buf.now result }
     ensures root { natural (Some (place_at buf.now pos)) ≡ Some result }
 {
     root(buf, pos)

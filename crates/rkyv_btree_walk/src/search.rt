@@ -1,12 +1,12 @@
 //! Searches of a map for an entry, by a comparison with its key.
 ghost use Rattle.std.specs.Prelude.{◌≡◌, ◌+◌, ◌*◌, ◌≤◌, length, IfSome, IsTrue};
 ghost use Rattle.std.specs.declared.cmp.Ordering.{Ordering as Answer};
-ghost use Rattle.rkyv_btree_base.specs.Layout.{layout_of, are_fitting};
+ghost use Rattle.rkyv_btree_base.specs.Layout.{layout_of};
 ghost use Rattle.rkyv_btree_base.specs.Read.{read_map, map_tree};
 ghost use Rattle.rkyv_btree_base.specs.Tree.{list};
 ghost use Rattle.rkyv_btree_base.specs.Views.{stands};
 ghost use Rattle.rkyv_btree_walk.specs.Search.{compared_of, shown};
-ghost use Rattle.rkyv_btree_walk.specs.mirror.Node.{TreeStands, RunStands, CanBeSearched};
+ghost use Rattle.rkyv_btree_walk.specs.mirror.Node.{RunStands, CanBeSearched, TreeCanBeRead};
 ghost use Rattle.rkyv_btree_walk.specs.mirror.Path.{tree_rest};
 ghost use Rattle.rkyv_btree_walk.specs.mirror.Search.{StopsAt, StopsWithin, IsListed, asked_by, answers_at, searched, searched_map, TellsBy};
 
@@ -121,9 +121,7 @@ fn search_tree<
     C: Fn(&Q, W) -> Compared,
 >(buf: &'a [u8], from: u32, key: &Q, cmp: &C) -> (Option<(u32, u32)>, u64)
     requires callable { C.IsAlwaysCallable cmp.now }
-    requires fitting { IsTrue (are_fitting K.kind V.kind M.E) }
-    requires short { length buf.now ≤ 4294967295 }
-    requires tree { TreeStands K.kind V.kind M.E buf.now 32 from }
+    requires tree { TreeCanBeRead K.kind V.kind M.E buf.now from }
     ensures stands { IfSome result.0 (λ e. RunStands K.kind V.kind M.E buf.now e.0 e.1 (e.1 + 1)) }
     ensures found { (c : Q → K.kind.Value → Answer)
         → TellsBy (C.post cmp.now) (shown K.kind W.Shows) c

@@ -6,7 +6,7 @@ ghost use Rattle.rkyv_btree_base.specs.Layout.{layout_of, len_at, are_fitting};
 ghost use Rattle.rkyv_btree_base.specs.Views.{stands};
 ghost use Rattle.rkyv_btree_walk.specs.Search.{ComparesBy, shown};
 ghost use Rattle.rkyv_btree_walk.specs.mirror.Below.{PartBelow};
-ghost use Rattle.rkyv_btree_walk.specs.mirror.Node.{is_leaf as is_leaf_at, NodeStands, TreeStands, RunStands};
+ghost use Rattle.rkyv_btree_walk.specs.mirror.Node.{is_leaf as is_leaf_at, NodeStands, RunStands, CanBeSearched, TreeCanBeRead};
 ghost use Rattle.rkyv_btree_walk.specs.mirror.Path.{IsPath};
 ghost use Rattle.rkyv_btree_walk.specs.mirror.Range.{is_reached, reached_at, IsFirst, IsKept, IsEnd, tree_list, part_rest, PartStands};
 
@@ -61,9 +61,7 @@ fn seek_node<
     C: Fn(&Q, W) -> Ordering,
 >(buf: &'a [u8], node: u32, count: u32, key: &Q, cmp: &C, past: bool) -> u32
     requires callable { C.IsAlwaysCallable cmp.now }
-    requires fitting { IsTrue (are_fitting K.kind V.kind M.E) }
-    requires short { length buf.now ≤ 4294967295 }
-    requires stands { RunStands K.kind V.kind M.E buf.now node 0 count }
+    requires node { CanBeSearched K.kind V.kind M.E buf.now node count }
     ensures within { result ≤ count }
     ensures first { (c : Q → K.kind.Value → Answer)
         → ComparesBy (C.post cmp.now) (shown K.kind W.Shows) c
@@ -122,9 +120,7 @@ pub(crate) fn seek<
     C: Fn(&Q, W) -> Ordering,
 >(buf: &'a [u8], root: u32, key: &Q, cmp: &C, past: bool, path: &mut Path) -> Part
     requires callable { C.IsAlwaysCallable cmp.now }
-    requires fitting { IsTrue (are_fitting K.kind V.kind M.E) }
-    requires short { length buf.now ≤ 4294967295 }
-    requires tree { TreeStands K.kind V.kind M.E buf.now 32 root }
+    requires tree { TreeCanBeRead K.kind V.kind M.E buf.now root }
     requires empty { path.old.items ≡ [] }
     ensures path { IsPath K.kind V.kind M.E buf.now 32 path.new.items }
     ensures stands { PartStands K.kind V.kind M.E buf.now result }

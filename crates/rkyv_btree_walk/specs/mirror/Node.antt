@@ -59,3 +59,9 @@ module _ (K V : Kind) (E : ℕ) (b : List ℕ) where
   unfoldable pub TreeStands : ℕ → ℕ → Type 0
   TreeStands zero p = ⊥
   TreeStands (suc levels) p = NodeStands p × ((i q : ℕ) → i ≤ E → child_place (layout_of K V E) b p i ≡ Some q → TreeStands levels q)
+
+  -- a tree stands at p, whose nodes can be read where the layout says that they stand
+  pub record TreeCanBeRead (p : ℕ) : Type 0 where
+    pub fitting : IsTrue (are_fitting K V E)
+    pub short : length b ≤ 4294967295
+    pub tree : TreeStands 32 p

@@ -1,8 +1,8 @@
 -- A map that stands has a root where it has entries.
-use Rattle.std.proofs.Common.{◌≡◌, ◌≤◌, length, ◌∙◌, arith, rules}
-use Rattle.rkyv_btree_base.proofs.MapLaws.{map_room, map_short}
-use Rattle.rkyv_btree_walk.specs.mirror.Node.{TreeStands}
-use Rattle.rkyv_btree_walk.proofs.Roots.{root_leads, root_stands, root_list, root_searched, none_searched}
+use Rattle.std.proofs.Common.{◌≡◌, length, ◌∙◌, arith, rules}
+use Rattle.rkyv_btree_base.proofs.MapLaws.{map_room}
+use Rattle.rkyv_btree_walk.specs.mirror.Node.{TreeCanBeRead}
+use Rattle.rkyv_btree_walk.proofs.Roots.{root_leads, root_readable, root_list, root_searched, none_searched}
 use Rattle.rkyv_btree_walk.proofs.search.search.Goals as goal
 
 pub root-requires-clause-inside : goal.root-requires-clause-inside
@@ -16,9 +16,8 @@ root-requires-clause-leads g c =
 
 pub search_tree-requires : goal.search_tree-requires
 search_tree-requires g c =
-    let short : length c.args.buf.now ≤ 4294967295 = map_short _ _ _ g.met.K.Portable.laws g.met.V.Portable.laws _ _ c.opened.ensures in
-    let tree : TreeStands g.K.Portable.kind g.V.Portable.kind g.M.ArchivedMap.E c.args.buf.now 32 c.root.result =
-    root_stands _ _ _ g.met.K.Portable.laws g.met.V.Portable.laws _ _ c.opened.ensures (rw c.map_len-count.ensures at c.if-count-gt0.true) c.root.result c.root.ensures in
+    let tree : TreeCanBeRead g.K.Portable.kind g.V.Portable.kind g.M.ArchivedMap.E c.args.buf.now c.root.result =
+    root_readable _ _ _ g.met.K.Portable.laws g.met.V.Portable.laws _ _ c.opened.ensures (rw c.map_len-count.ensures at c.if-count-gt0.true) c.root.result c.root.ensures in
     search rules
 
 pub returns-then-count-gt0-clause-found : goal.returns-then-count-gt0-clause-found

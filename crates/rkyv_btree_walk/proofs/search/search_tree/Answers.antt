@@ -9,7 +9,7 @@ use Rattle.rkyv_btree_walk.proofs.Searches.{node_run, leaf_counted, inner_counte
 use Rattle.rkyv_btree_walk.proofs.search.search_tree.Goals as goal
 
 pub down-init : goal.down-init
-down-init g c = (32, c.requires.tree, omega arith, λ e there. there, λ f p. search_begins _)
+down-init g c = (32, c.requires.tree.tree, omega arith, λ e there. there, λ f p. search_begins _)
 
 pub is_leaf-requires-clause-node : goal.is_leaf-requires-clause-node
 is_leaf-requires-clause-node g c = tree_node _ _ _ _ _ c.down.node c.down.invariant.1
@@ -19,19 +19,19 @@ leaf_count-count-requires-clause-node g c = tree_node _ _ _ _ _ c.down.node c.do
 
 pub overflow_cast-count : goal.overflow_cast-count
 overflow_cast-count g c =
-    let room = room_of _ _ _ g.met.K.Portable.laws g.met.V.Portable.laws c.requires.fitting in
+    let room = room_of _ _ _ g.met.K.Portable.laws g.met.V.Portable.laws c.requires.tree.fitting in
     omega (arith, room.entries, c.entries_per_node-count.ensures)
 
 pub search_node-stop-requires : goal.search_node-stop-requires
 search_node-stop-requires g c =
     let run : RunStands g.K.Portable.kind g.V.Portable.kind g.M.ArchivedMap.E c.args.buf.now c.down.node 0 c.leaf_count-count.result =
     rw (leaf_counted (layout_of g.K.Portable.kind g.V.Portable.kind g.M.ArchivedMap.E) c.args.buf.now c.down.node (sym c.is_leaf.ensures ∙ c.if-is_leaf.true) c.leaf_count-count.ensures) (node_run _ _ _ _ c.down.node (tree_node _ _ _ _ _ c.down.node c.down.invariant.1)) in
-    let node : CanBeSearched g.K.Portable.kind g.V.Portable.kind g.M.ArchivedMap.E c.args.buf.now c.down.node c.leaf_count-count.result = record { fitting = c.requires.fitting; short = c.requires.short; run = run } in
+    let node : CanBeSearched g.K.Portable.kind g.V.Portable.kind g.M.ArchivedMap.E c.args.buf.now c.down.node c.leaf_count-count.result = record { fitting = c.requires.tree.fitting; short = c.requires.tree.short; run = run } in
     search rules
 
 pub overflow_add-asked : goal.overflow_add-asked
 overflow_add-asked g c =
-    let room = room_of _ _ _ g.met.K.Portable.laws g.met.V.Portable.laws c.requires.fitting in
+    let room = room_of _ _ _ g.met.K.Portable.laws g.met.V.Portable.laws c.requires.tree.fitting in
     let o = tree_levels _ _ _ _ _ c.down.node c.down.invariant.1 in
     let within = asked_within _ c.down.asked c.from-asked.result _ o.0 c.leaf_count-count.result c.down.invariant.2 o.1 (rw c.from-asked.ensures c.asked.ensures.within) (rw (leaf_counted (layout_of g.K.Portable.kind g.V.Portable.kind g.M.ArchivedMap.E) c.args.buf.now c.down.node (sym c.is_leaf.ensures ∙ c.if-is_leaf.true) c.leaf_count-count.ensures) o.2.count) in
     omega (arith, within, room.entries)
@@ -74,12 +74,12 @@ pub search_node-stop-requires-in-down : goal.search_node-stop-requires-in-down
 search_node-stop-requires-in-down g c =
     let run : RunStands g.K.Portable.kind g.V.Portable.kind g.M.ArchivedMap.E c.args.buf.now c.down.node 0 c.entries_per_node-count.result =
     rw (inner_counted (layout_of g.K.Portable.kind g.V.Portable.kind g.M.ArchivedMap.E) c.args.buf.now c.down.node (sym c.is_leaf.ensures ∙ c.if-is_leaf.false) c.entries_per_node-count.ensures) (node_run _ _ _ _ c.down.node (tree_node _ _ _ _ _ c.down.node c.down.invariant.1)) in
-    let node : CanBeSearched g.K.Portable.kind g.V.Portable.kind g.M.ArchivedMap.E c.args.buf.now c.down.node c.entries_per_node-count.result = record { fitting = c.requires.fitting; short = c.requires.short; run = run } in
+    let node : CanBeSearched g.K.Portable.kind g.V.Portable.kind g.M.ArchivedMap.E c.args.buf.now c.down.node c.entries_per_node-count.result = record { fitting = c.requires.tree.fitting; short = c.requires.tree.short; run = run } in
     search rules
 
 pub overflow_add-asked-in-down : goal.overflow_add-asked-in-down
 overflow_add-asked-in-down g c =
-    let room = room_of _ _ _ g.met.K.Portable.laws g.met.V.Portable.laws c.requires.fitting in
+    let room = room_of _ _ _ g.met.K.Portable.laws g.met.V.Portable.laws c.requires.tree.fitting in
     let o = tree_levels _ _ _ _ _ c.down.node c.down.invariant.1 in
     let within = asked_within _ c.down.asked c.from-asked-in-down.result _ o.0 c.entries_per_node-count.result c.down.invariant.2 o.1 (rw c.from-asked-in-down.ensures c.asked-in-down.ensures.within) (rw (inner_counted (layout_of g.K.Portable.kind g.V.Portable.kind g.M.ArchivedMap.E) c.args.buf.now c.down.node (sym c.is_leaf.ensures ∙ c.if-is_leaf.false) c.entries_per_node-count.ensures) o.2.count) in
     omega (arith, within, room.entries)

@@ -1,7 +1,8 @@
 -- Each node that is met stands, and the way goes on beside its first entry that reaches the query.
-use Rattle.std.proofs.Common.{◌≡◌, ◌+◌, ◌-◌, ◌≤◌, [], ◌∙◌, length, refl, sym, arith, Some}
+use Rattle.std.proofs.Common.{◌≡◌, ◌+◌, ◌-◌, ◌≤◌, [], ◌∙◌, length, refl, sym, arith, rules, Some}
 use Rattle.std.proofs.lemmas.List.{append-nil}
 use Rattle.rkyv_btree_base.specs.Layout.{layout_of}
+use Rattle.rkyv_btree_walk.specs.mirror.Node.{CanBeSearched}
 use Rattle.rkyv_btree_walk.proofs.Below.{put_below}
 use Rattle.rkyv_btree_walk.proofs.Nodes.{tree_node, child_before}
 use Rattle.rkyv_btree_walk.proofs.Paths.{put_short, put_path, put_child}
@@ -10,13 +11,18 @@ use Rattle.rkyv_btree_walk.proofs.Seeks.{kept_behind, leaves_leaf, leaves_absent
 use Rattle.rkyv_btree_walk.proofs.seek.seek.Goals as goal
 
 pub down-init : goal.down-init
-down-init g c = rw c.requires.empty (record { path = tt; tree = c.requires.tree; skipped = []; run = sym (append-nil _); from = λ f p rises. (refl, tt); below = (tt, refl) })
+down-init g c = rw c.requires.empty (record { path = tt; tree = c.requires.tree.tree; skipped = []; run = sym (append-nil _); from = λ f p rises. (refl, tt); below = (tt, refl) })
 
 pub is_leaf-requires-clause-node : goal.is_leaf-requires-clause-node
 is_leaf-requires-clause-node g c = tree_node _ _ _ _ _ c.down.node c.down.invariant.tree
 
 pub leaf_end-end-requires-clause-node : goal.leaf_end-end-requires-clause-node
 leaf_end-end-requires-clause-node g c = tree_node _ _ _ _ _ c.down.node c.down.invariant.tree
+
+pub seek_node-next-requires : goal.seek_node-next-requires
+seek_node-next-requires g c =
+    let node : CanBeSearched g.K.Portable.kind g.V.Portable.kind g.M.ArchivedMap.E c.args.buf.now c.down.node c.leaf_end-end.result = record { fitting = c.requires.tree.fitting; short = c.requires.tree.short; run = c.leaf_end-end.ensures.stands } in
+    search rules
 
 pub returns-then-is_leaf-clause-path : goal.returns-then-is_leaf-clause-path
 returns-then-is_leaf-clause-path g c = c.down.invariant.path
@@ -43,6 +49,11 @@ returns-then-is_leaf-clause-from g c f p rises =
 
 pub inner_end-count-requires-clause-node : goal.inner_end-count-requires-clause-node
 inner_end-count-requires-clause-node g c = tree_node _ _ _ _ _ c.down.node c.down.invariant.tree
+
+pub seek_node-next-requires-in-down : goal.seek_node-next-requires-in-down
+seek_node-next-requires-in-down g c =
+    let node : CanBeSearched g.K.Portable.kind g.V.Portable.kind g.M.ArchivedMap.E c.args.buf.now c.down.node c.inner_end-count.result = record { fitting = c.requires.tree.fitting; short = c.requires.tree.short; run = c.inner_end-count.ensures.stands } in
+    search rules
 
 pub push-requires : goal.push-requires
 push-requires g c =
