@@ -3,7 +3,7 @@ ghost use Rattle.std.specs.BTreeMap.{get, get_by};
 ghost use Rattle.std.specs.Cmp.Lexicographic.{slice_cmp};
 ghost use Rattle.std.specs.Ordering.{nat_cmp};
 ghost use Rattle.std.specs.Prelude.{◌≡◌, IsTrue, IfOk, IfErr, Ok, string_bytes};
-ghost use Rattle.rkyv_btree.specs.Deserializing.{IsByMeaning, IsRefused};
+ghost use Rattle.rkyv_btree.specs.Deserializing.{IsByMeaning, IsRefused, both};
 ghost use Rattle.rkyv_btree.specs.Maps.{told_both};
 ghost use Rattle.rkyv_btree.specs.View.{entries_of};
 ghost use Rattle.examples.specs.Whole.{entries_given};
@@ -58,6 +58,23 @@ pub fn is_equal_to_itself(
     }
 }
 
+/// The native key and value of an entry, or the first fault.
+fn owned_entry<K: EntryType, V: EntryType>(
+    alloc: Global,
+    key: &View<'_, K>,
+    value: &View<'_, V>,
+) -> Result<(K::Owned, V::Owned), DeserializeFault>
+    ensures ok { IfOk result (λ owned.
+        both (K.native key.now.buf.now key.now.pos) (V.native value.now.buf.now value.now.pos)
+        ≡ Ok (K.told owned.0, V.told owned.1)) }
+    ensures refused { IfErr result (IsRefused
+        (both (K.native key.now.buf.now key.now.pos) (V.native value.now.buf.now value.now.pos))) }
+{
+    let key = K::deserialize(alloc, key)?;
+    let value = V::deserialize(alloc, value)?;
+    Ok((key, value))
+}
+
 /// The native keys and values of a map's entries, in order, or the first fault.
 pub fn owned_entries<K: EntryType, V: EntryType>(
     alloc: Global,
@@ -72,9 +89,8 @@ pub fn owned_entries<K: EntryType, V: EntryType>(
     let mut owned = Vec::new(alloc);
     let mut entries = map.iter();
     while let Some((key, value)) = entries.next() {
-        let key = K::deserialize(alloc, &key)?;
-        let value = V::deserialize(alloc, &value)?;
-        if owned.push((key, value)).is_err() {
+        let entry = owned_entry::<K, V>(alloc, &key, &value)?;
+        if owned.push(entry).is_err() {
             return Err(DeserializeFault::Memory(AllocError));
         }
     }

@@ -10,7 +10,7 @@ pub loop-key-preserved : goal.loop-key-preserved
 loop-key-preserved g c key value =
     let pushed : is_ok c.push.result ≡ true = search rules in
     rw (c.push.ensures.items, pushed) (
-    one_made key value g.K.Deserialize.told g.V.Deserialize.told c.loop-key.owned.items _ _ c.in-Some.key.buf.now c.in-Some.value.buf.now c.in-Some.key.pos c.in-Some.value.pos c.in_ok-key.key c.in_ok-value.value c.in-Some.ensures.steps c.in_ok-key.ensures.ok c.in_ok-value.ensures.ok
+    one_made key value g.K.Deserialize.told g.V.Deserialize.told c.loop-key.owned.items _ _ c.in-Some.key.buf.now c.in-Some.value.buf.now c.in-Some.key.pos c.in-Some.value.pos c.in_ok-entry.entry c.in-Some.ensures.steps c.in_ok-entry.ensures.ok
     ∙ c.loop-key.invariant key value
     )
 
@@ -19,3 +19,12 @@ returns-clause-ok g c key value =
     let told = told_both g.K.Deserialize.told g.V.Deserialize.told in
     ap (entries_given key value) (sym c.iter-entries.ensures.left)
     ∙ all_made key value (told c.new-owned.result.items) (told c.loop-key.owned.items) _ _ (ap told c.new-owned.ensures.items) c.in_default.ensures.steps.0 (c.loop-key.invariant key value)
+
+pub returns-then-is_err-clause-ok : goal.returns-then-is_err-clause-ok
+returns-then-is_err-clause-ok g c key value = tt
+
+pub returns-then-is_err-clause-refused : goal.returns-then-is_err-clause-refused
+returns-then-is_err-clause-refused g c key value = tt
+
+pub returns-clause-refused : goal.returns-clause-refused
+returns-clause-refused g c key value = tt
