@@ -119,7 +119,8 @@ def main():
         crate = ROOT / "crates" / name
         if subprocess.run([*RT, "check"], cwd=crate, stdout=subprocess.DEVNULL).returncode:
             sys.exit(f"{name} is not proved as it stands")
-        passed += try_all(crate, [Edit(it) for it in sorted((crate / "must-fail").glob("*.edit"))])
+        edits = sorted(it for folder in ("must-fail", "wrong") for it in (crate / folder).glob("*.edit"))
+        passed += try_all(crate, [Edit(it) for it in edits])
     sys.exit(1 if passed else 0)
 
 
