@@ -188,9 +188,24 @@ where
 #[test]
 fn bytes_come_back(rt: HostRuntime) -> Result<(), Fail> {
     let alloc = rt.alloc();
-    let unsigned = Vec::from_iter(alloc, (0..40u8).map(|n| (n, !n)))?;
+    let unsigned = [
+        (0, 255),
+        (1, 254),
+        (2, 0),
+        (127, 128),
+        (128, 127),
+        (254, 1),
+        (255, 2),
+    ];
     come_back::<u8, u8, u8, u8>(&rt, alloc, &unsigned)?;
-    let signed = Vec::from_iter(alloc, (-20..20i8).map(|n| (n, n < 0)))?;
+    let signed = [
+        (-128, true),
+        (-2, true),
+        (-1, false),
+        (0, false),
+        (1, true),
+        (127, false),
+    ];
     come_back::<i8, bool, i8, bool>(&rt, alloc, &signed)?;
     let truths = [(false, ()), (true, ())];
     come_back::<bool, (), bool, ()>(&rt, alloc, &truths)?;
@@ -200,35 +215,85 @@ fn bytes_come_back(rt: HostRuntime) -> Result<(), Fail> {
 #[test]
 fn unsigned_numbers_come_back(rt: HostRuntime) -> Result<(), Fail> {
     let alloc = rt.alloc();
-    let short = Vec::from_iter(alloc, (0..40u16).map(|n| (n.wrapping_mul(1600), !n)))?;
+    let short = [
+        (0, 65535),
+        (1, 256),
+        (255, 255),
+        (256, 1),
+        (32767, 0),
+        (32768, 2),
+        (65535, 3),
+    ];
     come_back::<u16, u16, ArchivedU16, ArchivedU16>(&rt, alloc, &short)?;
-    let usual = Vec::from_iter(alloc, (0..40u32).map(|n| (n.wrapping_mul(100_000_000), !n)))?;
+    let usual = [
+        (0, 4294967295),
+        (1, 0),
+        (65535, 65536),
+        (65536, 1),
+        (2147483647, 2147483648),
+        (2147483648, 2),
+        (4294967295, 3),
+    ];
     come_back::<u32, u32, ArchivedU32, ArchivedU32>(&rt, alloc, &usual)?;
-    let long = Vec::from_iter(alloc, (0..40u64).map(|n| (n << 40, !n)))?;
+    let long = [
+        (0, 18446744073709551615),
+        (1, 0),
+        (4294967295, 4294967296),
+        (4294967296, 1),
+        (9223372036854775807, 9223372036854775808),
+        (9223372036854775808, 2),
+        (18446744073709551615, 3),
+    ];
     come_back::<u64, u64, ArchivedU64, ArchivedU64>(&rt, alloc, &long)
 }
 
 #[test]
 fn signed_numbers_come_back(rt: HostRuntime) -> Result<(), Fail> {
     let alloc = rt.alloc();
-    let short = Vec::from_iter(alloc, (-20..20i16).map(|n| (n.wrapping_mul(1600), !n)))?;
+    let short = [
+        (-32768, 32767),
+        (-256, -1),
+        (-1, 0),
+        (0, 1),
+        (255, 256),
+        (32767, -32768),
+    ];
     come_back::<i16, i16, ArchivedI16, ArchivedI16>(&rt, alloc, &short)?;
-    let usual = Vec::from_iter(
-        alloc,
-        (-20..20i32).map(|n| (n.wrapping_mul(100_000_000), !n)),
-    )?;
+    let usual = [
+        (-2147483648, 2147483647),
+        (-65536, -1),
+        (-1, 0),
+        (0, 1),
+        (65535, 65536),
+        (2147483647, -2147483648),
+    ];
     come_back::<i32, i32, ArchivedI32, ArchivedI32>(&rt, alloc, &usual)?;
-    let long = Vec::from_iter(alloc, (-20..20i64).map(|n| (n, n.wrapping_mul(1 << 50))))?;
+    let long = [
+        (-9223372036854775808, 9223372036854775807),
+        (-4294967296, -1),
+        (-1, 0),
+        (0, 1),
+        (4294967295, 4294967296),
+        (9223372036854775807, -9223372036854775808),
+    ];
     come_back::<i64, i64, ArchivedI64, ArchivedI64>(&rt, alloc, &long)
 }
 
 #[test]
 fn characters_and_texts_come_back(rt: HostRuntime) -> Result<(), Fail> {
     let alloc = rt.alloc();
-    let letters = Vec::from_iter(alloc, (200..240u8).map(|n| (char::from(n), '\u{10FFFF}')))?;
+    let letters = [
+        ('\0', '\u{10FFFF}'),
+        ('a', '\u{D7FF}'),
+        ('\u{7F}', '\u{E000}'),
+        ('\u{E9}', 'z'),
+        ('\u{D7FF}', '\0'),
+        ('\u{E000}', '\u{FFFF}'),
+        ('\u{10FFFF}', 'a'),
+    ];
     come_back::<char, char, ArchivedChar, ArchivedChar>(&rt, alloc, &letters)?;
-    let one = NonZeroU32::MIN;
-    let numbers = Vec::from_iter(alloc, (0..40u32).map(|n| (one.saturating_add(n), one)))?;
+    let (one, two) = (NonZeroU32::MIN, NonZeroU32::MIN.saturating_add(1));
+    let numbers = [(one, NonZeroU32::MAX), (two, one), (NonZeroU32::MAX, two)];
     come_back::<NonZeroU32, NonZeroU32, ArchivedNonZeroU32, ArchivedNonZeroU32>(
         &rt, alloc, &numbers,
     )?;
