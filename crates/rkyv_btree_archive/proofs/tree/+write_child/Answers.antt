@@ -1,4 +1,5 @@
 use Rattle.std.proofs.Common.{◌≡◌, ℕ, ◌+◌, ◌*◌, ◌-◌, ◌≤◌, ◌<◌, min, ◌∙◌, [], ◌∷◌, ◌++◌, length, map, drop, arith, Some, ap, sym, subst}
+use Rattle.std.specs.Prelude.{Result, Ok, Err, IsErrAnd, IfOk}
 use Rattle.std.proofs.lemmas.List.{map_push}
 use Rattle.std.proofs.lemmas.Result.{err_from_is_err_and}
 use Rattle.rkyv_btree_format.specs.Layout.{layout_of}
@@ -11,6 +12,11 @@ use Rattle.rkyv_btree_shape.proofs.Rows.{turn-inside, turn-rest, drop-push, take
 use Rattle.rkyv_btree_image.proofs.RowsWritten.{row-more, row-stopped, last-stopped, inner-stopped, inner-written, turn-so-far, last-so-far, so-far-as}
 use Rattle.rkyv_btree_archive.proofs.Numbers.{no_less_twice}
 use Rattle.rkyv_btree_archive.proofs.tree.+write_child.Goals as goal
+
+-- what a fault hands on promises nothing of a result
+nothing_of_ok : {T F : Type 0} (r : Result T F) (P : T → Type 0) (Q : F → Type 0) → IsErrAnd r Q → IfOk r P
+nothing_of_ok (Ok x) P Q h = absurd h
+nothing_of_ok (Err e) P Q h = tt
 
 -- what a number of entries bounds is a number of the machine
 one_more_fits : (n : ℕ) → n ≤ 4294967295 → n + 1 < 18446744073709551616
@@ -282,3 +288,109 @@ wait-requires-clause-waiting_room g t c =
     let before = c.loop-left.invariant in
     room_for_one g.row.E _ _ _ _ _ _ _ _ _ c.loop-left.left c.len-first.ensures c.requires.waiting_room c.child_is_lower.ensures.room before.waiting_count c.loop-left-test.true before.waiting_room c.in_ok-child.ensures.room.0
     (c.write_child.new.waiting.ok.0 ∙ ap length c.in_ok-child.ensures.kept.0)
+
+pub inner_base-requires-clause-fits : goal.inner_base-requires-clause-fits
+inner_base-requires-clause-fits g t c = c.requires.count
+
+pub write_few-requires-clause-fitting : goal.write_few-requires-clause-fitting
+write_few-requires-clause-fitting g t c = c.requires.fitting
+
+pub write_few-requires-clause-few : goal.write_few-requires-clause-few
+write_few-requires-clause-few g t c = c.in_default.ensures.leaf
+
+pub write_few-requires-clause-free : goal.write_few-requires-clause-free
+write_few-requires-clause-free g t c = c.requires.free
+
+pub returns-in_default-clause-ok : goal.returns-in_default-clause-ok
+returns-in_default-clause-ok g t c = c.write_few.ensures.ok
+
+pub returns-in_default-clause-err : goal.returns-in_default-clause-err
+returns-in_default-clause-err g t c = c.write_few.ensures.err
+
+pub returns-in_default-clause-last : goal.returns-in_default-clause-last
+returns-in_default-clause-last g t c = c.write_few.ensures.last
+
+pub returns-in_default-clause-free : goal.returns-in_default-clause-free
+returns-in_default-clause-free g t c = c.write_few.ensures.free
+
+pub child_is_lower-requires-clause-some : goal.child_is_lower-requires-clause-some
+child_is_lower-requires-clause-some g t c =
+    let room = room_of _ _ g.row.E g.met.K.Portable.laws g.met.V.Portable.laws c.requires.fitting in
+    room.some
+
+pub child_is_lower-requires-clause-more : goal.child_is_lower-requires-clause-more
+child_is_lower-requires-clause-more g t c = c.in-Some.ensures.more
+
+pub child_is_lower-requires-clause-base : goal.child_is_lower-requires-clause-base
+child_is_lower-requires-clause-base g t c = c.in-Some.ensures.value
+
+pub child_is_lower-requires-2-clause-some : goal.child_is_lower-requires-2-clause-some
+child_is_lower-requires-2-clause-some g t c =
+    let room = room_of _ _ g.row.E g.met.K.Portable.laws g.met.V.Portable.laws c.requires.fitting in
+    room.some
+
+pub child_is_lower-requires-2-clause-more : goal.child_is_lower-requires-2-clause-more
+child_is_lower-requires-2-clause-more g t c = c.in-Some.ensures.more
+
+pub child_is_lower-requires-2-clause-base : goal.child_is_lower-requires-2-clause-base
+child_is_lower-requires-2-clause-base g t c = c.in-Some.ensures.value
+
+pub overflow_sub-left : goal.overflow_sub-left
+overflow_sub-left g t c = c.loop-left-test.true
+
+pub write_above-requires-clause-fitting : goal.write_above-requires-clause-fitting
+write_above-requires-clause-fitting g t c = c.requires.fitting
+
+pub write_above-requires-clause-free : goal.write_above-requires-clause-free
+write_above-requires-clause-free g t c = c.in_ok-last.ensures.free
+
+pub returns-in_err-child-clause-ok : goal.returns-in_err-child-clause-ok
+returns-in_err-child-clause-ok g t c = nothing_of_ok c.from_residual.result _ _ c.from_residual.ensures.1
+
+pub returns-in_err-child-clause-last : goal.returns-in_err-child-clause-last
+returns-in_err-child-clause-last g t c = nothing_of_ok c.from_residual.result _ _ c.from_residual.ensures.1
+
+pub returns-in_err-child-clause-free : goal.returns-in_err-child-clause-free
+returns-in_err-child-clause-free g t c = nothing_of_ok c.from_residual.result _ _ c.from_residual.ensures.1
+
+pub returns-in_err-child-clause-kept : goal.returns-in_err-child-clause-kept
+returns-in_err-child-clause-kept g t c = nothing_of_ok c.from_residual.result _ _ c.from_residual.ensures.1
+
+pub returns-in_err-child-clause-room : goal.returns-in_err-child-clause-room
+returns-in_err-child-clause-room g t c = nothing_of_ok c.from_residual.result _ _ c.from_residual.ensures.1
+
+pub returns-in_err-last-clause-ok : goal.returns-in_err-last-clause-ok
+returns-in_err-last-clause-ok g t c = nothing_of_ok c.from_residual-in_err-last.result _ _ c.from_residual-in_err-last.ensures.1
+
+pub returns-in_err-last-clause-last : goal.returns-in_err-last-clause-last
+returns-in_err-last-clause-last g t c = nothing_of_ok c.from_residual-in_err-last.result _ _ c.from_residual-in_err-last.ensures.1
+
+pub returns-in_err-last-clause-free : goal.returns-in_err-last-clause-free
+returns-in_err-last-clause-free g t c = nothing_of_ok c.from_residual-in_err-last.result _ _ c.from_residual-in_err-last.ensures.1
+
+pub returns-in_err-last-clause-kept : goal.returns-in_err-last-clause-kept
+returns-in_err-last-clause-kept g t c = nothing_of_ok c.from_residual-in_err-last.result _ _ c.from_residual-in_err-last.ensures.1
+
+pub returns-in_err-last-clause-room : goal.returns-in_err-last-clause-room
+returns-in_err-last-clause-room g t c = nothing_of_ok c.from_residual-in_err-last.result _ _ c.from_residual-in_err-last.ensures.1
+
+pub returns-in_err-root-clause-ok : goal.returns-in_err-root-clause-ok
+returns-in_err-root-clause-ok g t c = nothing_of_ok c.from_residual-in_err-root.result _ _ c.from_residual-in_err-root.ensures.1
+
+pub returns-in_err-root-clause-last : goal.returns-in_err-root-clause-last
+returns-in_err-root-clause-last g t c = nothing_of_ok c.from_residual-in_err-root.result _ _ c.from_residual-in_err-root.ensures.1
+
+pub returns-in_err-root-clause-free : goal.returns-in_err-root-clause-free
+returns-in_err-root-clause-free g t c = nothing_of_ok c.from_residual-in_err-root.result _ _ c.from_residual-in_err-root.ensures.1
+
+pub returns-in_err-root-clause-kept : goal.returns-in_err-root-clause-kept
+returns-in_err-root-clause-kept g t c = nothing_of_ok c.from_residual-in_err-root.result _ _ c.from_residual-in_err-root.ensures.1
+
+pub returns-in_err-root-clause-room : goal.returns-in_err-root-clause-room
+returns-in_err-root-clause-room g t c = nothing_of_ok c.from_residual-in_err-root.result _ _ c.from_residual-in_err-root.ensures.1
+
+pub returns-clause-err : goal.returns-clause-err
+returns-clause-err g t c = tt
+
+pub returns-clause-free : goal.returns-clause-free
+returns-clause-free g t c = c.in_ok-root.ensures.free
