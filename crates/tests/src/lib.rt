@@ -6,8 +6,6 @@ mod by_hand;
 #[cfg(test)]
 mod coded;
 #[cfg(test)]
-mod commands;
-#[cfg(test)]
 mod competitors;
 #[cfg(test)]
 mod convert;
@@ -27,8 +25,6 @@ mod faults;
 mod first;
 #[cfg(test)]
 mod foreign;
-#[cfg(test)]
-mod headline;
 #[cfg(test)]
 mod in_place;
 #[cfg(test)]
@@ -58,8 +54,6 @@ mod ranges;
 #[cfg(test)]
 mod read;
 #[cfg(test)]
-mod round_trips;
-#[cfg(test)]
 mod same;
 #[cfg(test)]
 mod seals;
@@ -77,5 +71,3 @@ mod versions;
 mod views;
 #[cfg(test)]
 mod walks;
-#[cfg(test)]
-mod whole;

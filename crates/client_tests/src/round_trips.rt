@@ -1,5 +1,5 @@
 //! Whole archives of std's maps, at types of the kit.
-use crate::same::same;
+use crate::shared::same;
 use examples::round_trip::there_and_back;
 use examples::whole::{is_equal_to_itself, looked_up, owned_entries};
 use rkyv_btree::prelude::*;

@@ -1,6 +1,5 @@
 //! The headline's functions, at maps of numbers.
-use crate::read::{number, value};
-use crate::same::same;
+use crate::shared::{number, same, value};
 use examples::headline::{
     ArchiveAt, archived, archived_set, archived_std_map, archived_std_set, looked_up,
     looked_up_in_set, sealed, visited, walk_of_set, walks, within, within_set,

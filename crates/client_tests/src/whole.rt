@@ -1,6 +1,6 @@
 //! Whole archives of std's maps and sets, byte for byte, there and back, and what is refused of them.
 
-use crate::same::same;
+use crate::shared::same;
 use rkyv_btree::prelude::*;
 use std::alloc::{AllocError, Global};
 use std::collections::{BTreeMap, BTreeSet};

@@ -1,6 +1,6 @@
 //! The commands over readers and writers in memory. The archives' bytes are those of the format's definition.
 
-use crate::same::same;
+use crate::shared::same;
 use btreearc_commands::laws::round_trip;
 use btreearc_commands::program::run;
 use btreearc_lines::fault::ProgramFault;
