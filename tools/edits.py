@@ -91,13 +91,12 @@ def check(crate, texts, kept):
 
 
 def refused_for_themselves(said):
-    """Returns what is said of each function that is refused for itself, by its module and its name."""
-    found = collections.defaultdict(list)
+    """Returns which goals refuse each function that is refused for itself, by its module and its name."""
+    found = {}
     for name, why in re.findall(r"^fn (\S+): (.*)$", said, re.M):
         if why.startswith("not proved") or "`search` did not prove" in why:
             *module, function = name.split("::")
-            module = itertools.takewhile(str.islower, module)
-            found["::".join(module), function].append(goals_of(why))
+            found["::".join(itertools.takewhile(str.islower, module)), function] = goals_of(why)
     return found
 
 
@@ -107,14 +106,22 @@ def goals_of(why):
     return own[0] if own else "not proved"
 
 
+def told_apart(edits, found):
+    """Returns which goals refuse each edit's function, where that can be told."""
+    turned = {it.turned for it in edits}
+    # a method of a type goes by the module of the type, and not of its impl
+    others = {key[1]: why for key, why in found.items() if key not in turned}
+    names = collections.Counter(it.turned[1] for it in edits if it.turned not in found)
+    return {it: found.get(it.turned) or names[it.turned[1]] == 1 and others.get(it.turned[1]) for it in edits}
+
+
 def try_all(crate, edits):
     """Tells of each edit whether the prover refuses it, and for what."""
     told = []
     with tempfile.TemporaryDirectory(prefix="edits-") as kept:
         for given in rounds_of(edits, crate):
             found = refused_for_themselves(check(crate, given["texts"], kept))
-            for edit in given["edits"]:
-                why = found.get(edit.turned, [""])[0]
+            for edit, why in told_apart(given["edits"], found).items():
                 if not why and check(crate, edit.apply({}, crate), kept):
                     why = "alone, the crate isn't proved"
                 told.append((edit, why))
