@@ -6,8 +6,12 @@ mod commands;
 #[cfg(test)]
 mod headline;
 #[cfg(test)]
+mod nested;
+#[cfg(test)]
 mod round_trips;
 #[cfg(test)]
 mod shared;
+#[cfg(test)]
+mod versions;
 #[cfg(test)]
 mod whole;

@@ -26,6 +26,8 @@ mod first;
 #[cfg(test)]
 mod foreign;
 #[cfg(test)]
+mod heap;
+#[cfg(test)]
 mod in_place;
 #[cfg(test)]
 mod lookups;
@@ -65,8 +67,6 @@ mod texts;
 mod trees;
 #[cfg(test)]
 mod values;
-#[cfg(test)]
-mod versions;
 #[cfg(test)]
 mod views;
 #[cfg(test)]

@@ -1,18 +1,13 @@
-//! Maps of versions, as a program archives and reads them, and a map that is built in a heap of one's own.
-use crate::convert::{self, archive_claimed};
-use crate::faults::mismatch;
-use crate::read::number;
-use crate::same::same;
-use crate::texts::with_texts;
+//! Maps of versions, as a program archives and reads them.
+
+use crate::shared::{number, same};
 use examples::version::{ArchivedVersion, NO_VERSION, Version};
-use linked_list_allocator::LocalHeap;
 use rkyv_btree::base::fault::{EntryFault, Fault};
 use rkyv_btree::base::layout;
 use rkyv_btree::base::map::ArchivedBTreeMap;
 use rkyv_btree::base::numbers::ArchivedU32;
 use rkyv_btree::base::place::VecWriter;
 use rkyv_btree::base::refusal::Refusal;
-use rkyv_btree::base::text::ArchivedText;
 use rkyv_btree::deserialize::Deserialize;
 use rkyv_btree::map::access;
 use rkyv_btree::view::View;
@@ -38,15 +33,16 @@ fn archive(
     releases: &[(Version, u32)],
     writer: &mut VecWriter,
 ) -> Result<u32, Fault<AllocError>> {
-    let len = releases.len();
-    archive_claimed::<Version, u32, ArchivedVersion, ArchivedU32, 2>(
-        rt, alloc, len, releases, writer,
-    )
+    assert!(rt; layout::fits::<ArchivedVersion, ArchivedU32, 2>());
+    let items = releases.iter().map(|release| (&release.0, &release.1));
+    let root = Releases::serialize_from_ordered_iter(alloc, releases.len(), items, writer)?;
+    Releases::write_root(releases.len(), root, writer)
 }
 
 /// The map of versions at a position.
 fn opened<'a>(rt: &impl Abort, bytes: &'a [u8], pos: u32) -> View<'a, Releases> {
-    convert::opened::<ArchivedVersion, ArchivedU32, 2>(rt, bytes, pos)
+    assert!(rt; layout::fits::<ArchivedVersion, ArchivedU32, 2>());
+    access::<ArchivedVersion, ArchivedU32, 2>(bytes, pos).expect(rt, "a map")
 }
 
 #[test]
@@ -185,82 +181,4 @@ fn views_of_versions_compare_as_versions(rt: HostRuntime) {
             same(&rt, a.cmp(&b), left.cmp(right));
         }
     }
-}
-
-type Texts = ArchivedBTreeMap<ArchivedText, ArchivedU32, 2>;
-
-/// What building the tree of some texts in a heap comes to.
-fn build_texts(
-    rt: &impl Abort,
-    heap: &LocalHeap,
-    texts: &[(String, u32)],
-    writer: &mut VecWriter,
-) -> Result<(), Fault<AllocError>> {
-    assert!(rt; layout::fits::<ArchivedText, ArchivedU32, 2>());
-    let items = texts.iter().map(|entry| (&entry.0, &entry.1));
-    Texts::serialize_from_ordered_iter(heap, texts.len(), items, writer)?;
-    Ok(())
-}
-
-/// Whether building in a heap with so much room succeeds. Else it has refused a growth, and has written nothing.
-fn has_room(
-    rt: &impl Abort,
-    alloc: Global,
-    texts: &[(String, u32)],
-    room: usize,
-) -> Result<bool, Fail> {
-    let heap = LocalHeap::new(alloc, room)?;
-    let mut writer = VecWriter::from_vec([0xAA].to_vec(alloc)?);
-    match build_texts(rt, &heap, texts, &mut writer) {
-        Ok(()) => return Ok(true),
-        Err(Fault::Memory(_)) => {}
-        Err(fault) => return Err(fault.into()),
-    }
-    same(rt, writer.bytes(), [0xAA].as_slice());
-    same(rt, heap.used(), 0);
-    Ok(false)
-}
-
-// The heap has room for one growth of building more from time to time, so each is the first to be refused.
-#[test]
-fn a_refused_growth_writes_nothing(rt: HostRuntime) -> Result<(), Fail> {
-    let texts = [("bar", 20u32), ("bat", 80), ("baz", 40), ("foo", 10)];
-    let texts = with_texts(rt.alloc(), &texts)?;
-    for room in 0..1000 {
-        if has_room(&rt, rt.alloc(), &texts, 16 * room)? {
-            same(&rt, room >= 6, true);
-            return Ok(());
-        }
-    }
-    Err("no heap had room".into())
-}
-
-/// What building the tree of some versions, which are claimed to be so many, in a heap comes to.
-fn build_claimed(
-    rt: &impl Abort,
-    heap: &LocalHeap,
-    claim: usize,
-    releases: &[(Version, u32)],
-    writer: &mut VecWriter,
-) -> Result<(), Fault<AllocError>> {
-    assert!(rt; layout::fits::<ArchivedVersion, ArchivedU32, 2>());
-    let items = releases.iter().map(|release| (&release.0, &release.1));
-    Releases::serialize_from_ordered_iter(heap, claim, items, writer)?;
-    Ok(())
-}
-
-// The heap has no room at all, so that every growth is refused.
-#[test]
-fn a_claim_of_nothing_takes_no_memory(rt: HostRuntime) -> Result<(), Fail> {
-    let heap = LocalHeap::new(rt.alloc(), 0)?;
-    let mut writer = VecWriter::from_vec([0xAA].to_vec(rt.alloc())?);
-    let releases = [(version(0, 9, 1), 2019u32), (version(1, 0, 0), 2020)];
-    let refused = build_claimed(&rt, &heap, 1, &releases[..1], &mut writer);
-    same(&rt, matches!(refused, Err(Fault::Memory(_))), true);
-    let made = build_claimed(&rt, &heap, 0, &releases[..0], &mut writer);
-    same(&rt, made.is_ok(), true);
-    let refused = build_claimed(&rt, &heap, 0, &releases, &mut writer);
-    same(&rt, mismatch(refused), Some((0, 2)));
-    same(&rt, writer.bytes(), [0xAA].as_slice());
-    Ok(())
 }
