@@ -1,5 +1,5 @@
-//! Whole archives of std's sets, and of its maps of pairs, sets and maps: there and back, told from those of other values,
-//! and refused where a byte of them is another.
+//! Whole archives of std's sets, also of pairs, and of its maps of maps and of sets: there and back, told from those of
+//! other values, and refused where a byte of them is another.
 
 use crate::shared::same;
 use rkyv_btree::prelude::*;

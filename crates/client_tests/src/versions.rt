@@ -26,6 +26,15 @@ const fn version(major: u8, minor: u8, patch: u8) -> Version {
     }
 }
 
+/// Versions, each with the year in which it came out.
+fn releases() -> [(Version, u32); 3] {
+    [
+        (version(0, 9, 1), 2019),
+        (version(1, 0, 0), 2020),
+        (version(1, 2, 10), 2023),
+    ]
+}
+
 /// Archives the years in which versions came out behind what the writer holds, and answers the map's position.
 fn archive(
     rt: &impl Abort,
@@ -47,11 +56,7 @@ fn opened<'a>(rt: &impl Abort, bytes: &'a [u8], pos: u32) -> View<'a, Releases> 
 
 #[test]
 fn versions_are_archived_and_read(rt: HostRuntime) -> Result<(), Fail> {
-    let releases = [
-        (version(0, 9, 1), 2019),
-        (version(1, 0, 0), 2020),
-        (version(1, 2, 10), 2023),
-    ];
+    let releases = releases();
     let mut writer = VecWriter::new(rt.alloc());
     let pos = archive(&rt, rt.alloc(), &releases, &mut writer)?;
     let map = opened(&rt, writer.bytes(), pos);
@@ -80,13 +85,8 @@ fn is_read_as(
 
 #[test]
 fn versions_are_looked_up(rt: HostRuntime) -> Result<(), Fail> {
-    let releases = [
-        (version(0, 9, 1), 2019),
-        (version(1, 0, 0), 2020),
-        (version(1, 2, 10), 2023),
-    ];
     let mut writer = VecWriter::new(rt.alloc());
-    let pos = archive(&rt, rt.alloc(), &releases, &mut writer)?;
+    let pos = archive(&rt, rt.alloc(), &releases(), &mut writer)?;
     let map = opened(&rt, writer.bytes(), pos);
     let rows = [
         (version(0, 9, 0), None),
