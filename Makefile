@@ -3,7 +3,7 @@ export RT ?= rt
 PROGRAM := crates/btreearc/out/btreearc
 MAPS := crates/bench/out/bench
 
-.PHONY: run test bench program maps
+.PHONY: run test bench man drawing program maps
 
 # Two lines become an archive, and the archive becomes the two lines again.
 run: program
@@ -25,12 +25,22 @@ test:
 bench: program maps
 	@bench/program.sh $(PROGRAM)
 	@set -e; for count in 1000 100000 1000000; do $(MAPS) $$count; done
+	@bench/file.sh $(MAPS)
+
+# The man page of the program, made of its page; shown where there is a man to show it.
+man:
+	@tools/man.py
+	@if command -v man > /dev/null; then man -l docs/btreearc.1; fi
+
+# The drawing of the format, made of the program's archive of 17 entries.
+drawing: program
+	@awk 'BEGIN { for (i = 1; i <= 17; i++) print i, 10 * i }' | $(PROGRAM) build | tools/drawing.py > docs/format.svg
 
 # rt proves the program and its libraries before it builds it, which takes minutes the first time; where nothing has changed it does neither.
 # The script says on standard error which crate is being proved.
 program:
 	@tools/program.sh btreearc build
 
-# The program that times maps in memory, built in the same way. Without an argument it does nothing.
+# The program that times maps in memory, built in the same way. Without an argument it compares two builders.
 maps:
 	@tools/program.sh bench

@@ -1,7 +1,8 @@
 #!/usr/bin/env bash
-# The merge gate: rt ci; then the wrong bodies in the crates' folders `wrong`, many in one check; and then the program as a
-# process of its own, as each of two compilers has built it. The last line is rt ci's, 'N passed, M failed', in which each
-# wrong body counts as one, and the processes as one. The status is 0 where nothing failed. RT is rt's command, if not rt.
+# The merge gate: the documents and the index of contracts, against the repository; rt ci; then the wrong bodies in the crates'
+# folders `wrong`, many in one check; and then the program as a process of its own, as each of two compilers has built it. The last
+# line is rt ci's, 'N passed, M failed', in which the documents, the index, each wrong body and the processes count as one. The status
+# is 0 where nothing failed. RT is rt's command, if not rt.
 set -euo pipefail
 cd "$(dirname "${BASH_SOURCE[0]}")/.."
 read -ra rt <<< "${RT:-rt}"
@@ -22,6 +23,8 @@ count() {
         failed=$((failed + 1))
     fi
 }
+count '([0-9]+) passed, ([0-9]+) failed' tools/docs.py
+count '([0-9]+) passed, ([0-9]+) failed' tools/index.py --check
 count '([0-9]+) passed, ([0-9]+) failed' "${rt[@]}" ci
 count '([0-9]+) refused, ([0-9]+) not' tools/edits.py --after-ci
 

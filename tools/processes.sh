@@ -1,6 +1,7 @@
 #!/usr/bin/env bash
 # Runs the built program as a process of its own, and compares its status, its standard output and its line on standard
-# error with what each case names. Then it has more than 1 MB of lines built and listed through pipes, and a value set.
+# error with what each case names. Then it has more than 1 MB of lines built and listed through pipes, and a value set. The drawing
+# of the format must be that of its archive.
 #
 #     tools/processes.sh [PROGRAM]
 #
@@ -8,7 +9,8 @@
 set -euo pipefail
 export LC_ALL=C
 
-program=${1:-$(dirname "${BASH_SOURCE[0]}")/../crates/btreearc/out/btreearc}
+tools=$(cd "$(dirname "${BASH_SOURCE[0]}")" && pwd)
+program=${1:-$tools/../crates/btreearc/out/btreearc}
 [[ -f $program && -x $program ]] || { echo "processes: no program at $program" >&2; exit 1; }
 program=$(cd "$(dirname "$program")" && pwd)/$(basename "$program")
 
@@ -66,6 +68,9 @@ awk 'BEGIN { for (i = 0; i < 100000; i++) printf "%d %d\n", 4 * i + 1, 10 * i }'
 
 printf '%b' "$three" | "$program" set 2 99 | "$program" list > "$work/listed"
 printf '1 10\n2 99\n9 90\n' | cmp -s - "$work/listed" || fail "list doesn't give the value that set has written"
+
+awk 'BEGIN { for (i = 1; i <= 17; i++) print i, 10 * i }' | "$program" build | "$tools/drawing.py" |
+    cmp -s - "$tools/../docs/format.svg" || fail "docs/format.svg isn't the drawing of 17 entries; run make drawing"
 
 ((failed)) || echo "processes: $program ends as it must"
 exit "$failed"

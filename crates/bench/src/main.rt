@@ -1,7 +1,12 @@
 //! Times maps in memory, of so many entries as its one argument says: a map of texts to numbers, in nanoseconds an entry
-//! for building, checking and walking it, look-ups in a map of numbers, and std's maps to bytes and back. Without an argument it does nothing.
+//! for building, checking and walking it, look-ups in a map of numbers, and std's maps to bytes and back. A second argument
+//! is the name of a file, to which a map of so many numbers is built in place of all that. Without an argument it compares
+//! the library's builder with one by recursion.
 #![tactic(auto)]
 
+mod access;
+mod builders;
+mod building;
 mod maps;
 mod numbers;
 mod report;
@@ -11,7 +16,7 @@ mod writes;
 use crate::maps::write;
 use crate::report::Report;
 use anyhow::{Context, ensure};
-use rkyv_btree::map::access;
+use rkyv_btree::map;
 use rkyv_btree::view::View;
 use rkyv_btree_base::layout;
 use rkyv_btree_base::map::ArchivedBTreeMap;
@@ -71,7 +76,7 @@ fn check<'a>(
 ) -> anyhow::Result<View<'a, Map>> {
     ensure!(layout::fits::<ArchivedText, ArchivedU32, 5>(), "too large");
     let start = Instant::now(rt)?;
-    let map = access::<ArchivedText, ArchivedU32, 5>(bytes, root)?;
+    let map = map::access::<ArchivedText, ArchivedU32, 5>(bytes, root)?;
     tell(rt, "check", start.elapsed(rt)?, count)?;
     Ok(map)
 }
@@ -106,14 +111,19 @@ fn measure(rt: &HostRuntime, count: u32) -> anyhow::Result<()> {
 }
 
 fn main(rt: HostRuntime) -> anyhow::Result<()> {
-    match env::args(&rt)?.nth(1) {
+    let mut arguments = env::args(&rt)?;
+    match arguments.nth(1) {
         Some(count) => {
             let count = count.parse().context("no number of entries")?;
+            if let Some(name) = arguments.next() {
+                return building::measure_file(&rt, count, name.as_str());
+            }
             measure(&rt, count)?;
             numbers::measure(&rt, count)?;
             let report = Report { rt: &rt, count };
+            building::measure(&report, rt.alloc())?;
             std_maps::measure(&report, rt.alloc())
         }
-        None => Ok(()),
+        None => builders::compare(&rt),
     }
 }

@@ -22,7 +22,7 @@ pub(crate) type Map = ArchivedBTreeMap<ArchivedU32, ArchivedU32, 5>;
 pub(crate) const LOOKUPS: u32 = 1000000;
 
 /// Key and value of entry `index`.
-fn entry(index: u32) -> (u32, u32) {
+pub(crate) fn entry(index: u32) -> (u32, u32) {
     (
         index.wrapping_mul(4).wrapping_add(1),
         index.wrapping_mul(10),
@@ -30,7 +30,7 @@ fn entry(index: u32) -> (u32, u32) {
 }
 
 /// So many entries, in the order of their keys.
-fn entries(alloc: Global, count: u32) -> Result<Vec<(u32, u32)>, AllocError> {
+pub(crate) fn entries(alloc: Global, count: u32) -> Result<Vec<(u32, u32)>, AllocError> {
     let mut entries = Vec::with_capacity(alloc, count as usize)?;
     for index in 0..count {
         entries.push(entry(index))?;
@@ -242,6 +242,7 @@ pub fn measure(rt: &HostRuntime, count: u32) -> anyhow::Result<()> {
     let root = write(rt.alloc(), entries.as_slice(), &mut writer)?;
     let mut std_map = std_map(rt.alloc(), &entries)?;
     let report = Report { rt, count };
+    crate::access::measure(&report, writer.bytes(), root)?;
     measure_reads(&report, writer.bytes(), root, &std_map, &entries, &keys)?;
     let mut archive = writer.bytes().to_vec(rt.alloc())?;
     writes::measure(&report, &mut archive, root, &mut std_map, &keys)

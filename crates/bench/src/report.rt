@@ -18,6 +18,20 @@ impl Report<'_> {
         who: &str,
         what: &str,
         operations: u32,
+        run: F,
+    ) -> io::Result<T>
+        requires { F.IsAlwaysCallable run }
+    {
+        self.time_often(who, what, operations, 4, run)
+    }
+
+    /// Does the same, and runs so many times again.
+    pub fn time_often<T: Drop, F: FnMut() -> T>(
+        &self,
+        who: &str,
+        what: &str,
+        operations: u32,
+        again: u32,
         mut run: F,
     ) -> io::Result<T>
         requires { F.IsAlwaysCallable run }
@@ -26,7 +40,7 @@ impl Report<'_> {
         let start = Instant::now(self.rt)?;
         let mut answer = run();
         best = best.min(start.elapsed(self.rt)?.as_nanos());
-        for _ in 0..4 {
+        for _ in 0..again {
             let start = Instant::now(self.rt)?;
             answer = run();
             best = best.min(start.elapsed(self.rt)?.as_nanos());

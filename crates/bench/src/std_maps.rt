@@ -84,7 +84,14 @@ where
 
 /// Times a map of numbers and one of texts.
 pub fn measure(report: &Report, alloc: Global) -> anyhow::Result<()> {
-    let map = numbers(alloc, report.count)?;
+    let map = report
+        .time(
+            "std",
+            "insert, u32",
+            report.count,
+            || numbers(alloc, report.count).ok(),
+        )?
+        .context("no map")?;
     measure_map(report, alloc, &map, "to bytes, u32", "to BTreeMap, u32")?;
     let map = texts(alloc, report.count)?;
     measure_map(report, alloc, &map, "to bytes, text", "to BTreeMap, text")

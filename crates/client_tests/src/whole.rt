@@ -140,7 +140,7 @@ fn an_archive_is_made_or_a_growth_is_refused(rt: HostRuntime) {
     }
 }
 
-// Four texts and a node grow. `rt try --test --fail-alloc 1` to `5` refuses each.
+// A list, four texts, and then three growths for the map. `rt try --test --fail-alloc 1` to `8` refuses each.
 #[test]
 fn a_map_is_made_or_a_growth_is_refused(rt: HostRuntime) {
     assert!(rt; ArchivedBTreeMap::<ArchivedText, ArchivedI32, 5>::fits());

@@ -115,6 +115,7 @@ pub mod prelude {
     pub use rkyv_btree_base::archive::{Archive, Serialize};
     pub use rkyv_btree_base::check::{CheckBytes, Portable};
     pub use rkyv_btree_base::fault::Fault;
+    pub use rkyv_btree_base::io_writer::IoWriter;
     pub use rkyv_btree_base::map::ArchivedBTreeMap;
     pub use rkyv_btree_base::numbers::{ArchivedU16, ArchivedU32, ArchivedU64};
     pub use rkyv_btree_base::place::VecWriter;

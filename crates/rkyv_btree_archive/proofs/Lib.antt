@@ -2,3 +2,8 @@ mod TextsWritten
 pub mod Both
 pub mod Numbers
 pub mod OneArchival
+pub mod Passing
+pub mod OpenNodes
+pub mod WholeTree
+pub mod Stands
+pub mod Pieces

@@ -16,10 +16,6 @@ no_more m n same = omega arith
 pub ends_before : (at size whole full : ℕ) → size ≤ whole → at + whole ≤ full → at + size ≤ full
 ends_before at size whole full low inside = omega arith
 
--- behind nothing
-pub room_alone : (len count room : ℕ) → len ≡ 0 → count ≤ room → len + count ≤ room
-room_alone len count room none low = omega arith
-
 -- all of a list were gone through
 pub as_many : (k i n : ℕ) → k ≡ i → n ≤ i → i ≤ n → k ≡ n
 as_many k i n same none few = omega arith

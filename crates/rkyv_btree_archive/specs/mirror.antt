@@ -1,2 +1,3 @@
--- Facts of the code alone: the lists that building reserves.
+-- Facts of the code alone: the lists that building reserves, and the children that it writes one after another.
+pub mod Passing
 pub mod Scratch

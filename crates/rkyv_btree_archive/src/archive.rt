@@ -23,7 +23,7 @@ pub trait Archive {
     /// The archived representation of a value.
     type Archived: Portable;
 
-    /// What serialising tells resolving.
+    /// The state that `serialize` passes to `resolve`.
     type Resolver: Drop;
 
     /// What archiving does.

@@ -1,5 +1,5 @@
 //! Building archived maps.
-ghost use Rattle.std.specs.Prelude.{◌≡◌, ℕ, ◌+◌, ◌-◌, ◌*◌, ◌<◌, ◌≤◌, ◌↔◌, List, [], length, map, true, false, vec_capacity, alloc_error, IsOk, OnOk, OnErr, IfOk, IfErr, IsErrOf, IsTrue};
+ghost use Rattle.std.specs.Prelude.{◌≡◌, ℕ, ◌+◌, ◌-◌, ◌*◌, ◌^◌, ◌<◌, ◌≤◌, ◌↔◌, List, [], length, map, true, false, vec_capacity, alloc_error, IsOk, OnOk, OnErr, IfOk, IfErr, IsErrOf, IsTrue};
 ghost use Rattle.std.specs.Iterator.{Yields, Drains, IsFinite, UpTo, size};
 ghost use Rattle.rkyv_btree_writer.specs.Archiving.{BeginsWith};
 ghost use Rattle.rkyv_btree_image.specs.Archives.{SerialisedIsAccepted, EmptyIsAccepted, WrittenIsHeld};
@@ -11,6 +11,7 @@ ghost use Rattle.rkyv_btree_format.specs.Layout.{layout_of, are_fitting};
 ghost use Rattle.rkyv_btree_shape.specs.Logarithm.{ilog};
 ghost use Rattle.rkyv_btree_shape.specs.Plan.{planned_alone};
 ghost use Rattle.rkyv_btree_portable.specs.Rounding.{round_up};
+ghost use Rattle.rkyv_btree_image.specs.OneTree.{BuildsOneTree};
 ghost use Rattle.rkyv_btree_archive.specs.mirror.Scratch.{IsFree, IsReserved};
 ghost use Rattle.rkyv_btree_image.specs.Kept.{NeverGrows, OnlyAppended};
 ghost use Rattle.rkyv_btree_image.specs.Miscounts.{IsMiscount};
@@ -19,9 +20,10 @@ ghost use Rattle.rkyv_btree_image.specs.SmallestMaps.{BuildsSmallest};
 ghost use Rattle.rkyv_btree_writer.specs.Writing.{position, Wrote, last_end};
 
 use crate::archive::{Archive, Serialize};
+use crate::items::none_left;
 use crate::map::ArchivedBTreeMap;
-use crate::tree::{push, write_child};
-use crate::writes::Scratch;
+use crate::tree::{Lists, write_tree};
+use crate::writes::reserve_scratch;
 use rkyv_btree_format::layout;
 use rkyv_btree_portable::check::Portable;
 use rkyv_btree_shape::height::entries_to_height;
@@ -29,7 +31,6 @@ use rkyv_btree_writer::fault::{Fault, IteratorLengthMismatch, ResolveFault};
 use rkyv_btree_writer::place::{Place, Writer, write_offset};
 use rkyv_btree_writer::writes::{LAST_END, pad, put};
 use std::alloc::{AllocError, Allocator};
-use std::collections::VecDeque;
 use std::marker::Model;
 
 /// Where the root node of a serialised map stands. That of an empty map stands for position 0.
@@ -44,82 +45,11 @@ impl Model for BTreeMapResolver {
     ghost view = { λ r. r.root };
 }
 
-/// How many entries wait at most, on all levels together, until their nodes' children are written.
-fn waiting<K: Portable, V: Portable, const E: usize>(len: usize) -> usize
-    requires fitting { IsTrue (are_fitting K.kind V.kind E) }
-    requires some { 0 < len }
-    requires small { len ≤ 4294967295 }
-    ensures { result ≡ E * ilog (E + 1) len }
-{
-    E * (entries_to_height::<E>(len as u64) as usize - 1)
-}
-
-/// Takes items until there are `count`, and answers whether the iterator gave that many.
-fn take_items<'x, M, N, A: Allocator, I: Iterator<Item = (&'x M, &'x N)>>(
-    items: &mut Vec<(&'x M, &'x N), A>,
-    count: usize,
-    iter: &mut I,
-) -> bool
-    requires empty { items.old.items ≡ [] }
-    requires room { count ≤ vec_capacity items.old }
-    requires can { I.can_next iter.old }
-    requires ends { IsFinite (I.remaining iter.old) }
-    ensures all { result ≡ true → Yields I.next_gives iter.old items.new.items iter.new }
-    ensures few { result ≡ false → Drains I.next_gives iter.old items.new.items }
-    ensures len { result ≡ true → length items.new.items ≡ count }
-    ensures short { result ≡ false → length items.new.items < count }
-    ensures can { result ≡ true → I.can_next iter.new }
-    ensures ends { result ≡ true → IsFinite (I.remaining iter.new) }
-    ensures left { result ≡ true →
-        size (I.remaining iter.new) + count ≤ size (I.remaining iter.old) }
-{
-    while items.len() < count {
-        match iter.next() {
-            Some(item) => push(items, item),
-            None => return false,
-        }
-    }
-    true
-}
-
-/// Refuses what is left of an iterator that has given `len` items, with all of it counted.
-fn none_left<T: Drop, I: Iterator<Item = T>>(
-    iter: I,
-    len: usize,
-) -> Result<(), IteratorLengthMismatch>
-    requires can { I.can_next iter }
-    requires ends { UpTo (I.remaining iter) (18446744073709551615 - len) }
-    ensures ok { OnOk result (Drains I.next_gives iter []) }
-    ensures expected { IfErr result (λ miscount. miscount.expected ≡ len) }
-    ensures more { IfErr result (λ miscount. len < miscount.actual) }
-    ensures actual { IfErr result (λ miscount.
-        (left : List T) × Drains I.next_gives iter left × (miscount.actual ≡ len + length left)) }
-{
-    let more = iter.count();
-    if more != 0 {
-        return Err(IteratorLengthMismatch {
-            expected: len,
-            actual: len + more,
-        });
-    }
-    Ok(())
-}
-
-/// What building takes: what writing a node takes, and lists of the entries and children that wait for their nodes, and of
-/// the items.
-#[derive(Drop)]
-struct Reserved<'x, KU: Archive, VU: Archive, A: Allocator> {
-    scratch: Scratch<KU::Resolver, VU::Resolver, A>,
-    waiting: Vec<(&'x KU, &'x VU), A>,
-    children: Vec<Option<u32>, A>,
-    items: Vec<(&'x KU, &'x VU), A>,
-}
-
-/// Reserves all memory that building takes of so many items, but for what their own serialising takes.
+/// Reserves all memory that building takes of so many levels, but for what the items' own serialising takes.
 fn reserve<'x, KU, VU, K, V, A, const E: usize>(
     alloc: A,
-    len: usize,
-) -> Result<Reserved<'x, KU, VU, A>, AllocError>
+    above: usize,
+) -> Result<Lists<'x, KU, VU, A>, AllocError>
 where
     KU: Archive<Archived = K> + 'x,
     VU: Archive<Archived = V> + 'x,
@@ -127,68 +57,37 @@ where
     V: Portable,
     A: Allocator + Copy,
     requires fitting { IsTrue (are_fitting K.kind V.kind E) }
-    requires some { 0 < len }
-    requires small { len ≤ 4294967295 }
+    requires few { above < 32 }
     ensures free { IfOk result (λ it. IsFree (layout_of K.kind V.kind E) it.scratch) }
-    ensures waiting { IfOk result (λ it. IsReserved it.waiting (E * ilog (E + 1) len)) }
-    ensures children { IfOk result (λ it. IsReserved it.children (E * ilog (E + 1) len)) }
-    ensures items { IfOk result (λ it. IsReserved it.items len) }
+    ensures waiting { IfOk result (λ it. IsReserved it.waiting (E * above)) }
+    ensures children { IfOk result (λ it. IsReserved it.children (E * above)) }
+    ensures starts { IfOk result (λ it. IsReserved it.starts above) }
+    ensures leaf { IfOk result (λ it. IsReserved it.leaf E) }
 {
-    let waiting = waiting::<K, V, E>(len);
-    Ok(Reserved {
-        scratch: Scratch {
-            node: Vec::with_capacity(alloc, layout::inner_size::<K, V, E>() as usize)?,
-            keys: VecDeque::with_capacity(alloc, E)?,
-            values: VecDeque::with_capacity(alloc, E)?,
-        },
+    let waiting = E * above;
+    Ok(Lists {
+        scratch: reserve_scratch::<KU, VU, K, V, A, E>(alloc)?,
         waiting: Vec::with_capacity(alloc, waiting)?,
         children: Vec::with_capacity(alloc, waiting)?,
-        items: Vec::with_capacity(alloc, len)?,
+        starts: Vec::with_capacity(alloc, above)?,
+        leaf: Vec::with_capacity(alloc, E)?,
     })
 }
 
-/// Writes the tree of the items that were taken, and answers where its root node stands; nothing for no items.
-fn write_items<'x, KU, VU, K, V, W, A, const E: usize>(
-    alloc: A,
-    lists: Reserved<'x, KU, VU, A>,
-    writer: &mut W,
-) -> Result<Option<u32>, Fault<W::Error>>
-where
-    KU: Archive<Archived = K> + Serialize<W, A> + 'x,
-    VU: Archive<Archived = V> + Serialize<W, A> + 'x,
-    K: Portable,
-    V: Portable,
-    W: Writer,
-    A: Allocator + Copy,
-    requires fitting { IsTrue (are_fitting K.kind V.kind E) }
-    requires count { length lists.items.items ≤ 4294967295 }
-    requires free { IsFree (layout_of K.kind V.kind E) lists.scratch }
-    requires waiting { IsReserved lists.waiting (E * ilog (E + 1) (length lists.items.items)) }
-    requires children { IsReserved lists.children
-        (E * ilog (E + 1) (length lists.items.items)) }
-    ensures ok { IfOk result (λ root.
-        ChildWritten (layout_of K.kind V.kind E) KU.archival VU.archival (W.state writer.old)
-        (planned_alone E (map now_of lists.entry.items.items)) root (W.state writer.new)) }
-    ensures err { IfErr result (λ fault.
-        ChildStopped (layout_of K.kind V.kind E) KU.archival VU.archival (W.state writer.old)
-        (planned_alone E (map now_of lists.entry.items.items)) fault (W.state writer.new)) }
-    ensures last { OnOk result
-        (0 < length lists.entry.items.items → position (W.state writer.new) ≤ last_end) }
+/// How many levels the tree of so many entries has above its last one, and how many entries that has.
+fn levels_of<const E: usize>(len: usize) -> (usize, usize)
+    requires entries { 1 ≤ E }
+    requires small { E < 2 ^ 30 }
+    requires some { 0 < len }
+    requires fits { len ≤ 4294967295 }
+    ensures above { result.0 ≡ ilog (E + 1) len }
+    ensures levels { result.0 < 32 }
+    ensures last { result.1 + (E + 1) ^ result.0 ≡ len + 1 }
+    ensures some { 1 ≤ result.1 }
+    ensures most { result.1 ≤ E * (E + 1) ^ result.0 }
 {
-    let Reserved {
-        mut scratch,
-        mut waiting,
-        mut children,
-        items,
-    } = lists;
-    write_child::<KU, VU, K, V, W, A, E>(
-        alloc,
-        &mut scratch,
-        &mut waiting,
-        &mut children,
-        &items,
-        writer,
-    )
+    let above = entries_to_height::<E>(len as u64) as usize - 1;
+    (above, len + 1 - (E + 1).pow(above as u32))
 }
 
 /// Writes the tree of an iterator's items, which are claimed to be `len`, and answers where its root node stands.
@@ -223,16 +122,13 @@ where
     ensures kept { OnErr result (BeginsWith (W.state writer.new) (W.state writer.old)) }
     ensures end { OnOk result (position (W.state writer.new) ≤ last_end) }
 {
-    let Ok(mut lists) = reserve::<KU, VU, K, V, A, E>(alloc, len) else {
+    let (above, on_last) = levels_of::<E>(len);
+    let Ok(lists) = reserve::<KU, VU, K, V, A, E>(alloc, above) else {
         return Err(Fault::Memory(AllocError));
     };
-    if !take_items(&mut lists.items, len, &mut iter) {
-        return Err(Fault::Length(IteratorLengthMismatch {
-            expected: len,
-            actual: lists.items.len(),
-        }));
-    }
-    let root = write_items::<KU, VU, K, V, W, A, E>(alloc, lists, writer)?;
+    let root = write_tree::<KU, VU, K, V, W, A, I, E>(
+        alloc, above, on_last, len, lists, &mut iter, writer,
+    )?;
     if let Err(miscount) = none_left(iter, len) {
         return Err(Fault::Length(miscount));
     }
@@ -272,6 +168,10 @@ impl<K: Portable, V: Portable, const E: usize> ArchivedBTreeMap<K, V, E> {
         // nodes, node bytes or levels.
         ensures smallest { IfOk result
             (BuildsSmallest K.kind V.kind E KU.archival VU.archival I.next_gives iter len
+            W.state writer.old writer.new) }
+        // The tree is the one left-complete tree of the items, and what was appended is its image.
+        ensures one_tree { IfOk result
+            (BuildsOneTree K.kind V.kind E KU.archival VU.archival I.next_gives iter len
             W.state writer.old writer.new) }
         ensures err { IfErr result
             (FailsToBuild K.kind V.kind E KU.archival VU.archival I.next_gives iter len

@@ -1,30 +1,30 @@
 //! Serialising the entries of a node.
-ghost use Rattle.std.specs.Prelude.{◌≡◌, ◌+◌, ◌≤◌, ◌<◌, [], ◌∷◌, ◌++◌, length, map, IsTrue, OnOk, IfErr};
-ghost use Rattle.std.specs.VecDeque.{deque_len, deque_capacity};
+ghost use Rattle.std.specs.Prelude.{◌≡◌, ◌+◌, ◌≤◌, ◌<◌, [], ◌∷◌, ◌++◌, length, map, vec_capacity, IsTrue, OnOk, IfErr};
 ghost use Rattle.rkyv_btree_image.specs.Entries.{AreSerialised, AreUnserialised, now_of};
 
 use crate::archive::{Archive, Serialize};
 use rkyv_btree_writer::fault::Fault;
 use rkyv_btree_writer::place::Writer;
 use std::alloc::Allocator;
-use std::collections::VecDeque;
 
 /// Appends a value for which there is room.
-fn push_back<T: Drop, A: Allocator>(values: &mut VecDeque<T, A>, value: T)
-    requires { length values.old.items < deque_capacity values.old }
+#[inline(always)]
+fn push_back<T: Drop, A: Allocator>(values: &mut Vec<T, A>, value: T)
+    requires { length values.old.items < vec_capacity values.old }
     ensures items { values.new.items ≡ values.old.items ++ value ∷ [] }
-    ensures capacity { deque_capacity values.old ≤ deque_capacity values.new }
+    ensures capacity { vec_capacity values.old ≤ vec_capacity values.new }
 {
-    values.push_back(value).unwrap();
+    values.push_reserved(value);
 }
 
 /// Serialises entries in their order, each key before its value, and keeps in two lists with room for it what resolving
 /// needs.
+#[inline(always)]
 pub(crate) fn serialize_entries<KU, VU, W, A>(
     alloc: A,
     entries: &[(&KU, &VU)],
-    keys: &mut VecDeque<KU::Resolver, A>,
-    values: &mut VecDeque<VU::Resolver, A>,
+    keys: &mut Vec<KU::Resolver, A>,
+    values: &mut Vec<VU::Resolver, A>,
     writer: &mut W,
 ) -> Result<(), Fault<W::Error>>
 where
@@ -36,8 +36,8 @@ where
     requires fits_value { IsTrue VU.Archived.kind.is_fitting }
     requires no_keys { keys.old.items ≡ [] }
     requires no_values { values.old.items ≡ [] }
-    requires key_room { length entries.now ≤ deque_capacity keys.old }
-    requires value_room { length entries.now ≤ deque_capacity values.old }
+    requires key_room { length entries.now ≤ vec_capacity keys.old }
+    requires value_room { length entries.now ≤ vec_capacity values.old }
     ensures ok { OnOk result
         (AreSerialised KU.archival VU.archival (W.state writer.old) (map now_of entries.now)
         keys.new.items values.new.items (W.state writer.new)) }
@@ -46,8 +46,8 @@ where
         fault (W.state writer.new)) }
     ensures keys { OnOk result (length keys.new.items ≡ length entries.now) }
     ensures values { OnOk result (length values.new.items ≡ length entries.now) }
-    ensures key_room { deque_capacity keys.old ≤ deque_capacity keys.new }
-    ensures value_room { deque_capacity values.old ≤ deque_capacity values.new }
+    ensures key_room { vec_capacity keys.old ≤ vec_capacity keys.new }
+    ensures value_room { vec_capacity values.old ≤ vec_capacity values.new }
 {
     for entry in entries {
         let key = entry.0.serialize(alloc, writer)?;

@@ -4,6 +4,7 @@
 pub mod archive;
 pub mod build;
 mod entries;
+pub mod items;
 pub mod map;
 mod node;
 pub mod pair;
@@ -12,5 +13,6 @@ pub mod std_types;
 pub mod text;
 mod tree;
 pub mod util;
+pub mod waiting;
 pub mod whole;
-mod writes;
+pub mod writes;

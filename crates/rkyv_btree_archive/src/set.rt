@@ -5,6 +5,7 @@ ghost use Rattle.std.specs.Option.{option_map};
 ghost use Rattle.rkyv_btree_writer.specs.Archiving.{BeginsWith};
 ghost use Rattle.rkyv_btree_image.specs.Kept.{NeverGrows, OnlyAppended};
 ghost use Rattle.rkyv_btree_image.specs.Miscounts.{IsMiscount};
+ghost use Rattle.rkyv_btree_image.specs.OneTree.{BuildsOneTreeSet};
 ghost use Rattle.rkyv_btree_image.specs.Serialising.{RootFault};
 ghost use Rattle.rkyv_btree_image.specs.Sets.{BuildsSet, FailsToBuildSet};
 ghost use Rattle.rkyv_btree_image.specs.SmallestMaps.{BuildsSmallestSet};
@@ -117,6 +118,10 @@ impl<K: Portable, const E: usize> ArchivedBTreeSet<K, E> {
         // node bytes or levels.
         ensures smallest { IfOk result
             (BuildsSmallestSet K.kind E KU.archival I.next_gives iter len
+            W.state writer.old writer.new) }
+        // The tree is the one left-complete tree of the keys, and what was appended is its image.
+        ensures one_tree { IfOk result
+            (BuildsOneTreeSet K.kind E KU.archival I.next_gives iter len
             W.state writer.old writer.new) }
         ensures err { IfErr result
             (FailsToBuildSet K.kind E KU.archival I.next_gives iter len

@@ -1,8 +1,9 @@
 //! Std's maps and sets, archived as trees with five entries in a node.
-ghost use Rattle.std.specs.Prelude.{◌≡◌, length, IsTrue, OnOk, OnErr, IfOk, IfErr};
-ghost use Rattle.rkyv_btree_format.specs.Layout.{are_fitting};
+ghost use Rattle.std.specs.Prelude.{◌≡◌, ◌<◌, length, IsTrue, OnOk, OnErr, IfOk, IfErr};
+ghost use Rattle.rkyv_btree_format.specs.Layout.{layout_of, are_fitting};
 ghost use Rattle.rkyv_btree_image.specs.Determined.{IsDetermined};
 ghost use Rattle.rkyv_btree_image.specs.Kept.{OnlyAppended};
+ghost use Rattle.rkyv_btree_image.specs.OneTree.{OneTreeWritten};
 ghost use Rattle.rkyv_btree_image.specs.Sets.{unit_archival, with_units};
 ghost use Rattle.rkyv_btree_image.specs.SmallestMaps.{IsSmallestArchive};
 ghost use Rattle.rkyv_btree_image.specs.TreeArchival.{IsRoot, tree_archival};
@@ -75,6 +76,10 @@ impl<W: Writer, A: Allocator + Copy, KU: Serialize<W, A> + Ord, VU: Serialize<W,
         ensures smallest { IfOk result (λ root.
             IsSmallestArchive KU.Archived.kind VU.Archived.kind 5 KU.archival VU.archival
             (W.state writer.old) self.now.entries root (W.state writer.new)) }
+        // The tree is the one left-complete tree of the entries, and what was appended is its image.
+        ensures one_tree { IfOk result (λ root. 0 < length self.now.entries →
+            OneTreeWritten (layout_of KU.Archived.kind VU.Archived.kind 5) KU.archival VU.archival
+            (W.state writer.old) self.now.entries root (W.state writer.new)) }
         ensures err { IfErr result (λ fault.
             IsUnserialised (tree_archival 5 KU.archival VU.archival (λ map. map.entries)) self.now
             (W.state writer.old) fault (W.state writer.new)) }
@@ -134,6 +139,10 @@ impl<W: Writer, A: Allocator + Copy, KU: Serialize<W, A> + Ord> Serialize<W, A> 
         // node bytes or levels.
         ensures smallest { IfOk result (λ root.
             IsSmallestArchive KU.Archived.kind unit_kind 5 KU.archival unit_archival
+            (W.state writer.old) (with_units self.now.keys) root (W.state writer.new)) }
+        // The tree is the one left-complete tree of the keys, and what was appended is its image.
+        ensures one_tree { IfOk result (λ root. 0 < length self.now.keys →
+            OneTreeWritten (layout_of KU.Archived.kind unit_kind 5) KU.archival unit_archival
             (W.state writer.old) (with_units self.now.keys) root (W.state writer.new)) }
         ensures err { IfErr result (λ fault.
             IsUnserialised (tree_archival 5 KU.archival unit_archival (λ set. with_units set.keys))

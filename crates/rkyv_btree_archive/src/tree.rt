@@ -1,121 +1,94 @@
-//! Writing a tree by plain recursion over the sizes of its subtrees.
-ghost use Rattle.std.specs.Prelude.{◌≡◌, ◌+◌, ◌*◌, ◌-◌, ◌^◌, ◌≤◌, ◌<◌, [], ◌∷◌, ◌++◌, length, map, take, drop, min, vec_len, vec_capacity, OnOk, IfOk, IfErr, OnSome, IfSome, IfNone, IsTrue};
-ghost use Rattle.rkyv_btree_format.specs.Layout.{layout_of, are_fitting, inner_size};
-ghost use Rattle.rkyv_btree_shape.specs.Logarithm.{ilog};
-ghost use Rattle.rkyv_btree_shape.specs.Plan.{planned_alone};
-ghost use Rattle.rkyv_btree_archive.specs.mirror.Scratch.{IsFree};
+//! Writing a tree in one pass over its entries. Of the entries that have come only those wait whose node isn't written: of
+//! each level above one node's, and of one leaf.
+ghost use Rattle.std.specs.Prelude.{◌≡◌, ℕ, ◌+◌, ◌*◌, ◌-◌, ◌^◌, ◌≤◌, ◌<◌, ◌↔◌, List, [], ◌∷◌, ◌++◌, length, min, replicate, vec_len, vec_capacity, OnOk, IfOk, IfErr, IfSome, IfNone, IsTrue};
+ghost use Rattle.std.specs.Iterator.{IsFinite, size};
+ghost use Rattle.rkyv_btree_format.specs.Layout.{layout_of, are_fitting};
+ghost use Rattle.rkyv_btree_archive.specs.mirror.Scratch.{IsFree, IsReserved};
+ghost use Rattle.rkyv_btree_shape.specs.mirror.Filled.{most, IsLeafOf};
+ghost use Rattle.rkyv_btree_archive.specs.mirror.Passing.{NextWritten, NextFault};
 ghost use Rattle.rkyv_btree_writer.specs.Writing.{position, last_end};
-ghost use Rattle.rkyv_btree_image.specs.Entries.{now_of};
-ghost use Rattle.rkyv_btree_image.specs.Image.{inner_image};
-ghost use Rattle.rkyv_btree_image.specs.Written.{NodeWritten, NodeStopped, ChildWritten, ChildStopped};
 
 use crate::archive::{Archive, Serialize};
-use crate::writes::{Scratch, write_inner, write_leaf};
+use crate::items::take_items;
+use crate::waiting::{push, wait, write_above};
+use crate::writes::{Scratch, write_leaf};
 use rkyv_btree_portable::check::Portable;
-use rkyv_btree_shape::height::child_base;
-use rkyv_btree_writer::fault::Fault;
+use rkyv_btree_writer::fault::{Fault, IteratorLengthMismatch};
 use rkyv_btree_writer::place::Writer;
 use std::alloc::Allocator;
 
-/// Appends a value for which there is room.
-pub(crate) fn push<T: Drop, A: Allocator>(values: &mut Vec<T, A>, value: T)
-    requires { vec_len values.old < vec_capacity values.old }
-    ensures items { values.new.items ≡ values.old.items ++ value ∷ [] }
-    ensures len { vec_len values.new ≡ vec_len values.old + 1 }
-    ensures capacity { vec_capacity values.old ≤ vec_capacity values.new }
+/// Whether the child that comes next is an inner node: it has so many levels above the tree's last one, for which so many
+/// entries are still to come.
+fn is_inner(levels: usize, on_last: usize) -> bool
+    ensures { IsTrue result ↔ ((1 ≤ levels) × (1 ≤ on_last + (levels - 1))) }
 {
-    values.push(value).unwrap();
+    levels > 1 || (levels == 1 && on_last > 0)
 }
 
-/// What `child_base` says of so many entries, where they take inner nodes; nothing where a leaf has room for them.
-fn inner_base<const E: usize>(len: usize) -> Option<usize>
-    requires some { 1 ≤ E }
-    requires small { E < 2 ^ 30 }
-    requires fits { len ≤ 4294967295 }
-    ensures leaf { IfNone result (len ≤ E) }
-    ensures more { OnSome result (E < len) }
-    ensures value { IfSome result (λ base. base ≡ (E + 1) ^ (ilog (E + 1) len - 1)) }
-    ensures positive { IfSome result (λ base. 1 ≤ base) }
-    ensures below { IfSome result (λ base. base * (E + 1) ≤ len) }
-    ensures above { IfSome result (λ base. len < base * (E + 1) * (E + 1)) }
+/// How many entries it has where it is a leaf; none where it is absent.
+fn leaf_len<const E: usize>(levels: usize, on_last: usize) -> usize
+    requires low { levels ≤ 1 }
+    requires leaf { levels ≡ 1 → on_last ≡ 0 }
+    ensures leaf { IsLeafOf E levels on_last result }
+    ensures few { result ≤ E }
 {
-    if len <= E {
-        return None;
+    if levels == 0 { on_last.min(E) } else { E }
+}
+
+/// Opens the inner nodes down to the next child that isn't one, whose levels it answers. Of each it notes how many
+/// entries wait before its own.
+fn open_nodes<A: Allocator>(
+    levels: usize,
+    on_last: usize,
+    starts: &mut Vec<usize, A>,
+    waiting: usize,
+) -> usize
+    requires room { length starts.old.items + levels ≤ vec_capacity starts.old }
+    ensures below { result ≤ levels }
+    ensures opened { starts.new.items ≡ starts.old.items ++ replicate (levels - result) waiting }
+    ensures inner { result < levels → 1 ≤ on_last + result }
+    ensures low { result ≤ 1 }
+    ensures leaf { result ≡ 1 → on_last ≡ 0 }
+    ensures room { vec_capacity starts.old ≤ vec_capacity starts.new }
+{
+    let mut below = levels;
+    while is_inner(below, on_last) {
+        push(starts, waiting);
+        below -= 1;
     }
-    Some(child_base::<E>(len))
+    below
 }
 
-/// How many of the entries on the last level a child takes: a full child has `E * base` there.
-fn taken_by_child<const E: usize>(on_last: usize, base: usize) -> usize
-    requires { base * (E + 1) ≤ 4294967295 }
-    ensures { result ≡ min on_last (E * base) }
+/// How many entries wait before those of the innermost open node, if one is open.
+fn innermost<A: Allocator>(starts: &Vec<usize, A>) -> Option<usize>
+    ensures some { IfSome result (λ first. (front : List ℕ) × (starts.now.items ≡ front ++ first ∷ [])) }
+    ensures none { IfNone result (starts.now.items ≡ []) }
 {
-    on_last.min(E * base)
+    starts.last().copied()
 }
 
-/// Writes entries for which a leaf has room, and answers where that stands; nothing for no entries.
-fn write_few<KU, VU, K, V, W, A, const E: usize>(
+/// What writing a tree takes: what writing a node takes, and lists of the entries and children that wait for their nodes, of
+/// the open nodes, and of a leaf's entries.
+#[derive(Drop)]
+pub(crate) struct Lists<'x, KU: Archive, VU: Archive, A: Allocator> {
+    pub(crate) scratch: Scratch<KU::Resolver, VU::Resolver, A>,
+    pub(crate) waiting: Vec<(&'x KU, &'x VU), A>,
+    pub(crate) children: Vec<Option<u32>, A>,
+    pub(crate) starts: Vec<usize, A>,
+    pub(crate) leaf: Vec<(&'x KU, &'x VU), A>,
+}
+
+/// Takes the items of a tree and writes it, and answers where its root node stands. It has so many levels `above` its last
+/// one, for which `on_last` entries come.
+pub(crate) fn write_tree<'x, KU, VU, K, V, W, A, I, const E: usize>(
     alloc: A,
-    scratch: &mut Scratch<KU::Resolver, VU::Resolver, A>,
-    items: &[(&KU, &VU)],
+    above: usize,
+    on_last: usize,
+    claim: usize,
+    lists: Lists<'x, KU, VU, A>,
+    iter: &mut I,
     writer: &mut W,
 ) -> Result<Option<u32>, Fault<W::Error>>
-where
-    KU: Archive<Archived = K> + Serialize<W, A>,
-    VU: Archive<Archived = V> + Serialize<W, A>,
-    K: Portable,
-    V: Portable,
-    W: Writer,
-    A: Allocator + Copy,
-    requires fitting { IsTrue (are_fitting K.kind V.kind E) }
-    requires few { length items.now ≤ E }
-    requires free { IsFree (layout_of K.kind V.kind E) scratch.old }
-    ensures ok { IfOk result (λ root.
-        ChildWritten (layout_of K.kind V.kind E) KU.archival VU.archival (W.state writer.old)
-        (planned_alone E (map now_of items.now)) root (W.state writer.new)) }
-    ensures err { IfErr result (λ fault.
-        ChildStopped (layout_of K.kind V.kind E) KU.archival VU.archival (W.state writer.old)
-        (planned_alone E (map now_of items.now)) fault (W.state writer.new)) }
-    ensures last { OnOk result (0 < length items.now → position (W.state writer.new) ≤ last_end) }
-    ensures free { OnOk result (IsFree (layout_of K.kind V.kind E) scratch.new) }
-{
-    if items.is_empty() {
-        return Ok(None);
-    }
-    let root = write_leaf::<KU, VU, K, V, W, A, E>(alloc, scratch, items, writer)?;
-    Ok(Some(root))
-}
-
-/// Lets an entry wait for its node, behind a child of that.
-fn wait<T: Drop, A: Allocator>(
-    waiting: &mut Vec<T, A>,
-    children: &mut Vec<Option<u32>, A>,
-    child: Option<u32>,
-    entry: T,
-)
-    requires waiting_room { vec_len waiting.old < vec_capacity waiting.old }
-    requires child_room { vec_len children.old < vec_capacity children.old }
-    ensures waiting { waiting.new.items ≡ waiting.old.items ++ entry ∷ [] }
-    ensures children { children.new.items ≡ children.old.items ++ child ∷ [] }
-    ensures room { (vec_capacity waiting.old ≤ vec_capacity waiting.new)
-        × (vec_capacity children.old ≤ vec_capacity children.new) }
-{
-    push(children, child);
-    push(waiting, entry);
-}
-
-/// Writes the inner node of the entries and children that have waited from these numbers on, over its last child too, and
-/// answers its position. None of them waits any longer.
-fn write_above<'x, KU, VU, K, V, W, A, const E: usize>(
-    alloc: A,
-    scratch: &mut Scratch<KU::Resolver, VU::Resolver, A>,
-    waiting: &mut Vec<(&'x KU, &'x VU), A>,
-    children: &mut Vec<Option<u32>, A>,
-    first: usize,
-    first_child: usize,
-    last: Option<u32>,
-    writer: &mut W,
-) -> Result<u32, Fault<W::Error>>
 where
     KU: Archive<Archived = K> + Serialize<W, A> + 'x,
     VU: Archive<Archived = V> + Serialize<W, A> + 'x,
@@ -123,126 +96,97 @@ where
     V: Portable,
     W: Writer,
     A: Allocator + Copy,
+    I: Iterator<Item = (&'x KU, &'x VU)>,
     requires fitting { IsTrue (are_fitting K.kind V.kind E) }
-    requires waiting { length waiting.old.items ≡ first + E }
-    requires children { length children.old.items ≡ first_child + E }
-    requires free { IsFree (layout_of K.kind V.kind E) scratch.old }
+    requires claim { (E + 1) ^ above + on_last ≡ claim + 1 }
+    requires some { 1 ≤ on_last }
+    requires most { on_last ≤ most E above }
+    requires small { claim ≤ 4294967295 }
+    requires free { IsFree (layout_of K.kind V.kind E) lists.scratch }
+    requires waiting { IsReserved lists.waiting (E * above) }
+    requires children { IsReserved lists.children (E * above) }
+    requires starts { IsReserved lists.starts above }
+    requires leaf { IsReserved lists.leaf E }
+    requires can { I.can_next iter.old }
+    requires ends { IsFinite (I.remaining iter.old) }
     ensures ok { IfOk result (λ root.
-        NodeWritten (layout_of K.kind V.kind E) KU.archival VU.archival
-        (λ at owns. inner_image (layout_of K.kind V.kind E) at owns
-        (drop first_child children.old.items ++ last ∷ []))
-        (inner_size (layout_of K.kind V.kind E)) (W.state writer.old)
-        (map now_of (drop first waiting.old.items)) root (W.state writer.new)) }
+        NextWritten (layout_of K.kind V.kind E) KU.archival VU.archival I.next_gives above
+        on_last iter.old (W.state writer.old) root iter.new (W.state writer.new)) }
     ensures err { IfErr result (λ fault.
-        NodeStopped (layout_of K.kind V.kind E) KU.archival VU.archival
-        (λ at owns. inner_image (layout_of K.kind V.kind E) at owns
-        (drop first_child children.old.items ++ last ∷ []))
-        (inner_size (layout_of K.kind V.kind E)) (W.state writer.old)
-        (map now_of (drop first waiting.old.items)) fault (W.state writer.new)) }
+        NextFault (layout_of K.kind V.kind E) KU.archival VU.archival I.next_gives claim 0
+        above on_last iter.old (W.state writer.old) fault (W.state writer.new)) }
+    ensures left { OnOk result
+        (size (I.remaining iter.new) + claim ≤ size (I.remaining iter.old)) }
     ensures last { OnOk result (position (W.state writer.new) ≤ last_end) }
-    ensures free { OnOk result (IsFree (layout_of K.kind V.kind E) scratch.new) }
-    ensures kept { OnOk result ((waiting.new.items ≡ take first waiting.old.items)
-        × (children.new.items ≡ take first_child children.old.items)) }
-    ensures room { OnOk result ((vec_capacity waiting.old ≤ vec_capacity waiting.new)
-        × (vec_capacity children.old ≤ vec_capacity children.new)) }
+    ensures can { OnOk result (I.can_next iter.new) }
+    ensures ends { OnOk result (IsFinite (I.remaining iter.new)) }
 {
-    let root = write_inner::<KU, VU, K, V, W, A, E>(
-        alloc,
-        scratch,
-        &waiting[first..],
-        &children[first_child..],
-        last,
-        writer,
-    )?;
-    waiting.truncate(first);
-    children.truncate(first_child);
-    Ok(root)
-}
-
-/// Does nothing. Its contract says that the entries which wait for the nodes below a child, of fewer entries than the
-/// parent's base allows, and the parent's own find room together where those of the whole parent do.
-fn child_is_lower<const E: usize>(len: usize, child_len: usize, base: usize)
-    requires some { 1 ≤ E }
-    requires more { E < len }
-    requires base { base ≡ (E + 1) ^ (ilog (E + 1) len - 1) }
-    requires small { child_len < base * (E + 1) }
-    ensures room { E * ilog (E + 1) child_len + E ≤ E * ilog (E + 1) len }
-{}
-
-/// Writes the tree of these entries with what they write, and answers where its root node stands; nothing for no
-/// entries. `waiting` and `children` have room for what waits on each level until a node's children are written.
-pub(crate) fn write_child<'x, KU, VU, K, V, W, A, const E: usize>(
-    alloc: A,
-    scratch: &mut Scratch<KU::Resolver, VU::Resolver, A>,
-    waiting: &mut Vec<(&'x KU, &'x VU), A>,
-    children: &mut Vec<Option<u32>, A>,
-    items: &[(&'x KU, &'x VU)],
-    writer: &mut W,
-) -> Result<Option<u32>, Fault<W::Error>>
-where
-    KU: Archive<Archived = K> + Serialize<W, A> + 'x,
-    VU: Archive<Archived = V> + Serialize<W, A> + 'x,
-    K: Portable,
-    V: Portable,
-    W: Writer,
-    A: Allocator + Copy,
-    requires fitting { IsTrue (are_fitting K.kind V.kind E) }
-    requires count { length items.now ≤ 4294967295 }
-    requires free { IsFree (layout_of K.kind V.kind E) scratch.old }
-    requires waiting_room { vec_len waiting.old + E * ilog (E + 1) (length items.now)
-        ≤ vec_capacity waiting.old }
-    requires child_room { vec_len children.old + E * ilog (E + 1) (length items.now)
-        ≤ vec_capacity children.old }
-    ensures ok { IfOk result (λ root.
-        ChildWritten (layout_of K.kind V.kind E) KU.archival VU.archival (W.state writer.old)
-        (planned_alone E (map now_of items.now)) root (W.state writer.new)) }
-    ensures err { IfErr result (λ fault.
-        ChildStopped (layout_of K.kind V.kind E) KU.archival VU.archival (W.state writer.old)
-        (planned_alone E (map now_of items.now)) fault (W.state writer.new)) }
-    ensures last { OnOk result (0 < length items.now → position (W.state writer.new) ≤ last_end) }
-    ensures free { OnOk result (IsFree (layout_of K.kind V.kind E) scratch.new) }
-    ensures kept { OnOk result
-        ((waiting.new.items ≡ waiting.old.items) × (children.new.items ≡ children.old.items)) }
-    ensures room { OnOk result ((vec_capacity waiting.old ≤ vec_capacity waiting.new)
-        × (vec_capacity children.old ≤ vec_capacity children.new)) }
-{
-    let Some(base) = inner_base::<E>(items.len()) else {
-        return write_few::<KU, VU, K, V, W, A, E>(alloc, scratch, items, writer);
-    };
-    let first = waiting.len();
-    let first_child = children.len();
-    // Above the last level stand the root's `E` entries and `base - 1` of each of its `E + 1` children, which are one less
-    // than `base * (E + 1)` in all. The others are on the last level, which the children fill from the left.
-    let mut on_last = items.len() + 1 - base * (E + 1);
-    let mut start = 0;
-    let mut left = E;
-    while left > 0 {
-        let taken = taken_by_child::<E>(on_last, base);
-        let end = start + (base - 1 + taken);
-        let part = &items[start..end];
-        child_is_lower::<E>(items.len(), part.len(), base);
-        let child = write_child::<KU, VU, K, V, W, A, E>(
-            alloc, scratch, waiting, children, part, writer,
-        )?;
-        wait(waiting, children, child, items[end]);
-        start = end + 1;
-        on_last -= taken;
-        left -= 1;
+    let Lists {
+        mut scratch,
+        mut waiting,
+        mut children,
+        mut starts,
+        mut leaf,
+    } = lists;
+    let mut levels = open_nodes(above, on_last, &mut starts, 0);
+    let first_len = leaf_len::<E>(levels, on_last);
+    if !take_items(&mut leaf, first_len, iter) {
+        return Err(Fault::Length(IteratorLengthMismatch {
+            expected: claim,
+            actual: leaf.len(),
+        }));
     }
-    let part = &items[start..];
-    child_is_lower::<E>(items.len(), part.len(), base);
-    let last = write_child::<KU, VU, K, V, W, A, E>(
-        alloc, scratch, waiting, children, part, writer,
-    )?;
-    let root = write_above::<KU, VU, K, V, W, A, E>(
-        alloc,
-        scratch,
-        waiting,
-        children,
-        first,
-        first_child,
-        last,
-        writer,
-    )?;
-    Ok(Some(root))
+    let mut taken = first_len;
+    let mut left = on_last.saturating_sub(E);
+    let place = write_leaf::<KU, VU, K, V, W, A, E>(alloc, &mut scratch, &leaf, writer)?;
+    let mut child = Some(place);
+    while let Some(first) = innermost(&starts) {
+        if waiting.len() - first == E {
+            let root = write_above::<KU, VU, K, V, W, A, E>(
+                alloc,
+                &mut scratch,
+                &mut waiting,
+                &mut children,
+                first,
+                first,
+                child,
+                writer,
+            )?;
+            child = Some(root);
+            starts.truncate(starts.len() - 1);
+            levels += 1;
+        } else {
+            let Some(entry) = iter.next() else {
+                return Err(Fault::Length(IteratorLengthMismatch {
+                    expected: claim,
+                    actual: taken,
+                }));
+            };
+            taken += 1;
+            wait(&mut waiting, &mut children, child, entry);
+            levels = open_nodes(levels, left, &mut starts, waiting.len());
+            let len = leaf_len::<E>(levels, left);
+            if len == 0 {
+                child = None;
+            } else {
+                leaf.clear();
+                if !take_items(&mut leaf, len, iter) {
+                    return Err(Fault::Length(IteratorLengthMismatch {
+                        expected: claim,
+                        actual: taken + leaf.len(),
+                    }));
+                }
+                taken += len;
+                left = left.saturating_sub(E);
+                let next_place = write_leaf::<KU, VU, K, V, W, A, E>(
+                    alloc,
+                    &mut scratch,
+                    &leaf,
+                    writer,
+                )?;
+                child = Some(next_place);
+            }
+        }
+    }
+    Ok(child)
 }

@@ -1,6 +1,5 @@
 //! The writes of whole nodes.
 ghost use Rattle.std.specs.Prelude.{ℕ, List, ◌≡◌, ◌+◌, ◌<◌, ◌≤◌, [], ◌∷◌, ◌++◌, length, map, vec_capacity, OnOk, IfOk, IfErr, IsTrue};
-ghost use Rattle.std.specs.VecDeque.{deque_capacity};
 ghost use Rattle.rkyv_btree_writer.specs.Padding.{padding};
 ghost use Rattle.rkyv_btree_image.specs.Image.{leaf_image, inner_image};
 ghost use Rattle.rkyv_btree_portable.specs.InPlace.{OwnBytes};
@@ -13,25 +12,44 @@ ghost use Rattle.rkyv_btree_image.specs.Written.{IsPadded, NodeWritten, NodeStop
 
 use crate::archive::{Archive, Serialize};
 use crate::entries::serialize_entries;
-use crate::node::{fill_inner, fill_leaf};
+use crate::node::{put_inner, put_leaf};
 use rkyv_btree_format::layout;
 use rkyv_btree_portable::check::Portable;
 use rkyv_btree_writer::fault::{Fault, ResolveFault};
 use rkyv_btree_writer::place::Writer;
 use rkyv_btree_writer::writes::{LAST_END, pad, put};
-use std::alloc::Allocator;
-use std::collections::VecDeque;
+use std::alloc::{AllocError, Allocator};
 
-/// What writing a node takes: a list for its bytes, and lists of what resolving its keys and values needs.
+/// What writing a node takes: the bytes of the largest node, and lists of what resolving its keys and values needs.
 #[derive(Drop)]
-pub(crate) struct Scratch<R, S, A: Allocator> {
-    pub(crate) node: Vec<u8, A>,
-    pub(crate) keys: VecDeque<R, A>,
-    pub(crate) values: VecDeque<S, A>,
+pub struct Scratch<R, S, A: Allocator> {
+    pub node: Vec<u8, A>,
+    pub keys: Vec<R, A>,
+    pub values: Vec<S, A>,
+}
+
+/// Reserves what writing a node takes.
+pub fn reserve_scratch<KU, VU, K, V, A, const E: usize>(
+    alloc: A,
+) -> Result<Scratch<KU::Resolver, VU::Resolver, A>, AllocError>
+where
+    KU: Archive<Archived = K>,
+    VU: Archive<Archived = V>,
+    K: Portable,
+    V: Portable,
+    A: Allocator + Copy,
+    requires { IsTrue (are_fitting K.kind V.kind E) }
+    ensures { IfOk result (IsFree (layout_of K.kind V.kind E)) }
+{
+    Ok(Scratch {
+        node: vec![in alloc; 0; layout::inner_size::<K, V, E>() as usize]?,
+        keys: Vec::with_capacity(alloc, E)?,
+        values: Vec::with_capacity(alloc, E)?,
+    })
 }
 
 /// The fault of serialising that a fault of resolving is.
-pub(crate) fn fault_of<E>(fault: ResolveFault) -> Fault<E>
+pub fn fault_of<E>(fault: ResolveFault) -> Fault<E>
     ensures { result ≡ as_fault fault }
 {
     match fault {
@@ -42,12 +60,13 @@ pub(crate) fn fault_of<E>(fault: ResolveFault) -> Fault<E>
 
 /// Writes what the entries of a node of `size` bytes write, and the padding before the node, and answers the node's
 /// position, from which it ends at a position in 32 bits.
+#[inline(always)]
 fn begin_node<KU, VU, K, V, W, A, const E: usize>(
     alloc: A,
     size: u32,
     entries: &[(&KU, &VU)],
-    keys: &mut VecDeque<KU::Resolver, A>,
-    values: &mut VecDeque<VU::Resolver, A>,
+    keys: &mut Vec<KU::Resolver, A>,
+    values: &mut Vec<VU::Resolver, A>,
     writer: &mut W,
 ) -> Result<u32, Fault<W::Error>>
 where
@@ -60,8 +79,8 @@ where
     requires fitting { IsTrue (are_fitting K.kind V.kind E) }
     requires no_keys { keys.old.items ≡ [] }
     requires no_values { values.old.items ≡ [] }
-    requires key_room { length entries.now ≤ deque_capacity keys.old }
-    requires value_room { length entries.now ≤ deque_capacity values.old }
+    requires key_room { length entries.now ≤ vec_capacity keys.old }
+    requires value_room { length entries.now ≤ vec_capacity values.old }
     ensures ok { OnOk result
         (IsPadded (layout_of K.kind V.kind E) KU.archival VU.archival (W.state writer.old)
         (map now_of entries.now) keys.new.items values.new.items (W.state writer.new)) }
@@ -73,8 +92,8 @@ where
         (W.state writer.old) (map now_of entries.now) fault (W.state writer.new)) }
     ensures keys { OnOk result (length keys.new.items ≡ length entries.now) }
     ensures values { OnOk result (length values.new.items ≡ length entries.now) }
-    ensures key_room { deque_capacity keys.old ≤ deque_capacity keys.new }
-    ensures value_room { deque_capacity values.old ≤ deque_capacity values.new }
+    ensures key_room { vec_capacity keys.old ≤ vec_capacity keys.new }
+    ensures value_room { vec_capacity values.old ≤ vec_capacity values.new }
 {
     serialize_entries(alloc, entries, keys, values, writer)?;
     let pos = pad(writer, layout::align::<K, V, E>())?;
@@ -85,7 +104,8 @@ where
 }
 
 /// Writes a leaf of these entries behind what they write, and answers its position.
-pub(crate) fn write_leaf<KU, VU, K, V, W, A, const E: usize>(
+#[inline(always)]
+pub fn write_leaf<KU, VU, K, V, W, A, const E: usize>(
     alloc: A,
     scratch: &mut Scratch<KU::Resolver, VU::Resolver, A>,
     entries: &[(&KU, &VU)],
@@ -121,7 +141,8 @@ where
         &mut scratch.values,
         writer,
     )?;
-    match fill_leaf::<KU, VU, K, V, A, E>(
+    match put_leaf::<KU, VU, K, V, A, E>(
+        alloc,
         &mut scratch.node,
         root,
         entries,
@@ -131,13 +152,14 @@ where
         Ok(()) => {}
         Err(fault) => return Err(fault_of(fault)),
     }
-    put(writer, scratch.node.as_slice())?;
+    let bytes = &scratch.node.as_slice()[..size as usize];
+    put(writer, bytes)?;
     Ok(root)
 }
 
 /// Writes an inner node of these entries over written children, behind what the entries write, and answers its
 /// position.
-pub(crate) fn write_inner<KU, VU, K, V, W, A, const E: usize>(
+pub fn write_inner<KU, VU, K, V, W, A, const E: usize>(
     alloc: A,
     scratch: &mut Scratch<KU::Resolver, VU::Resolver, A>,
     entries: &[(&KU, &VU)],
@@ -180,7 +202,8 @@ where
         &mut scratch.values,
         writer,
     )?;
-    match fill_inner::<KU, VU, K, V, A, E>(
+    match put_inner::<KU, VU, K, V, A, E>(
+        alloc,
         &mut scratch.node,
         root,
         entries,
@@ -192,6 +215,7 @@ where
         Ok(()) => {}
         Err(fault) => return Err(fault_of(fault)),
     }
-    put(writer, scratch.node.as_slice())?;
+    let bytes = &scratch.node.as_slice()[..size as usize];
+    put(writer, bytes)?;
     Ok(root)
 }

@@ -27,6 +27,7 @@ pub use Rattle.rkyv_btree_verify.specs.Claims
 pub use Rattle.rkyv_btree_verify.specs.Map
 pub use Rattle.rkyv_btree_verify.specs.Opening
 pub use Rattle.rkyv_btree_writer.specs.Writing
+pub use Rattle.rkyv_btree_writer.specs.StdWriters
 pub use Rattle.rkyv_btree_writer.specs.FaultText
 pub use Rattle.rkyv_btree_writer.specs.Pointers
 pub use Rattle.rkyv_btree_writer.specs.Padding

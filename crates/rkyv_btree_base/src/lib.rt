@@ -4,7 +4,7 @@
 
 pub use rkyv_btree_archive::{build, map, set, std_types, text, util, whole};
 pub use rkyv_btree_portable::{numbers, refusal, scalars, signed};
-pub use rkyv_btree_writer::fault;
+pub use rkyv_btree_writer::{fault, io_writer};
 
 /// Values that can be archived.
 pub mod archive {

@@ -44,7 +44,7 @@ module _ {X : Type 0} where
   chosen_alone true x o none = ap (λ p. option_or p (Some x)) (sym (none refl))
   chosen_alone false x o none = sym (or_none o)
 
-all_map : {A : Type 0} {P Q : A → Type 0} (xs : List A) → ((x : A) → P x → Q x) → AllByRecursion P xs → AllByRecursion Q xs
+pub all_map : {A : Type 0} {P Q : A → Type 0} (xs : List A) → ((x : A) → P x → Q x) → AllByRecursion P xs → AllByRecursion Q xs
 all_map [] f all = tt
 all_map (x ∷ xs) f all = (f x all.0, all_map xs f all.1)
 
@@ -59,7 +59,7 @@ module _ {A B : Type 0} {order : A → A → Ordering} (total : IsTotalOrder ord
           | Greater ↦ (all.0, all_put P m p all.1)
         ]
 
-    sorted_put : (m : List (A × B)) → IsStrictlySortedBy order (keys_of m) → IsStrictlySortedBy order (keys_of (insert_entry order m k v))
+    pub sorted_put : (m : List (A × B)) → IsStrictlySortedBy order (keys_of m) → IsStrictlySortedBy order (keys_of (insert_entry order m k v))
     unfolding IsStrictlySortedBy
     sorted_put [] h = (tt, tt)
     sorted_put (e ∷ m) h =
@@ -76,7 +76,7 @@ module _ {A B : Type 0} {order : A → A → Ordering} (total : IsTotalOrder ord
       untied : (x : A) → order k x ≡ Greater → is_at (order q) x ≡ true → is_at (order q) k ≡ true → ⊥
       untied x past at_x at_k = let same = total.congr q k x ((Equal-is (order q k)).0 at_k) in cc ((Equal-is (order q x)).0 at_x)
 
-      lookup_put : (m : List (A × B)) → lookup (is_at (order q)) (insert_entry order m k v) ≡ cond (is_at (order q) k) (Some v) (lookup (is_at (order q)) m)
+      pub lookup_put : (m : List (A × B)) → lookup (is_at (order q)) (insert_entry order m k v) ≡ cond (is_at (order q) k) (Some v) (lookup (is_at (order q)) m)
       lookup_put [] = refl
       lookup_put (e ∷ m) =
           elim (order k e.0) as (λ o. order k e.0 ≡ o → lookup (is_at (order q)) (match_ordering o ((k, v) ∷ e ∷ m) ((e.0, v) ∷ m) (e ∷ insert_entry order m k v)) ≡ cond (is_at (order q) k) (Some v) (lookup (is_at (order q)) (e ∷ m))) [
@@ -103,10 +103,10 @@ module _ {A B : Type 0} {order : A → A → Ordering} (total : IsTotalOrder ord
             | Greater ↦ λ past. rw (key_put m h.1) (chosen_or (is_at (order q) e.0) e.0 (lookup_key (is_at (order q)) m) (cond (is_at (order q) k) (Some k) None))
           ] refl
 
-  abbrev put_in : List (A × B) → List (A × B) → List (A × B)
+  abbrev pub put_in : List (A × B) → List (A × B) → List (A × B)
   put_in m entries = fold (λ m e. insert_entry order m e.0 e.1) m entries
 
-  sorted_all : (entries m : List (A × B)) → IsStrictlySortedBy order (keys_of m) → IsStrictlySortedBy order (keys_of (put_in m entries))
+  pub sorted_all : (entries m : List (A × B)) → IsStrictlySortedBy order (keys_of m) → IsStrictlySortedBy order (keys_of (put_in m entries))
   sorted_all [] m h = h
   sorted_all (e ∷ entries) m h = sorted_all entries (insert_entry order m e.0 e.1) (sorted_put e.0 e.1 m h)
 

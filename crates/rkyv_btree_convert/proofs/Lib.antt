@@ -2,6 +2,7 @@
 pub mod Puts
 pub mod Made
 pub mod LastWins
+pub mod AtOnce
 pub mod Opened
 pub mod Units
 pub mod RoundTrip

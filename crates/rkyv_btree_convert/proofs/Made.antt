@@ -1,7 +1,8 @@
--- What comes of a map whose entries are put in, in turn.
+-- What comes of entries that are taken in turn, into a map or a list.
 use Rattle.std.proofs.Common.{◌≡◌, ℕ, List, [], ◌∷◌, map, sym, ap, ◌∙◌}
+use Rattle.std.specs.List.{fold}
 use Rattle.std.specs.Prelude.{Result, Ok, Err}
-use Rattle.std.specs.declared.cmp.Ordering.{Ordering}
+use Rattle.std.specs.Result.{result_map_both}
 use Rattle.rkyv_btree_base.specs.EntryFault.{EntryFault}
 use Rattle.rkyv_btree_base.specs.Kind.{Kind}
 use Rattle.rkyv_btree_base.specs.Layout.{layout_of}
@@ -9,42 +10,56 @@ use Rattle.rkyv_btree_base.specs.Read.{map_tree, read_map}
 use Rattle.rkyv_btree_base.specs.Tree.{list}
 use Rattle.rkyv_btree_convert.specs.declared.deserialize.DeserializeFault.{DeserializeFault}
 use Rattle.rkyv_btree_convert.specs.declared.deserialize.DeserializeFault.TheVariants.{Memory, Entry}
-use Rattle.rkyv_btree_convert.specs.Deserializing.{IsByMeaning, IsRefused, both}
-use Rattle.rkyv_btree_convert.specs.Maps.{map_given, native_map}
+use Rattle.rkyv_btree_convert.specs.Deserializing.{IsByMeaning, IsRefused, all, both}
+use Rattle.rkyv_btree_convert.specs.Maps.{given_entries}
 use Rattle.rkyv_btree_convert.specs.laws.Maps.{given_by_meaning}
-use Rattle.rkyv_btree_convert.proofs.Puts.{put_all, all_put}
+use Rattle.rkyv_btree_convert.proofs.Puts.{take_all, all_taken}
 
-module _ (K V : Kind) (E : ℕ) {A B : Type 0} {key : List ℕ → ℕ → Result A EntryFault} {value : List ℕ → ℕ → Result B EntryFault} (k : IsByMeaning K key) (v : IsByMeaning V value) (order : A → A → Ordering) where
+module _ (K V : Kind) (E : ℕ) {A B M : Type 0} {key : List ℕ → ℕ → Result A EntryFault} {value : List ℕ → ℕ → Result B EntryFault} (k : IsByMeaning K key) (v : IsByMeaning V value) (step : M → A × B → M) (none : M) where
   -- what an entry gives, by what its key and its value mean
   abbrev pub gives : K.Value × V.Value → Result (A × B) EntryFault
   gives e = both (k.of_value e.0) (v.of_value e.1)
 
-  -- a map `m` was made of the map at a position, and `rest` is left to be put in
-  pub record IsMade (b : List ℕ) (at : ℕ) (m : List (A × B)) (rest : List (K.Value × V.Value)) : Type 0 where
-    pub start : List (A × B)
-    pub entries : List (K.Value × V.Value)
-    pub empty : start ≡ []
-    pub all : entries ≡ read_map K V E b at
-    pub comes : put_all order m (map gives rest) ≡ put_all order start (map gives entries)
+  -- what all entries make, or the first fault
+  abbrev pub made_of : List ℕ → ℕ → Result M EntryFault
+  made_of b at = result_map_both (fold step none) (λ fault. fault) (given_entries K V E key value b at)
 
-  module _ (b : List ℕ) (at : ℕ) (m : List (A × B)) (rest : List (K.Value × V.Value)) (made : IsMade b at m rest) where
-    gives_rest : native_map K V E key value order b at ≡ put_all order m (map gives rest)
+  -- `m` was made of the map at a position, and `rest` is left to be taken
+  pub record IsMade (b : List ℕ) (at : ℕ) (m : M) (rest : List (K.Value × V.Value)) : Type 0 where
+    pub start : M
+    pub entries : List (K.Value × V.Value)
+    pub empty : start ≡ none
+    pub all : entries ≡ read_map K V E b at
+    pub comes : take_all step m (map gives rest) ≡ take_all step start (map gives entries)
+
+  module _ (b : List ℕ) (at : ℕ) (m : M) (rest : List (K.Value × V.Value)) (made : IsMade b at m rest) where
+    gives_rest : made_of b at ≡ take_all step m (map gives rest)
     gives_rest =
-        ap (map_given order) (given_by_meaning K V E k.of_value v.of_value k.reads v.reads b (list (map_tree (layout_of K V E) b at)))
-        ∙ sym (all_put order [] (map gives (read_map K V E b at)))
-        ∙ ap (λ xs. put_all order [] (map gives xs)) (sym made.all)
-        ∙ ap (λ start. put_all order start (map gives made.entries)) (sym made.empty)
+        ap (λ given. result_map_both (fold step none) (λ fault. fault) (all given)) (given_by_meaning K V E k.of_value v.of_value k.reads v.reads b (list (map_tree (layout_of K V E) b at)))
+        ∙ sym (all_taken step none (map gives (read_map K V E b at)))
+        ∙ ap (λ xs. take_all step none (map gives xs)) (sym made.all)
+        ∙ ap (λ start. take_all step start (map gives made.entries)) (sym made.empty)
         ∙ sym made.comes
 
-    pub all_made : rest ≡ [] → native_map K V E key value order b at ≡ Ok m
-    all_made none = gives_rest ∙ ap (λ xs. put_all order m (map gives xs)) none
+    pub all_made : rest ≡ [] → made_of b at ≡ Ok m
+    all_made none = gives_rest ∙ ap (λ xs. take_all step m (map gives xs)) none
 
     -- the next entry, whose parts are read at these places, is refused
     pub next_refused : (c d : List ℕ) (p q : ℕ) (more : List (K.Value × V.Value)) → rest ≡ (K.read c p, V.read d q) ∷ more → (fault : DeserializeFault) → IsRefused (both (key c p) (value d q)) fault
-        → IsRefused (native_map K V E key value order b at) fault
+        → IsRefused (made_of b at) fault
     next_refused c d p q more next (Memory error) refused = tt
     next_refused c d p q more next (Entry fault) refused =
         let given : gives (K.read c p, V.read d q) ≡ Err fault = rw (← k.reads c p, ← v.reads d q) refused in
         gives_rest
-        ∙ ap (λ xs. put_all order m (map gives xs)) next
-        ∙ ap (λ x. put_all order m (x ∷ map gives more)) given
+        ∙ ap (λ xs. take_all step m (map gives xs)) next
+        ∙ ap (λ x. take_all step m (x ∷ map gives more)) given
+
+    -- the next entry, whose parts are read at these places, is taken
+    pub next_taken : (c d : List ℕ) (p q : ℕ) (more : List (K.Value × V.Value)) → rest ≡ (K.read c p, V.read d q) ∷ more → (e : A × B) → both (key c p) (value d q) ≡ Ok e → (n : M) → n ≡ step m e
+        → take_all step n (map gives more) ≡ take_all step made.start (map gives made.entries)
+    next_taken c d p q more next e given n taken =
+        let gave : gives (K.read c p, V.read d q) ≡ Ok e = rw (← k.reads c p, ← v.reads d q) given in
+        ap (λ n. take_all step n (map gives more)) taken
+        ∙ sym (ap (λ x. take_all step m (x ∷ map gives more)) gave)
+        ∙ sym (ap (λ xs. take_all step m (map gives xs)) next)
+        ∙ made.comes

@@ -25,7 +25,7 @@ use std::num::NonZeroU32;
 /// Why no native value was made.
 #[derive(Clone, Copy, Debug, PartialEq, Eq)]
 pub enum DeserializeFault {
-    /// A growth was refused.
+    /// An allocation failed.
     Memory(AllocError),
     /// The entry refused itself.
     Entry(EntryFault),

@@ -1,4 +1,4 @@
-//! The archived types that keys and values of maps have, each with all that a program does with one.
+//! Bundles of the traits that keys and values of maps need.
 use crate::key::DeserializeKey;
 use rkyv_btree_base::check::CheckBytes;
 use rkyv_btree_base::numbers::{ArchivedU16, ArchivedU32, ArchivedU64};

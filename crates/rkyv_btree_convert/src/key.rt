@@ -1,7 +1,8 @@
 //! Native values that are keys of native maps.
-ghost use Rattle.std.specs.Prelude.{◌≡◌};
+ghost use Rattle.std.specs.Prelude.{◌≡◌, IsTrue};
 ghost use Rattle.std.specs.Cmp.{IsTotalOrder, nat_cmp_total};
 ghost use Rattle.std.specs.Cmp.Lexicographic.{nat_list_cmp_total};
+ghost use Rattle.std.specs.declared.cmp.Ordering.TheVariants.{Equal};
 ghost use Rattle.std.proofs.Common.{refl};
 
 use crate::deserialize::Deserialize;
@@ -12,6 +13,13 @@ use std::num::NonZeroU32;
 
 /// An archived type whose native values can be keys of native maps: they are ordered as what is told of them.
 pub trait DeserializeKey<T: Ord>: Deserialize<T> {
+    /// The test that keys which are equal by their order are the same, by what is told of them. It may fail where they are.
+    fn equal_keys_are_same() -> bool
+        ensures { IsTrue result → (x y : Self.Told) → Self.told_order x y ≡ Equal → x ≡ y }
+    {
+        false
+    }
+
     ghost ordered_as_told: { (x y : T)
         → T.cmp x y ≡ Self.told_order (Self.told x) (Self.told y) };
 
@@ -19,18 +27,30 @@ pub trait DeserializeKey<T: Ord>: Deserialize<T> {
 }
 
 impl<T: DeserializeNative> DeserializeKey<T::Native> for T {
+    fn equal_keys_are_same() -> bool {
+        T::equal_values_are_same()
+    }
+
     ghost ordered_as_told = { λ x y. refl };
 
     ghost total = { T.Native.total };
 }
 
 impl DeserializeKey<NonZeroU32> for ArchivedNonZeroU32 {
+    fn equal_keys_are_same() -> bool {
+        true
+    }
+
     ghost ordered_as_told = { λ x y. refl };
 
     ghost total = { nat_cmp_total };
 }
 
 impl DeserializeKey<String> for ArchivedText {
+    fn equal_keys_are_same() -> bool {
+        true
+    }
+
     ghost ordered_as_told = { λ x y. refl };
 
     ghost total = { nat_list_cmp_total };

@@ -1,9 +1,10 @@
 //! Native maps from views of archived ones.
-ghost use Rattle.std.specs.Prelude.{List, OnOk, IfErr};
+ghost use Rattle.std.specs.Prelude.{◌≡◌, List, Ok, OnOk, IfOk, IfErr};
 ghost use Rattle.std.specs.Cmp.Lexicographic.{slice_cmp};
 ghost use Rattle.std.specs.Ordering.{ordering_then};
+ghost use Rattle.std.specs.declared.cmp.Ordering.TheVariants.{Equal};
 ghost use Rattle.rkyv_btree_convert.specs.Deserializing.{IsRefused, both};
-ghost use Rattle.rkyv_btree_convert.specs.Maps.{CountsLast, IsGivenByEntries, Puts, native_map, told_both};
+ghost use Rattle.rkyv_btree_convert.specs.Maps.{CountsLast, IsGivenByEntries, Pushes, Puts, given_entries, native_map, told_both};
 ghost use Rattle.rkyv_btree_convert.specs.laws.Maps.{map_by_meaning, map_told_whole};
 
 use crate::deserialize::{Deserialize, DeserializeFault};
@@ -13,7 +14,71 @@ use rkyv_btree_view::view::View;
 use std::alloc::{AllocError, Global};
 use std::collections::BTreeMap;
 
-/// Puts the native key and the native value of an entry into a map, where an equal key stays and takes the value.
+/// Makes the native key and the native value of an entry, the key first.
+fn native_entry<T: PartialEq + Drop, U: PartialEq + Drop, K: Deserialize<T>, V: Deserialize<U>>(
+    alloc: Global,
+    key: &View<'_, K>,
+    value: &View<'_, V>,
+) -> Result<(T, U), DeserializeFault>
+    ensures ok { IfOk result (λ entry.
+        both (K.native key.now.buf.now key.now.pos) (V.native value.now.buf.now value.now.pos)
+        ≡ Ok (K.told entry.0, V.told entry.1)) }
+    ensures refused { IfErr result (IsRefused
+        (both (K.native key.now.buf.now key.now.pos) (V.native value.now.buf.now value.now.pos))) }
+{
+    let key = K::deserialize(alloc, key)?;
+    let value = V::deserialize(alloc, value)?;
+    Ok((key, value))
+}
+
+/// Puts a native entry behind a list.
+fn push_entry<T: PartialEq + Drop, U: PartialEq + Drop, K: Deserialize<T>, V: Deserialize<U>>(
+    alloc: Global,
+    key: &View<'_, K>,
+    value: &View<'_, V>,
+    entries: &mut Vec<(T, U)>,
+) -> Result<(), DeserializeFault>
+    ensures ok { OnOk result (Pushes K.told V.told
+        (both (K.native key.now.buf.now key.now.pos) (V.native value.now.buf.now value.now.pos))
+        entries.old.items entries.new.items) }
+    ensures refused { IfErr result (IsRefused
+        (both (K.native key.now.buf.now key.now.pos) (V.native value.now.buf.now value.now.pos))) }
+{
+    let entry = native_entry::<T, U, K, V>(alloc, key, value)?;
+    let Ok(_) = entries.push(entry) else {
+        return Err(DeserializeFault::Memory(AllocError));
+    };
+    Ok(())
+}
+
+/// The native entries of a map in their order, up to the first that refuses itself.
+pub(crate) fn native_entries<
+    T: PartialEq + Drop,
+    U: PartialEq + Drop,
+    K: Deserialize<T>,
+    V: Deserialize<U>,
+    const E: usize,
+>(
+    alloc: Global,
+    view: &View<'_, ArchivedBTreeMap<K, V, E>>,
+) -> Result<Vec<(T, U)>, DeserializeFault>
+    ensures ok { IfOk result (λ made.
+        given_entries K.kind V.kind E K.native V.native view.now.buf.now view.now.pos
+        ≡ Ok (told_both K.told V.told made.items)) }
+    ensures refused { IfErr result (IsRefused
+        (given_entries K.kind V.kind E K.native V.native view.now.buf.now view.now.pos)) }
+{
+    let mut entries = view.iter();
+    let Ok(mut made) = Vec::with_capacity(alloc, entries.len()) else {
+        return Err(DeserializeFault::Memory(AllocError));
+    };
+    while let Some((key, value)) = entries.next() {
+        push_entry(alloc, &key, &value, &mut made)?;
+    }
+    Ok(made)
+}
+
+/// Puts a native entry into a map, where an equal key stays and takes the value.
 fn put_entry<T: Ord + Drop, U: PartialEq + Drop, K: DeserializeKey<T>, V: Deserialize<U>>(
     alloc: Global,
     key: &View<'_, K>,
@@ -26,11 +91,60 @@ fn put_entry<T: Ord + Drop, U: PartialEq + Drop, K: DeserializeKey<T>, V: Deseri
     ensures refused { IfErr result (IsRefused
         (both (K.native key.now.buf.now key.now.pos) (V.native value.now.buf.now value.now.pos))) }
 {
-    let key = K::deserialize(alloc, key)?;
-    let value = V::deserialize(alloc, value)?;
+    let (key, value) = native_entry::<T, U, K, V>(alloc, key, value)?;
     match map.insert(key, value) {
         Ok(_) => Ok(()),
         Err(_) => Err(DeserializeFault::Memory(AllocError)),
+    }
+}
+
+/// The native map into which its entries are put in turn.
+fn in_turn<
+    T: Ord + Drop,
+    U: PartialEq + Drop,
+    K: DeserializeKey<T>,
+    V: Deserialize<U>,
+    const E: usize,
+>(
+    alloc: Global,
+    view: &View<'_, ArchivedBTreeMap<K, V, E>>,
+) -> Result<BTreeMap<T, U>, DeserializeFault>
+    ensures ok { IfOk result (λ map.
+        native_map K.kind V.kind E K.native V.native K.told_order view.now.buf.now view.now.pos
+        ≡ Ok (told_both K.told V.told map.entries)) }
+    ensures refused { IfErr result (IsRefused
+        (native_map K.kind V.kind E K.native V.native K.told_order view.now.buf.now view.now.pos)) }
+{
+    let mut map = BTreeMap::new(alloc);
+    let mut entries = view.iter();
+    while let Some((key, value)) = entries.next() {
+        put_entry(alloc, &key, &value, &mut map)?;
+    }
+    Ok(map)
+}
+
+/// The native map that its entries make at once, where equal keys are the same.
+fn at_once<
+    T: Ord + Drop,
+    U: PartialEq + Drop,
+    K: DeserializeKey<T>,
+    V: Deserialize<U>,
+    const E: usize,
+>(
+    alloc: Global,
+    view: &View<'_, ArchivedBTreeMap<K, V, E>>,
+) -> Result<BTreeMap<T, U>, DeserializeFault>
+    requires { (x y : K.Told) → K.told_order x y ≡ Equal → x ≡ y }
+    ensures ok { IfOk result (λ map.
+        native_map K.kind V.kind E K.native V.native K.told_order view.now.buf.now view.now.pos
+        ≡ Ok (told_both K.told V.told map.entries)) }
+    ensures refused { IfErr result (IsRefused
+        (native_map K.kind V.kind E K.native V.native K.told_order view.now.buf.now view.now.pos)) }
+{
+    let entries = native_entries::<T, U, K, V, E>(alloc, view)?;
+    match entries.into_iter().collect(alloc) {
+        Ok(map) => Ok(map),
+        Err(error) => Err(DeserializeFault::Memory(error)),
     }
 }
 
@@ -50,18 +164,18 @@ impl<
 
     ghost native = { native_map K.kind V.kind E K.native V.native K.told_order };
 
-    /// The native map: of entries with equal keys the first key stays, and the last value counts. The entries are
-    /// read in order, a key before its value, up to the first that refuses itself.
+    /// The native map: of entries with equal keys the first key stays, or one that is the same by what is told of it, and
+    /// the last value counts. The entries are read in order, a key before its value, up to the first that refuses
+    /// itself. Where equal keys are the same, they make a list first, and the map is made of that at once.
     fn deserialize(
         alloc: Global,
         view: &View<'_, ArchivedBTreeMap<K, V, E>>,
     ) -> Result<BTreeMap<T, U>, DeserializeFault> {
-        let mut map = BTreeMap::new(alloc);
-        let mut entries = view.iter();
-        while let Some((key, value)) = entries.next() {
-            put_entry(alloc, &key, &value, &mut map)?;
+        if K::equal_keys_are_same() {
+            at_once::<T, U, K, V, E>(alloc, view)
+        } else {
+            in_turn::<T, U, K, V, E>(alloc, view)
         }
-        Ok(map)
     }
 
     ghost by_meaning = { map_by_meaning K.by_meaning V.by_meaning E K.told_order };

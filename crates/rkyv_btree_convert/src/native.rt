@@ -1,4 +1,6 @@
 //! Archived types of which native values are made as `ToNative` reads them.
+ghost use Rattle.std.specs.Prelude.{◌≡◌, IsTrue};
+ghost use Rattle.std.specs.declared.cmp.Ordering.TheVariants.{Equal};
 
 use rkyv_btree_base::numbers::{ArchivedU16, ArchivedU32, ArchivedU64};
 use rkyv_btree_base::scalars::ArchivedChar;
@@ -7,26 +9,77 @@ use rkyv_btree_view::native::ToNative;
 
 /// A type whose values are deserialised as `ToNative` reads them: a type of one's own joins by an empty `impl`.
 // `ToNative` alone can't say so, since a text might have it one day, as far as this crate knows.
-pub trait DeserializeNative: ToNative {}
+pub trait DeserializeNative: ToNative {
+    /// The test that native values which are equal by their order are the same. It may fail where they are.
+    fn equal_values_are_same() -> bool
+        ensures { IsTrue result → (x y : Self.Native) → Self.Native.cmp x y ≡ Equal → x ≡ y }
+    {
+        false
+    }
+}
 
-impl DeserializeNative for u8 {}
+impl DeserializeNative for u8 {
+    fn equal_values_are_same() -> bool {
+        true
+    }
+}
 
-impl DeserializeNative for i8 {}
+impl DeserializeNative for i8 {
+    fn equal_values_are_same() -> bool {
+        true
+    }
+}
 
-impl DeserializeNative for bool {}
+impl DeserializeNative for bool {
+    fn equal_values_are_same() -> bool {
+        true
+    }
+}
 
-impl DeserializeNative for () {}
+impl DeserializeNative for () {
+    fn equal_values_are_same() -> bool {
+        true
+    }
+}
 
-impl DeserializeNative for ArchivedU16 {}
+impl DeserializeNative for ArchivedU16 {
+    fn equal_values_are_same() -> bool {
+        true
+    }
+}
 
-impl DeserializeNative for ArchivedI16 {}
+impl DeserializeNative for ArchivedI16 {
+    fn equal_values_are_same() -> bool {
+        true
+    }
+}
 
-impl DeserializeNative for ArchivedU32 {}
+impl DeserializeNative for ArchivedU32 {
+    fn equal_values_are_same() -> bool {
+        true
+    }
+}
 
-impl DeserializeNative for ArchivedI32 {}
+impl DeserializeNative for ArchivedI32 {
+    fn equal_values_are_same() -> bool {
+        true
+    }
+}
 
-impl DeserializeNative for ArchivedU64 {}
+impl DeserializeNative for ArchivedU64 {
+    fn equal_values_are_same() -> bool {
+        true
+    }
+}
 
-impl DeserializeNative for ArchivedI64 {}
+impl DeserializeNative for ArchivedI64 {
+    fn equal_values_are_same() -> bool {
+        true
+    }
+}
 
-impl DeserializeNative for ArchivedChar {}
+impl DeserializeNative for ArchivedChar {
+    fn equal_values_are_same() -> bool {
+        true
+    }
+}

@@ -39,6 +39,10 @@ impl<T: PartialEq + Drop, U: PartialEq, K: Deserialize<T>, V: Deserialize<U>> De
 
 impl<T: Ord + Drop, U: Ord, K: DeserializeKey<T>, V: DeserializeKey<U>> DeserializeKey<(T, U)>
     for Entry<K, V> {
+    fn equal_keys_are_same() -> bool {
+        K::equal_keys_are_same() && V::equal_keys_are_same()
+    }
+
     ghost ordered_as_told = { λ e f. then_alike
         (K.ordered_as_told e.0 f.0) (V.ordered_as_told e.1 f.1) };
 

@@ -1,6 +1,7 @@
 //! Native sets from views of archived ones.
-ghost use Rattle.std.specs.Prelude.{List, OnOk, IfErr, map};
+ghost use Rattle.std.specs.Prelude.{◌≡◌, List, Ok, OnOk, IfOk, IfErr, map};
 ghost use Rattle.std.specs.Cmp.Lexicographic.{slice_cmp};
+ghost use Rattle.std.specs.declared.cmp.Ordering.TheVariants.{Equal};
 ghost use Rattle.rkyv_btree_base.specs.Sets.{with_units};
 ghost use Rattle.rkyv_btree_convert.specs.Deserializing.{IsRefused, both};
 ghost use Rattle.rkyv_btree_convert.specs.Maps.{Puts};
@@ -9,6 +10,7 @@ ghost use Rattle.rkyv_btree_convert.specs.laws.Sets.{set_by_meaning, set_told_wh
 
 use crate::deserialize::{Deserialize, DeserializeFault};
 use crate::key::DeserializeKey;
+use crate::map::native_entries;
 use rkyv_btree_base::set::ArchivedBTreeSet;
 use rkyv_btree_view::view::View;
 use std::alloc::{AllocError, Global};
@@ -33,6 +35,48 @@ fn put_key<T: Ord + Drop, K: DeserializeKey<T>>(
     Ok(())
 }
 
+/// The native set into which its keys are put in turn.
+fn in_turn<T: Ord + Drop, K: DeserializeKey<T>, const E: usize>(
+    alloc: Global,
+    view: &View<'_, ArchivedBTreeSet<K, E>>,
+) -> Result<BTreeSet<T>, DeserializeFault>
+    ensures ok { IfOk result (λ set.
+        native_set K.kind E K.native K.told_order view.now.buf.now view.now.pos
+        ≡ Ok (map K.told set.keys)) }
+    ensures refused { IfErr result (IsRefused
+        (native_set K.kind E K.native K.told_order view.now.buf.now view.now.pos)) }
+{
+    let mut set = BTreeSet::new(alloc);
+    let mut entries = view.as_map().iter();
+    while let Some((key, _value)) = entries.next() {
+        put_key(alloc, &key, &mut set)?;
+    }
+    Ok(set)
+}
+
+/// The native set that its keys make at once, where equal keys are the same.
+fn at_once<T: Ord + Drop, K: DeserializeKey<T>, const E: usize>(
+    alloc: Global,
+    view: &View<'_, ArchivedBTreeSet<K, E>>,
+) -> Result<BTreeSet<T>, DeserializeFault>
+    requires { (x y : K.Told) → K.told_order x y ≡ Equal → x ≡ y }
+    ensures ok { IfOk result (λ set.
+        native_set K.kind E K.native K.told_order view.now.buf.now view.now.pos
+        ≡ Ok (map K.told set.keys)) }
+    ensures refused { IfErr result (IsRefused
+        (native_set K.kind E K.native K.told_order view.now.buf.now view.now.pos)) }
+{
+    let entries = native_entries::<T, (), K, (), E>(alloc, &view.as_map())?;
+    match entries
+        .into_iter()
+        .map(|entry: (T, ())| entry.0)
+        .collect(alloc)
+    {
+        Ok(set) => Ok(set),
+        Err(error) => Err(DeserializeFault::Memory(error)),
+    }
+}
+
 impl<T: Ord + Drop, K: DeserializeKey<T>, const E: usize> Deserialize<BTreeSet<T>>
     for ArchivedBTreeSet<K, E> {
     ghost Told = { List K.Told };
@@ -43,17 +87,17 @@ impl<T: Ord + Drop, K: DeserializeKey<T>, const E: usize> Deserialize<BTreeSet<T
 
     ghost native = { native_set K.kind E K.native K.told_order };
 
-    /// The native set: of equal keys the first stays. The keys are read in order, up to the first that refuses itself.
+    /// The native set: of equal keys the first stays, or one that is the same by what is told of it. The keys are read
+    /// in order, up to the first that refuses itself. Where equal keys are the same, the set is made of all at once.
     fn deserialize(
         alloc: Global,
         view: &View<'_, ArchivedBTreeSet<K, E>>,
     ) -> Result<BTreeSet<T>, DeserializeFault> {
-        let mut set = BTreeSet::new(alloc);
-        let mut entries = view.as_map().iter();
-        while let Some((key, _value)) = entries.next() {
-            put_key(alloc, &key, &mut set)?;
+        if K::equal_keys_are_same() {
+            at_once::<T, K, E>(alloc, view)
+        } else {
+            in_turn::<T, K, E>(alloc, view)
         }
-        Ok(set)
     }
 
     ghost by_meaning = { set_by_meaning K.by_meaning E K.told_order };

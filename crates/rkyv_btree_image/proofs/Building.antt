@@ -10,7 +10,6 @@ use Rattle.rkyv_btree_portable.specs.Kind.{Kind, IsLawful}
 use Rattle.rkyv_btree_format.specs.Layout.{NodeLayout, layout_of, are_fitting}
 use Rattle.rkyv_btree_shape.specs.Plan.{plan, planned_alone}
 use Rattle.rkyv_btree_portable.specs.Rounding.{round_up}
-use Rattle.rkyv_btree_image.specs.Begun.{TreeBegun, RowBegun, ChildBegun, between}
 use Rattle.rkyv_btree_image.specs.Serialising.{meaning_of, BeginClaimed, Built, Spelled, Miscounted, BuildFault, RootFault}
 use Rattle.rkyv_btree_format.specs.Spells.{Spells}
 use Rattle.rkyv_btree_shape.specs.Tree.{Tree, leaf, inner, Row, last, step, Child, absent, child, list}
@@ -20,6 +19,7 @@ use Rattle.rkyv_btree_image.specs.Written.{ChildStopped, ChildWritten}
 use Rattle.rkyv_btree_format.proofs.Sizes.{room_of}
 use Rattle.rkyv_btree_writer.specs.declared.fault.Fault.{Fault}
 use Rattle.rkyv_btree_writer.specs.declared.fault.Fault.TheVariants.{Length, LengthOverflow, PositionOverflow, OffsetOverflow, Writer, Memory, Entry}
+use Rattle.rkyv_btree_image.proofs.Begun.{untouched}
 use Rattle.rkyv_btree_image.proofs.EntriesWritten.{meant, since}
 use Rattle.rkyv_btree_shape.proofs.Mapped.{map_tree, plan_mapped, list_mapped, height_mapped}
 use Rattle.rkyv_btree_shape.proofs.Smallest.{plan_is_left_complete, left_complete_is_smallest}
@@ -28,7 +28,7 @@ use Rattle.rkyv_btree_image.proofs.TreesWritten.{tree_grown, tree_spelled}
 use Rattle.rkyv_btree_writer.proofs.WriteRuns.{stopped-behind, stopped-one}
 
 -- what was taken, and then the rest
-Drains-behind : {S A : Type 0} (steps : S → Option A → S → Type 0) (s : S) (xs : List A) (t : S) (ys : List A) → Yields steps s xs t → Drains steps t ys → Drains steps s (xs ++ ys)
+pub Drains-behind : {S A : Type 0} (steps : S → Option A → S → Type 0) (s : S) (xs : List A) (t : S) (ys : List A) → Yields steps s xs t → Drains steps t ys → Drains steps s (xs ++ ys)
 Drains-behind steps s [] t ys y d = subst (λ u. Drains steps u ys) (sym y) d
 Drains-behind steps s (x ∷ xs) t ys y d =
     let r = Drains-behind steps y.0 xs t ys y.2 d in
@@ -39,18 +39,8 @@ pub drained : {S A : Type 0} (steps : S → Option A → S → Type 0) (s : S) (
 drained steps s xs t ys n y d is none =
     subst (Drains steps s) (ap (λ zs. xs ++ zs) (nil_from_length ys (sym is ∙ none)) ∙ append-nil xs) (Drains-behind steps s xs t ys y d)
 
--- as many items as claimed are a list of as many entries
-all_claimed : {M N : Type 0} (items : List (Bor M × Bor N)) (claim : ℕ) → length items ≡ claim → BeginClaimed items claim (map now_of items)
-all_claimed items claim n = record { later = []; parts = sym (append-nil (map now_of items)); count = length-map items now_of ∙ n }
-
--- and of no other
-only_claimed : {M N : Type 0} (items : List (Bor M × Bor N)) (claim : ℕ) → length items ≡ claim → (xs : List (M × N)) → BeginClaimed items claim xs → xs ≡ map now_of items
-only_claimed items claim n xs b =
-    let none : b.later ≡ [] = nil_from_length b.later (omega (arith, n, b.count, ap length b.parts, length-append (map now_of items) b.later, length-map items now_of)) in
-    b.parts ∙ (ap (λ later. map now_of items ++ later) none ∙ append-nil (map now_of items))
-
--- and some, but fewer, are the first of one
-some_claimed : {M N : Type 0} (items : List (Bor M × Bor N)) (claim : ℕ) → 0 < length items → length items ≤ claim → (xs : List (M × N)) × BeginClaimed items claim xs
+-- some items are the first of a list of as many entries as claimed
+pub some_claimed : {M N : Type 0} (items : List (Bor M × Bor N)) (claim : ℕ) → 0 < length items → length items ≤ claim → (xs : List (M × N)) × BeginClaimed items claim xs
 some_claimed [] claim some few = absurd (omega arith)
 some_claimed (x ∷ items) claim some few =
     let others = replicate (claim - length (x ∷ items)) (now_of x) in
@@ -59,35 +49,8 @@ some_claimed (x ∷ items) claim some few =
     let back = length-replicate (claim - length (x ∷ items)) (now_of x) in
     (map now_of (x ∷ items) ++ others, record { later = others; parts = refl; count = omega (arith, same, front, back, few) })
 
--- nothing written is a beginning
-module _ {M N R S : Type 0} (s : NodeLayout) (KA : Archival M R) (VA : Archival N S) where
-  mutual
-    untouched_tree : (from : Writing) (t : Tree (M × N)) → TreeBegun s KA VA from t from
-    untouched_tree from (leaf xs) = between [] xs [] [] refl (refl, refl, refl)
-    untouched_tree from (inner row) = inl (untouched_row from row)
-
-    untouched_row : (from : Writing) (row : Row (M × N)) → RowBegun s KA VA from row from
-    untouched_row from (last c) = untouched from c
-    untouched_row from (step c x row) = inl (untouched from c)
-
-    untouched : (from : Writing) (c : Child (M × N)) → ChildBegun s KA VA from c from
-    untouched from absent = refl
-    untouched from (child t) = untouched_tree from t
-
 module _ {M N R S P : Type 0} (K V : Kind) (E : ℕ) (KA : Archival M R) (VA : Archival N S) (steps : P → Option (Bor M × Bor N) → P → Type 0) where
-  -- the iterator gave too few items, and nothing was written
-  pub short_of : (iter : P) (claim count : ℕ) (s : Writing) (items : List (Bor M × Bor N)) → Drains steps iter items → count ≡ length items → length items < claim → Miscounted K V E KA VA steps iter claim claim count s s
-  short_of iter claim count s items all counted short = record {
-    items = items;
-    all = all;
-    differs = λ e. omega (arith, e);
-    claimed = refl;
-    counted = counted;
-    none = λ empty. refl;
-    few = λ some less. let xs = some_claimed items claim some (omega arith) in (xs.0, xs.1, untouched (layout_of K V E) KA VA s (planned_alone E xs.0));
-    many = λ more. absurd (omega arith);
-  }
-
+  -- it gave more, and the tree of the first was written
   pub miscounted_of : (iter : P) (claim more : ℕ) (s t : Writing) (xs : List (Bor M × Bor N)) (rest : P) (ys : List (Bor M × Bor N)) (place : Option ℕ) →
       Yields steps iter xs rest → Drains steps rest ys → more ≡ length ys → more ≢ 0 → length xs ≡ claim → ChildWritten (layout_of K V E) KA VA s (planned_alone E (map now_of xs)) place t → Miscounted K V E KA VA steps iter claim claim (claim + more) s t
   miscounted_of iter claim more s t xs rest ys place y d is many n written =
@@ -103,22 +66,6 @@ module _ {M N R S P : Type 0} (K V : Kind) (E : ℕ) (KA : Archival M R) (VA : A
         few = λ some less. absurd (omega (arith, all));
         many = λ more. (place, subst (λ (zs : List (Bor M × Bor N)). ChildWritten (layout_of K V E) KA VA s (planned_alone E (map now_of zs)) place t) (sym taken) written);
       }
-
-  -- of as many items as claimed the list is the only one
-  each_stops : {X : Type 0} (claim : ℕ) (s : Writing) (fault : Fault X) (t : Writing) (items : List (Bor M × Bor N)) → length items ≡ claim → ChildStopped (layout_of K V E) KA VA s (planned_alone E (map now_of items)) fault t →
-      (xs : List (M × N)) → BeginClaimed items claim xs → ChildStopped (layout_of K V E) KA VA s (planned_alone E xs) fault t
-  each_stops {X} claim s fault t items n h xs b = subst (λ (ys : List (M × N)). ChildStopped (layout_of K V E) KA VA {E = X} s (planned_alone E ys) fault t) (sym (only_claimed items claim n xs b)) h
-
-  -- which faults stop the building, and how
-  pub refused_of : {X : Type 0} (iter : P) (claim : ℕ) (s : Writing) (fault : Fault X) (t : Writing) (items : List (Bor M × Bor N)) (rest : P) →
-      Yields steps iter items rest → length items ≡ claim → ChildStopped (layout_of K V E) KA VA s (planned_alone E (map now_of items)) fault t → BuildFault K V E KA VA steps iter claim s fault t
-  refused_of {X} iter claim s (Length m) t items rest y n h = absurd (uncounted X (layout_of K V E) KA VA s (planned_alone E (map now_of items)) t m h)
-  refused_of {X} iter claim s LengthOverflow t items rest y n h = inr (record { items = items; rest = rest; taken = y; entries = map now_of items; claimed = all_claimed items claim n; stopped = each_stops {X = X} claim s LengthOverflow t items n h })
-  refused_of {X} iter claim s PositionOverflow t items rest y n h = record { items = items; rest = rest; taken = y; entries = map now_of items; claimed = all_claimed items claim n; stopped = each_stops {X = X} claim s PositionOverflow t items n h }
-  refused_of {X} iter claim s OffsetOverflow t items rest y n h = record { items = items; rest = rest; taken = y; entries = map now_of items; claimed = all_claimed items claim n; stopped = each_stops {X = X} claim s OffsetOverflow t items n h }
-  refused_of {X} iter claim s (Writer error) t items rest y n h = record { items = items; rest = rest; taken = y; entries = map now_of items; claimed = all_claimed items claim n; stopped = each_stops {X = X} claim s (Writer error) t items n h }
-  refused_of {X} iter claim s (Memory error) t items rest y n h = inr (record { items = items; rest = rest; taken = y; entries = map now_of items; claimed = all_claimed items claim n; stopped = each_stops {X = X} claim s (Memory error) t items n h })
-  refused_of {X} iter claim s (Entry fault) t items rest y n h = record { items = items; rest = rest; taken = y; entries = map now_of items; claimed = all_claimed items claim n; stopped = each_stops {X = X} claim s (Entry fault) t items n h }
 
 module _ {M N R S : Type 0} (K V : Kind) (E : ℕ) (k : IsLawful K) (v : IsLawful V) (fits : IsTrue (are_fitting K V E)) (KA : Archival M R) (VA : Archival N S) (key : Matches KA.kind K) (value : Matches VA.kind V) (ka : IsArchived KA) (va : IsArchived VA) where
   pub meaning_is : (xs : List (Bor M × Bor N)) → map (meant K V E k v fits KA VA key value ka va) (map now_of xs) ≡ map (meaning_of K V KA VA key value) xs

@@ -2,7 +2,6 @@ pub mod Kept
 pub mod Leaves
 pub mod Nodes
 pub mod PointerRuns
-pub mod RowsWritten
 pub mod NodesHeld
 pub mod Resolving
 pub mod InOrder
@@ -14,6 +13,7 @@ pub mod Alike
 pub mod TreesKept
 pub mod Untold
 pub mod Accepting
+pub mod Begun
 pub mod Building
 pub mod Determined
 pub mod MapSame
@@ -29,5 +29,6 @@ pub mod ImagesInOrder
 pub mod ImagesDetermined
 pub mod TreeSerialised
 pub mod SmallestMaps
+pub mod OneTree
 pub mod Sets
 pub mod Whole

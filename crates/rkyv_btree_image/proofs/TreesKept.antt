@@ -6,6 +6,7 @@ use Rattle.rkyv_btree_shape.specs.Tree.{Tree, leaf, inner, Row, last, step, Chil
 use Rattle.rkyv_btree_writer.specs.Archiving.{Archival, BeginsWith}
 use Rattle.rkyv_btree_writer.specs.Writing.{Writing, Write, position}
 use Rattle.rkyv_btree_writer.specs.declared.fault.Fault.{Fault}
+use Rattle.rkyv_btree_image.specs.Begun.{between, whole, NodeBegun, TreeBegun, RowBegun, ChildBegun}
 use Rattle.rkyv_btree_image.specs.Kept.{OnlyAppended}
 use Rattle.rkyv_btree_image.proofs.Kept.{then_begins, wrote_begins, went_nowhere, went_on, wrote_went, went_begins, stopped_begins, unserialised_begins}
 use Rattle.rkyv_btree_image.specs.Entries.{AreSerialised, AreUnserialised}
@@ -32,6 +33,26 @@ module _ {M N R S : Type 0} (n : NodeLayout) (K : Archival M R) (V : Archival N 
     pub child_went : (s : Writing) (c : Child (M × N)) (root : Option ℕ) (t : Writing) → ChildWritten n K V s c root t → OnlyAppended s t
     child_went s absent root t h = went_nowhere s t h.1
     child_went s (child tree) root t h = tree_went s tree h.0 t h.1
+
+  -- what has begun does so too
+  begun_node_went : (image : ℕ → List OwnBytes → List Write) (size : ℕ) (s : Writing) (xs : List (M × N)) (t : Writing) → NodeBegun n K V image size s xs t → OnlyAppended s t
+  begun_node_went image size s xs t (between first others keys values parts h) = entries_went s first keys values t h
+  begun_node_went image size s xs t (whole root h) = went_on s h.mid t (entries_went s xs h.entries.keys h.entries.values h.mid h.entries.serialised) (wrote_went h.mid (image (position h.mid) h.owns) t h.wrote)
+
+  mutual
+    begun_tree_went : (s : Writing) (tree : Tree (M × N)) (t : Writing) → TreeBegun n K V s tree t → OnlyAppended s t
+    begun_tree_went s (leaf xs) t h = begun_node_went (leaf_image n) (leaf_size n) s xs t h
+    begun_tree_went s (inner row) t (inl h) = row_begun_went s row t h
+    begun_tree_went s (inner row) t (inr h) = went_on s h.1 t (row_went s row h.0 h.1 h.2) (begun_node_went (λ (at : ℕ) (owns : List OwnBytes). inner_image n at owns h.0) (inner_size n) h.1 (row_entries row) t h.3)
+
+    row_begun_went : (s : Writing) (row : Row (M × N)) (t : Writing) → RowBegun n K V s row t → OnlyAppended s t
+    row_begun_went s (last c) t h = begun_went s c t h
+    row_begun_went s (step c x row) t (inl h) = begun_went s c t h
+    row_begun_went s (step c x row) t (inr h) = went_on s h.1 t (child_went s c h.0 h.1 h.2) (row_begun_went h.1 row t h.3)
+
+    pub begun_went : (s : Writing) (c : Child (M × N)) (t : Writing) → ChildBegun n K V s c t → OnlyAppended s t
+    begun_went s absent t h = went_nowhere s t h
+    begun_went s (child tree) t h = begun_tree_went s tree t h
 
   -- so what it held stays in front
   entries_begin : (s : Writing) (xs : List (M × N)) (keys : List R) (values : List S) (t : Writing) → AreSerialised K V s xs keys values t → BeginsWith t s

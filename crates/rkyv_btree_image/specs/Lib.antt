@@ -13,3 +13,4 @@ pub mod TreeArchival
 pub mod Sets
 pub mod Whole
 pub mod SmallestMaps
+pub mod OneTree

@@ -26,7 +26,7 @@ pub trait Portable {
         requires { IsTrue kind.is_fitting }
         ensures { result ≡ kind.size };
 
-    /// What its positions are multiples of: 1, 2, 4 or 8.
+    /// The alignment: 1, 2, 4 or 8.
     fn align() -> u32
         ensures value { result ≡ kind.align }
         ensures positive { 0 < result }

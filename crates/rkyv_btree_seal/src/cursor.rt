@@ -72,7 +72,7 @@ impl<'a, K: Portable, V: InPlace, M: ArchivedMap<Key = K, Mapped = V>> IterSeal<
         self.lent.is_some()
     }
 
-    /// The key of the entry that is lent. The caller owes that one is, which `next` has told.
+    /// Returns the current entry's key. Requires that the last `next()` returned `true`.
     pub fn key(&self) -> View<'_, K>
         requires { IsSome (lent_place self.now) }
         ensures buffer { result.buf.now ≡ self.now.buf.now }
@@ -83,7 +83,7 @@ impl<'a, K: Portable, V: InPlace, M: ArchivedMap<Key = K, Mapped = V>> IterSeal<
         key_at::<K, V, M>(self.buf, self.pos, place)
     }
 
-    /// The value of the entry that is lent. The caller owes that one is, which `next` has told.
+    /// Returns the current entry's value. Requires that the last `next()` returned `true`.
     pub fn read(&self) -> V::Native
         requires { IsSome (lent_place self.now) }
         ensures told { IfSome (lent_place self.now) (λ e. V.in_place.told result
@@ -96,7 +96,7 @@ impl<'a, K: Portable, V: InPlace, M: ArchivedMap<Key = K, Mapped = V>> IterSeal<
         read_at::<K, V, M>(self.buf, self.pos, place)
     }
 
-    /// Replaces the value of the entry that is lent, and no other byte. The caller owes that one is, which `next` has told.
+    /// Overwrites the current entry's value. All other bytes are unchanged. Requires that the last `next()` returned `true`.
     pub fn write(&mut self, value: V::Native)
         requires { IsSome (lent_place self.old) }
         ensures same_reference { self.new.buf.ghost_name ≡ self.old.buf.ghost_name }

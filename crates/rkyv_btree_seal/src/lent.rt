@@ -15,7 +15,7 @@ pub struct LentKey<'a, K> {
 }
 
 impl<'a, K> LentKey<'a, K> {
-    /// The key at position `pos` of `buf`. That one stands there is asked by `view`.
+    /// Returns the key at position `pos` of `buf`. `view` requires that a key is stored there.
     pub fn at(buf: &'a [u8], pos: u32) -> LentKey<'a, K>
         ensures buffer { result.buf.now ≡ buf.now }
         ensures position { result.pos ≡ pos }

@@ -16,7 +16,7 @@ pub struct Seal<'a, V> {
 }
 
 impl<'a, V: InPlace> Seal<'a, V> {
-    /// The seal of the value at position `pos` of `buf`. That one stands there is asked by the calls on it.
+    /// Returns the seal of the value at position `pos` of `buf`. `read` and `write` require that a value is stored there.
     pub fn at(buf: &'a mut [u8], pos: u32) -> Seal<'a, V>
         ensures same_reference { result.buf.ghost_name ≡ buf.entry.ghost_name }
         ensures buffer { result.buf.now ≡ buf.entry.now }

@@ -43,6 +43,7 @@ fn check_entry<K: CheckBytes, V: CheckBytes, const E: usize>(
 }
 
 /// The first `n` entries of the node at `node`.
+#[inline(always)]
 fn check_entries<K: CheckBytes, V: CheckBytes, const E: usize>(
     buf: &[u8],
     node: u32,
@@ -89,6 +90,7 @@ fn node_place<K: CheckBytes, V: CheckBytes, const E: usize>(
 
 /// A leaf at a place with room for it.
 #[tactic(auto, unfolding(crate::specs::mirror::Check::check_leaf))]
+#[inline(always)]
 fn check_leaf<K: CheckBytes, V: CheckBytes, const E: usize>(
     buf: &[u8],
     node: u32,
@@ -118,6 +120,7 @@ fn check_leaf<K: CheckBytes, V: CheckBytes, const E: usize>(
 
 /// The node that a pointer leads to, with so many levels left for it and those below.
 #[cycle(nodes)]
+#[inline(always)]
 fn check_node<K: CheckBytes, V: CheckBytes, const E: usize>(
     buf: &[u8],
     p: i64,
@@ -145,6 +148,7 @@ fn check_node<K: CheckBytes, V: CheckBytes, const E: usize>(
 /// A node at a place with room for a leaf, with so many levels left below it.
 #[cycle(nodes)]
 #[tactic(auto, unfolding(crate::specs::mirror::Check::check_placed, crate::specs::mirror::Counted::placed_steps))]
+#[inline(always)]
 fn check_placed<K: CheckBytes, V: CheckBytes, const E: usize>(
     buf: &[u8],
     node: u32,
@@ -182,8 +186,10 @@ fn check_placed<K: CheckBytes, V: CheckBytes, const E: usize>(
 }
 
 /// An inner node at a place with room for it: its children, then its entries.
+// The rest of the cycle is inlined into its loop over pointers, so that no call is made for a leaf.
 #[cycle(nodes)]
 #[tactic(auto, unfolding(crate::specs::mirror::Check::check_inner))]
+#[inline(never)]
 fn check_inner<K: CheckBytes, V: CheckBytes, const E: usize>(
     buf: &[u8],
     node: u32,
@@ -211,6 +217,7 @@ fn check_inner<K: CheckBytes, V: CheckBytes, const E: usize>(
 
 /// What the pointers of an inner node lead to, each in the window that the one before it left.
 #[cycle(nodes)]
+#[inline(always)]
 fn check_pointers<K: CheckBytes, V: CheckBytes, const E: usize>(
     buf: &[u8],
     node: u32,
@@ -238,6 +245,7 @@ fn check_pointers<K: CheckBytes, V: CheckBytes, const E: usize>(
 /// What pointer `i` of an inner node leads to, if it leads to a node.
 #[cycle(nodes)]
 #[tactic(auto, unfolding(crate::specs::mirror::Check::check_pointer, crate::specs::mirror::Counted::pointer_steps))]
+#[inline(always)]
 fn check_pointer<K: CheckBytes, V: CheckBytes, const E: usize>(
     buf: &[u8],
     node: u32,

@@ -10,4 +10,5 @@ pub mod Ranges
 pub mod Roots
 pub mod Searches
 pub mod Seeks
+pub mod Stops
 pub mod Visits

@@ -3,7 +3,6 @@ use Rattle.std.proofs.Common.{◌≡◌, ℕ, zero, suc, ◌+◌, ◌-◌, ◌�
 use Rattle.std.specs.Prelude.{filter, nat_eq, if◌then◌else◌}
 use Rattle.std.proofs.lemmas.Bool.{cases_Bool, eqb-true, eq-eqb, ne_eqb, and_parts, and_from}
 use Rattle.std.proofs.lemmas.List.{map-append}
-use Rattle.std.proofs.lemmas.List.Elements.{filter-append}
 use Rattle.std.specs.Ordering.{is_le, is_lt, is_ge, is_gt}
 use Rattle.std.specs.declared.cmp.Ordering.{Ordering}
 use Rattle.std.specs.declared.cmp.Ordering.TheVariants.{Less, Equal, Greater}
@@ -14,7 +13,7 @@ use Rattle.rkyv_btree_base.specs.Read.{run}
 use Rattle.rkyv_btree_walk.specs.Bounds.{IsRun, is_from, is_to, OrderedFor}
 use Rattle.rkyv_btree_walk.specs.mirror.Range.{is_reached, AllPass, Rises, is_past, first_of, first_passes, is_stop, take_before, range_rest}
 use Rattle.rkyv_btree_walk.proofs.Hits.{rank, NoneAbove, Falls, ordered_falls, falls_map}
-use Rattle.rkyv_btree_walk.proofs.Seeks.{rises_right, none_before}
+use Rattle.rkyv_btree_walk.proofs.Seeks.{rises_right}
 
 pub stop_same : (stop e : ℕ × ℕ) → is_stop (Some stop) e ≡ true → stop ≡ e
 stop_same stop e h =
@@ -101,7 +100,7 @@ module _ (past : ℕ × ℕ → Bool) where
       ]
 
   -- of a list of which the rest is what isn't before a low bound: where the rest starts past a high one, nothing is within
-  -- both, and else what stands before the first entry past it
+  -- both, and what stands there before the first entry past it always is
   module _ (from : ℕ × ℕ → Bool) (all front rest : List (ℕ × ℕ)) (is : all ≡ front ++ rest) (left : rest ≡ filter from all) (rises : Rises past all) where
     within_both : filter (λ e. not (past e)) rest ≡ filter (λ e. from e && not (past e)) all
     within_both = ap (filter (λ e. not (past e))) left ∙ kept_both from all
@@ -112,11 +111,8 @@ module _ (past : ℕ × ℕ → Bool) where
       none [] h r = refl
       none (x ∷ xs) h r = none_kept (x ∷ xs) (h, r.0 h)
 
-    pub within_before : (stop : Option (ℕ × ℕ)) → stop ≡ first_of (filter past all) → first_passes past rest ≡ false → take_before stop rest ≡ filter (λ e. from e && not (past e)) all
-    within_before stop ends starts = cut rest (ends ∙ ap (λ xs. first_of (filter past xs)) is) (rw is at rises) starts ∙ within_both where
-      cut : (xs : List (ℕ × ℕ)) → stop ≡ first_of (filter past (front ++ xs)) → Rises past (front ++ xs) → first_passes past xs ≡ false → take_before stop xs ≡ filter (λ e. not (past e)) xs
-      cut [] e r f = refl
-      cut (x ∷ xs) e r f = kept_before (x ∷ xs) stop (rises_right past front (x ∷ xs) r) (rw (filter-append past front (x ∷ xs), none_before past front x xs r f) at e)
+    pub within_before : (stop : Option (ℕ × ℕ)) → stop ≡ first_of (filter past rest) → take_before stop rest ≡ filter (λ e. from e && not (past e)) all
+    within_before stop ends = kept_before rest stop (rises_right past front rest (rw is at rises)) ends ∙ within_both
 
 -- an answer that ranks below one that reaches the query reaches it too
 reached_below : (past : Bool) (o p : Ordering) → rank p ≤ rank o → is_reached past o ≡ true → is_reached past p ≡ true

@@ -23,12 +23,12 @@ pub trait ArchivedMap: Portable {
     /// How many entries an inner node has, and a leaf at most.
     ghost E: { ℕ };
 
-    /// Does nothing: it says that a map stands, in the terms of its keys and values.
+    /// Ghost step, no code. From valid bytes of `Self` at `pos` it concludes that they are a valid map of `Key` to `Mapped`.
     fn opened(buf: &[u8], pos: u32)
         requires { IsTrue (stands Self.kind buf.now pos) }
         ensures { IsTrue (stands (map_kind Self.Key.kind Self.Mapped.kind E) buf.now pos) };
 
-    /// Does nothing: it says the converse.
+    /// Ghost step, no code: the reverse of `opened`.
     fn closed(buf: &[u8], pos: u32)
         requires { IsTrue (stands (map_kind Self.Key.kind Self.Mapped.kind E) buf.now pos) }
         ensures { IsTrue (stands Self.kind buf.now pos) };

@@ -1,5 +1,5 @@
 //! Walks between two bounds: where they begin, and the entry before which they stop.
-ghost use Rattle.std.specs.Prelude.{◌≡◌, ℕ, ◌+◌, ◌≤◌, ◌<◌, [], length, IfSome, IsTrue, None, Some, false};
+ghost use Rattle.std.specs.Prelude.{◌≡◌, ◌+◌, ◌≤◌, ◌<◌, [], length, IfSome, IsTrue, None, Some, false};
 ghost use Rattle.std.specs.Range.Bound.{bound_map};
 ghost use Rattle.std.specs.declared.cmp.Ordering.{Ordering as Answer};
 ghost use Rattle.std.specs.declared.ops.Bound.TheVariants.{Unbounded};
@@ -14,14 +14,13 @@ ghost use Rattle.rkyv_btree_walk.specs.Search.{ComparesBy, shown};
 ghost use Rattle.rkyv_btree_walk.specs.mirror.Below.{root_place, PartBelow, PathStaysBelow, StepStaysBelow};
 ghost use Rattle.rkyv_btree_walk.specs.mirror.Node.{natural, RunStands, TreeCanBeRead};
 ghost use Rattle.rkyv_btree_walk.specs.mirror.Path.{path_rest, IsPath, LeafStands, StepStands};
-ghost use Rattle.rkyv_btree_walk.specs.mirror.Range.{reached_at, from_at, past_at, IsKept, IsEnd, IsFound, IsMiddle, first_of, first_passes, is_stop as stops_at, take_before, range_rest, tree_list, part_rest, part_range, read_range, PartStands, StepsBefore};
+ghost use Rattle.rkyv_btree_walk.specs.mirror.Range.{from_at, past_at, IsKept, IsEnd, IsFound, IsMiddle, first_of, first_passes, is_stop as stops_at, take_before, range_rest, tree_list, part_rest, part_range, read_range, PartStands, StepsBefore};
 
 use crate::map::{ArchivedMap, map_len};
 use crate::node::{key_pos, root};
 use crate::path::{Leaf, Path, Step, climb, descend};
-use crate::seek::{Part, reaches, seek};
+use crate::seek::{Part, first_reaching, reaches, seek};
 use crate::shows::Shows;
-use arrayvec::ArrayVec;
 use rkyv_btree_base::check::Portable;
 use std::cmp::Ordering;
 use std::ops::Bound;
@@ -79,6 +78,7 @@ fn seek_low<
     requires tree { TreeCanBeRead K.kind V.kind M.E buf.now root }
     requires empty { path.old.items ≡ [] }
     ensures path { IsPath K.kind V.kind M.E buf.now 32 path.new.items }
+    ensures within { result.next ≤ result.end }
     ensures stands { PartStands K.kind V.kind M.E buf.now result }
     ensures run { IsEnd (part_rest K.kind V.kind M.E buf.now result path.new.items)
         (tree_list K.kind V.kind M.E buf.now root) }
@@ -107,29 +107,7 @@ fn seek_low<
     }
 }
 
-/// The first entry whose key reaches the query, of the tree at `root`.
-fn first_reaching<
-    'a,
-    Q,
-    K: Portable,
-    V: Portable,
-    M: ArchivedMap<Key = K, Mapped = V>,
-    W: Shows<'a, K>,
-    C: Fn(&Q, W) -> Ordering,
->(buf: &'a [u8], root: u32, key: &Q, cmp: &C, past: bool) -> Option<(u32, u32)>
-    requires callable { C.IsAlwaysCallable cmp.now }
-    requires tree { TreeCanBeRead K.kind V.kind M.E buf.now root }
-    ensures { (c : Q → K.kind.Value → Answer)
-        → ComparesBy (C.post cmp.now) (shown K.kind W.Shows) c
-        → IsFound (reached_at K.kind V.kind M.E buf.now past (c key.now))
-        (tree_list K.kind V.kind M.E buf.now root) result }
-{
-    let mut path = ArrayVec::new();
-    let part = seek::<Q, K, V, M, W, C>(buf, root, key, cmp, past, &mut path);
-    first_left::<K, V, M>(buf, part, &mut path)
-}
-
-/// The first entry past the high bound, of the tree at `root`.
+/// The first entry past the high bound among what is left of a leaf's part and the path above it.
 fn first_past<
     'a,
     Q,
@@ -138,19 +116,27 @@ fn first_past<
     M: ArchivedMap<Key = K, Mapped = V>,
     W: Shows<'a, K>,
     C: Fn(&Q, W) -> Ordering,
->(buf: &'a [u8], root: u32, high: Bound<&Q>, cmp: &C) -> Option<(u32, u32)>
+>(buf: &'a [u8], part: Part, high: Bound<&Q>, cmp: &C, path: &Path) -> Option<(u32, u32)>
     requires callable { C.IsAlwaysCallable cmp.now }
-    requires tree { TreeCanBeRead K.kind V.kind M.E buf.now root }
+    requires fitting { IsTrue (are_fitting K.kind V.kind M.E) }
+    requires short { length buf.now ≤ 4294967295 }
+    requires path { IsPath K.kind V.kind M.E buf.now 32 path.now.items }
+    requires within { part.next ≤ part.end }
+    requires stands { PartStands K.kind V.kind M.E buf.now part }
     ensures whole { high.entry ≡ Unbounded → result ≡ None }
     ensures first { (c : Q → K.kind.Value → Answer)
         → ComparesBy (C.post cmp.now) (shown K.kind W.Shows) c
         → IsFound (past_at K.kind V.kind M.E buf.now (bound_map (λ q. c q.now) high.entry))
-        (tree_list K.kind V.kind M.E buf.now root) result }
+        (part_rest K.kind V.kind M.E buf.now part path.now.items) result }
 {
     match high {
         Bound::Unbounded => None,
-        Bound::Included(key) => first_reaching::<Q, K, V, M, W, C>(buf, root, key, cmp, true),
-        Bound::Excluded(key) => first_reaching::<Q, K, V, M, W, C>(buf, root, key, cmp, false),
+        Bound::Included(key) => {
+            first_reaching::<Q, K, V, M, W, C>(buf, part, key, cmp, true, path)
+        }
+        Bound::Excluded(key) => {
+            first_reaching::<Q, K, V, M, W, C>(buf, part, key, cmp, false, path)
+        }
     }
 }
 
@@ -333,7 +319,7 @@ fn between_in<
         path.clear();
         return (nothing(), None);
     }
-    let stop = first_past::<Q, K, V, M, W, C>(buf, root, high, cmp);
+    let stop = first_past::<Q, K, V, M, W, C>(buf, part, high, cmp, path);
     let end = cut::<K, V, M>(buf, part, stop, path);
     let node = part.node;
     let next = part.next;

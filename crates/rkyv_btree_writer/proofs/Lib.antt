@@ -3,3 +3,5 @@ pub mod HeldNumbers
 pub mod Archiving
 pub mod TextArchived
 pub mod FieldRuns
+pub mod StdWrites
+pub mod Walks

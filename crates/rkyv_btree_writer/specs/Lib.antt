@@ -6,3 +6,4 @@ pub mod Fields
 pub mod Archiving
 pub mod Causes
 pub mod TextArchival
+pub mod StdWriters

@@ -2,5 +2,7 @@
 #![tactic(auto)]
 
 pub mod fault;
+pub mod io_writer;
 pub mod place;
+mod taken;
 pub mod writes;

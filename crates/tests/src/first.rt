@@ -1,4 +1,4 @@
-//! The first example of the README.
+//! The calls of a first program: a std map is archived, looked up in, changed in place and deserialized.
 
 use crate::same::same;
 use rkyv_btree::prelude::*;

@@ -4,6 +4,8 @@
 #[cfg(test)]
 mod by_hand;
 #[cfg(test)]
+mod claims;
+#[cfg(test)]
 mod coded;
 #[cfg(test)]
 mod competitors;
@@ -61,6 +63,8 @@ mod same;
 mod seals;
 #[cfg(test)]
 mod sets;
+#[cfg(test)]
+mod std_writers;
 #[cfg(test)]
 mod texts;
 #[cfg(test)]

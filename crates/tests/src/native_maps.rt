@@ -182,7 +182,7 @@ fn texts_made(
     ArchivedBTreeMap::<ArchivedText, ArchivedText, 1>::deserialize(alloc, &map)
 }
 
-// The key, the value and the entry grow, in turn. `rt try --test --fail-alloc 1` to `3` refuses each.
+// A list, the key, the value, and then three growths for the map. `rt try --test --fail-alloc 1` to `6` refuses each.
 #[test]
 fn a_map_is_made_or_a_growth_is_refused(rt: HostRuntime) {
     let bytes = [

@@ -177,6 +177,18 @@ fn a_list_out_of_order_is_walked(rt: HostRuntime) -> Result<(), Fail> {
     Ok(())
 }
 
+// The first entry of the leaf is past the high bound, and those behind it are within.
+#[test]
+fn a_range_that_starts_past_its_high_bound_is_empty(rt: HostRuntime) -> Result<(), Fail> {
+    let entries = [(3, 30), (1, 10), (2, 20)];
+    let mut writer = VecWriter::new(rt.alloc());
+    let root = archive::<5>(&rt, rt.alloc(), 3, &entries, &mut writer)?;
+    let map = opened::<5>(&rt, writer.bytes(), root);
+    let mut range = map.range_by(Bound::Included(1), Bound::Included(2));
+    assert!(rt; range.next().is_none());
+    Ok(())
+}
+
 /// The keys of the map of nine entries are these, each with as many behind it as are left.
 fn keys_count_down(rt: &impl Abort, map: &View<Numbers<2>>, entries: &[(u32, u32)]) {
     let mut keys = map.keys();

@@ -55,6 +55,12 @@ module _ (K V : Kind) (E : ℕ) (b : List ℕ) where
     pub short : length b ≤ 4294967295
     pub run : RunStands p 0 n
 
+  -- the keys from number i to before number n of the node at p can be read there
+  pub record RunCanBeRead (p i n : ℕ) : Type 0 where
+    pub fitting : IsTrue (are_fitting K V E)
+    pub short : length b ≤ 4294967295
+    pub run : RunStands p i n
+
   -- a tree of at most so many levels stands at p
   unfoldable pub TreeStands : ℕ → ℕ → Type 0
   TreeStands zero p = ⊥

@@ -1,5 +1,5 @@
 -- Where a range begins and where it stops. These mirror the code, which seeks both places.
-use Rattle.std.specs.Prelude.{◌≡◌, ℕ, ◌-◌, ◌<◌, List, [], ◌∷◌, ◌++◌, map, filter, Option, Some, None, Bool, true, false, ◌&&◌, not, nat_eq, if◌then◌else◌}
+use Rattle.std.specs.Prelude.{◌≡◌, ℕ, ◌-◌, ◌≤◌, ◌<◌, List, [], ◌∷◌, ◌++◌, map, filter, Option, Some, None, Bool, true, false, ◌&&◌, not, nat_eq, if◌then◌else◌}
 use Rattle.std.specs.Ordering.{is_le, is_lt}
 use Rattle.std.specs.declared.cmp.Ordering.{Ordering}
 use Rattle.std.specs.declared.ops.Bound.{Bound}
@@ -8,6 +8,7 @@ use Rattle.rkyv_btree_base.specs.Kind.{Kind}
 use Rattle.rkyv_btree_base.specs.Layout.{NodeLayout, layout_of}
 use Rattle.rkyv_btree_base.specs.Read.{run, entry_at}
 use Rattle.rkyv_btree_walk.specs.Bounds.{is_from}
+use Rattle.rkyv_btree_walk.specs.Visit.{or_else}
 use Rattle.rkyv_btree_walk.specs.declared.path.Step.{Step}
 use Rattle.rkyv_btree_walk.specs.declared.seek.Part.{Part}
 use Rattle.rkyv_btree_walk.specs.mirror.Node.{RunStands}
@@ -22,9 +23,13 @@ is_reached past answer = if past then is_lt answer else is_le answer
 abbrev pub reached_at : (K V : Kind) → ℕ → List ℕ → Bool → (K.Value → Ordering) → ℕ × ℕ → Bool
 reached_at K V E b past answer e = is_reached past (answers_at K V E b answer e)
 
--- the first of `count` numbers that passes the test, or `count`
-abbrev pub IsFirst : (ℕ → Bool) → ℕ → ℕ → Type 0
-IsFirst test count i = ((k : ℕ) → k < i → test k ≡ false) × (i < count → test i ≡ true)
+-- the first number from `from` to before `count` that passes the test, or `count`
+abbrev pub IsFirst : (ℕ → Bool) → ℕ → ℕ → ℕ → Type 0
+IsFirst test from count i = ((k : ℕ) → from ≤ k → k < i → test k ≡ false) × (i < count → test i ≡ true)
+
+-- once a number from `from` to before `count` passes the test, all behind it do
+abbrev pub Climbs : (ℕ → Bool) → ℕ → ℕ → Type 0
+Climbs test from count = (k l : ℕ) → from ≤ k → k < l → l < count → test k ≡ true → test l ≡ true
 
 module _ {X : Type 0} (test : X → Bool) where
   abbrev pub AllPass : List X → Type 0
@@ -66,6 +71,10 @@ first_of (x ∷ xs) = Some x
 -- the first entry of a list that passes a test is this, where it rises along the list
 abbrev pub IsFound : {X : Type 0} → (X → Bool) → List X → Option X → Type 0
 IsFound test all found = Rises test all → found ≡ first_of (filter test all)
+
+-- the same of a list behind which another entry may stand
+abbrev pub IsFoundOr : {X : Type 0} → (X → Bool) → List X → Option X → Option X → Type 0
+IsFoundOr test all other found = Rises test all → found ≡ or_else (first_of (filter test all)) other
 
 -- the entries of a list that pass one test and fail another are these, where both rise along the list
 abbrev pub IsMiddle : {X : Type 0} → (X → Bool) → (X → Bool) → List X → List X → Type 0

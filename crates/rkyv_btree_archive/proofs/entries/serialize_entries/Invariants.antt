@@ -1,5 +1,4 @@
-use Rattle.std.proofs.Common.{◌≡◌, ◌≤◌, length, map, drop}
-use Rattle.std.specs.VecDeque.{deque_capacity}
+use Rattle.std.proofs.Common.{◌≡◌, ◌≤◌, length, map, drop, vec_capacity}
 use Rattle.rkyv_btree_image.specs.Entries.{now_of}
 use Rattle.rkyv_btree_image.proofs.InOrder.{SerialisedSoFar}
 use Rattle.rkyv_btree_archive.proofs.entries.serialize_entries.Given as goal
@@ -9,6 +8,6 @@ invariant-loop-entry g l = record {
   so_far : SerialisedSoFar g.row.W-Error.Denot g.KU.Archive.archival g.VU.Archive.archival (g.W.Writer.state l.fn.writer) (map now_of l.entries) (g.W.Writer.state l.writer) (map now_of (drop l.entry-index l.entries)) l.keys.items l.values.items;
   keys : length l.keys.items ≡ l.entry-index;
   values : length l.values.items ≡ l.entry-index;
-  key_room : deque_capacity l.fn.keys ≤ deque_capacity l.keys;
-  value_room : deque_capacity l.fn.values ≤ deque_capacity l.values;
+  key_room : vec_capacity l.fn.keys ≤ vec_capacity l.keys;
+  value_room : vec_capacity l.fn.values ≤ vec_capacity l.values;
 }

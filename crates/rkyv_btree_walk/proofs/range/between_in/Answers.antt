@@ -3,8 +3,9 @@ use Rattle.std.proofs.Common.{◌-◌, [], ◌++◌, ◌∙◌, refl, sym, ap, a
 use Rattle.rkyv_btree_base.specs.Layout.{layout_of}
 use Rattle.rkyv_btree_base.specs.Read.{run}
 use Rattle.rkyv_btree_walk.specs.mirror.Path.{tree_rest, walk_rest}
-use Rattle.rkyv_btree_walk.specs.mirror.Range.{take_before}
+use Rattle.rkyv_btree_walk.specs.mirror.Range.{take_before, past_at}
 use Rattle.rkyv_btree_walk.proofs.Ranges.{taken_front, taken_whole, within_none, within_before}
+use Rattle.rkyv_btree_walk.proofs.Seeks.{rises_right}
 use Rattle.rkyv_btree_walk.proofs.range.between_in.Goals as goal
 
 pub returns-then-starts_past-clause-run : goal.returns-then-starts_past-clause-run
@@ -46,4 +47,5 @@ returns-clause-within g c f p from past =
     let seek = c.seek_low-part.ensures in
     let same = ap (λ xs. run s c.args.buf.now part.node (part.end - part.next) part.next ++ xs) c.starts_past.ensures.rest in
     let left = c.cut-end.ensures.rest ∙ ap (take_before c.first_past-stop.result) same in
-    left ∙ within_before _ _ _ seek.run.0 _ seek.run.1 (seek.from f p from) past c.first_past-stop.result (c.first_past-stop.ensures.first f p past) (sym (c.starts_past.ensures.past f p) ∙ c.if-starts_past.false)
+    let first = rw same at (c.first_past-stop.ensures.first f p) in
+    left ∙ within_before _ _ _ seek.run.0 _ seek.run.1 (seek.from f p from) past c.first_past-stop.result (first (rises_right _ seek.run.0 _ (rw seek.run.1 at past)))

@@ -1,7 +1,7 @@
 -- What is past a bound reaches its query, or is behind it.
 use Rattle.std.proofs.Common.{sym, ap}
 use Rattle.rkyv_btree_base.specs.Layout.{layout_of}
-use Rattle.rkyv_btree_walk.specs.mirror.Path.{tree_rest}
+use Rattle.rkyv_btree_walk.specs.mirror.Path.{walk_rest}
 use Rattle.rkyv_btree_walk.specs.mirror.Range.{first_of}
 use Rattle.rkyv_btree_walk.proofs.Ranges.{kept_none}
 use Rattle.rkyv_btree_walk.proofs.range.first_past.Goals as goal
@@ -9,7 +9,8 @@ use Rattle.rkyv_btree_walk.proofs.range.first_past.Goals as goal
 pub returns-in-Unbounded-clause-first : goal.returns-in-Unbounded-clause-first
 returns-in-Unbounded-clause-first g c f p =
     let s = layout_of g.K.Portable.kind g.V.Portable.kind g.M.ArchivedMap.E in
-    rw c.in-Unbounded.is (λ rises. sym (ap first_of (kept_none (tree_rest s c.args.buf.now 32 c.args.root 0))))
+    let part = c.args.part in
+    rw c.in-Unbounded.is (λ rises. sym (ap first_of (kept_none (walk_rest s c.args.buf.now part.node part.next part.end c.args.path.now.items))))
 
 pub returns-in-Included-clause-first : goal.returns-in-Included-clause-first
 returns-in-Included-clause-first g c f p = rw c.in-Included.is (c.first_reaching.ensures f p)

@@ -2,12 +2,13 @@
 use Rattle.std.proofs.Common.{◌≡◌, ◌+◌, ◌-◌, ◌≤◌, [], ◌∙◌, length, refl, sym, arith, rules, Some}
 use Rattle.std.proofs.lemmas.List.{append-nil}
 use Rattle.rkyv_btree_base.specs.Layout.{layout_of}
-use Rattle.rkyv_btree_walk.specs.mirror.Node.{CanBeSearched}
+use Rattle.rkyv_btree_walk.specs.mirror.Node.{RunCanBeRead}
+use Rattle.rkyv_btree_walk.specs.mirror.Range.{reached_at}
 use Rattle.rkyv_btree_walk.proofs.Below.{put_below}
 use Rattle.rkyv_btree_walk.proofs.Nodes.{tree_node, child_before}
 use Rattle.rkyv_btree_walk.proofs.Paths.{put_short, put_path, put_child}
 use Rattle.rkyv_btree_walk.proofs.Searches.{leaf_counted, inner_counted}
-use Rattle.rkyv_btree_walk.proofs.Seeks.{kept_behind, leaves_leaf, leaves_absent, leaves_child}
+use Rattle.rkyv_btree_walk.proofs.Seeks.{kept_behind, below_climbs, leaves_leaf, leaves_absent, leaves_child}
 use Rattle.rkyv_btree_walk.proofs.seek.seek.Goals as goal
 
 pub down-init : goal.down-init
@@ -21,7 +22,7 @@ leaf_end-end-requires-clause-node g c = tree_node _ _ _ _ _ c.down.node c.down.i
 
 pub seek_node-next-requires : goal.seek_node-next-requires
 seek_node-next-requires g c =
-    let node : CanBeSearched g.K.Portable.kind g.V.Portable.kind g.M.ArchivedMap.E c.args.buf.now c.down.node c.leaf_end-end.result = record { fitting = c.requires.tree.fitting; short = c.requires.tree.short; run = c.leaf_end-end.ensures.stands } in
+    let node : RunCanBeRead g.K.Portable.kind g.V.Portable.kind g.M.ArchivedMap.E c.args.buf.now c.down.node 0 c.leaf_end-end.result = record { fitting = c.requires.tree.fitting; short = c.requires.tree.short; run = c.leaf_end-end.ensures.stands } in
     search rules
 
 pub returns-then-is_leaf-clause-path : goal.returns-then-is_leaf-clause-path
@@ -44,7 +45,8 @@ returns-then-is_leaf-clause-from g c f p rises =
     let counted = leaf_counted (layout_of g.K.Portable.kind g.V.Portable.kind g.M.ArchivedMap.E) c.args.buf.now c.down.node leaf c.leaf_end-end.ensures.count in
     let inv = c.down.invariant in
     let leaves = leaves_leaf _ _ _ _ c.down.node _ _ c.down.path.items _ inv.skipped inv.path inv.tree counted c.seek_node-next.ensures.within inv.run leaf _ c.leaf_end-end.ensures.count in
-    let pass = leaves.2 _ rises (c.seek_node-next.ensures.first f p) (inv.from f p rises) in
+    let climbs = below_climbs _ _ _ _ c.down.node _ _ inv.tree inv.skipped _ inv.run (reached_at g.K.Portable.kind g.V.Portable.kind g.M.ArchivedMap.E c.args.buf.now c.args.past (f c.args.key.now)) counted rises in
+    let pass = leaves.2 _ rises (c.seek_node-next.ensures.first f p climbs) (inv.from f p rises) in
     kept_behind _ _ leaves.0 _ leaves.1 pass.0 pass.1
 
 pub inner_end-count-requires-clause-node : goal.inner_end-count-requires-clause-node
@@ -52,7 +54,7 @@ inner_end-count-requires-clause-node g c = tree_node _ _ _ _ _ c.down.node c.dow
 
 pub seek_node-next-requires-in-down : goal.seek_node-next-requires-in-down
 seek_node-next-requires-in-down g c =
-    let node : CanBeSearched g.K.Portable.kind g.V.Portable.kind g.M.ArchivedMap.E c.args.buf.now c.down.node c.inner_end-count.result = record { fitting = c.requires.tree.fitting; short = c.requires.tree.short; run = c.inner_end-count.ensures.stands } in
+    let node : RunCanBeRead g.K.Portable.kind g.V.Portable.kind g.M.ArchivedMap.E c.args.buf.now c.down.node 0 c.inner_end-count.result = record { fitting = c.requires.tree.fitting; short = c.requires.tree.short; run = c.inner_end-count.ensures.stands } in
     search rules
 
 pub push-requires : goal.push-requires
@@ -85,7 +87,8 @@ returns-in-None-clause-from g c f p rises =
     let inv = c.down.invariant in
     let none = sym c.child.ensures ∙ c.in-None.is in
     let leaves = leaves_absent _ _ _ _ c.down.node _ _ c.down.path.items _ inv.skipped inv.path inv.tree counted c.seek_node-next-in-down.ensures.within inv.run none _ c.push.ensures.items in
-    let pass = leaves.2 _ rises (c.seek_node-next-in-down.ensures.first f p) (inv.from f p rises) in
+    let climbs = below_climbs _ _ _ _ c.down.node _ _ inv.tree inv.skipped _ inv.run (reached_at g.K.Portable.kind g.V.Portable.kind g.M.ArchivedMap.E c.args.buf.now c.args.past (f c.args.key.now)) counted rises in
+    let pass = leaves.2 _ rises (c.seek_node-next-in-down.ensures.first f p climbs) (inv.from f p rises) in
     kept_behind _ _ leaves.0 _ leaves.1 pass.0 pass.1
 
 pub returns-in-None-clause-below : goal.returns-in-None-clause-below
@@ -125,6 +128,8 @@ down-preserved g c =
       tree = below.0;
       skipped = leaves.0;
       run = leaves.1;
-      from = λ f p rises. leaves.2 _ rises (c.seek_node-next-in-down.ensures.first f p) (inv.from f p rises);
+      from = λ f p rises.
+          let climbs = below_climbs K V E b c.down.node _ _ inv.tree inv.skipped _ inv.run (reached_at K V E b c.args.past (f c.args.key.now)) counted rises in
+          leaves.2 _ rises (c.seek_node-next-in-down.ensures.first f p climbs) (inv.from f p rises);
       below = (put.0, put.1 c.in-Some.below some);
     }

@@ -3,6 +3,8 @@ use Rattle.std.proofs.Common.{ℕ, ◌<◌, ◌≤◌, [], inl, refl, arith}
 use Rattle.std.proofs.lemmas.Result.{IfOk-weaker, on_ok_weaker}
 use Rattle.rkyv_btree_image.proofs.Kept.{same_begins, went_nowhere}
 use Rattle.rkyv_btree_image.proofs.SmallestMaps.{builds_none, builds_smallest}
+use Rattle.rkyv_btree_format.proofs.Sizes.{room_of}
+use Rattle.rkyv_btree_image.proofs.OneTree.{builds_one_tree}
 use Rattle.rkyv_btree_archive.proofs.map.ArchivedBTreeMap.serialize_from_ordered_iter.Goals as goal
 
 in_time : (n : ℕ) → n ≤ 4294967295 → 4294967295 < n → ⊥
@@ -97,3 +99,9 @@ returns-then-len-eq0-clause-past_kept g c = λ late. refl
 
 pub returns-then-len-eq0-clause-none_kept : goal.returns-then-len-eq0-clause-none_kept
 returns-then-len-eq0-clause-none_kept g c = λ none. refl
+
+pub returns-then-len-eq0-clause-one_tree : goal.returns-then-len-eq0-clause-one_tree
+returns-then-len-eq0-clause-one_tree g c = builds_one_tree g.K.Portable.kind g.V.Portable.kind g.row.E g.KU.Archive.archival g.VU.Archive.archival g.I.Iterator.next_gives c.args.iter c.args.len g.W.Writer.state c.args.writer.now c.args.writer.now 0 (room_of g.K.Portable.kind g.V.Portable.kind g.row.E g.met.K.Portable.laws g.met.V.Portable.laws c.requires.fitting).some (returns-then-len-eq0-clause-ok g c)
+
+pub returns-clause-one_tree : goal.returns-clause-one_tree
+returns-clause-one_tree g c = IfOk-weaker c.build_some.result _ _ (λ root built. builds_one_tree g.K.Portable.kind g.V.Portable.kind g.row.E g.KU.Archive.archival g.VU.Archive.archival g.I.Iterator.next_gives c.args.iter c.args.len g.W.Writer.state c.args.writer.now c.build_some.new.writer root (room_of g.K.Portable.kind g.V.Portable.kind g.row.E g.met.K.Portable.laws g.met.V.Portable.laws c.requires.fitting).some built) c.build_some.ensures.ok

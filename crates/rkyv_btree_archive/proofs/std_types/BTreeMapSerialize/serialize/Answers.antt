@@ -1,4 +1,5 @@
 use Rattle.std.specs.Map.Iter.{TakesFirst, deref_pair}
+use Rattle.rkyv_btree_image.proofs.OneTree.{list_one_tree}
 use Rattle.rkyv_btree_image.proofs.SmallestMaps.{list_smallest}
 use Rattle.rkyv_btree_image.proofs.TreeSerialised.{entries_begun, entries_drained, list_serialised, list_unserialised}
 use Rattle.rkyv_btree_archive.proofs.std_types.BTreeMapSerialize.serialize.Goals as goal
@@ -17,3 +18,8 @@ pub returns-clause-smallest : goal.returns-clause-smallest
 returns-clause-smallest g c =
     list_smallest g.KU.Archived.Portable.kind g.VU.Archived.Portable.kind 5 g.KU.Archive.archival g.VU.Archive.archival c.args.self.now.entries (TakesFirst deref_pair) c.args.self.now.entries c.len.result g.W.Writer.state _ _ (entries_drained c.args.self.now.entries)
     c.serialize_from_ordered_iter.result (rw (← c.iter.ensures.rest) c.serialize_from_ordered_iter.ensures.smallest)
+
+pub returns-clause-one_tree : goal.returns-clause-one_tree
+returns-clause-one_tree g c =
+    list_one_tree g.KU.Archived.Portable.kind g.VU.Archived.Portable.kind 5 g.KU.Archive.archival g.VU.Archive.archival c.args.self.now.entries (TakesFirst deref_pair) c.args.self.now.entries c.len.result g.W.Writer.state _ _ (entries_drained c.args.self.now.entries) c.len.ensures.len
+    c.serialize_from_ordered_iter.result (rw (← c.iter.ensures.rest) c.serialize_from_ordered_iter.ensures.one_tree)

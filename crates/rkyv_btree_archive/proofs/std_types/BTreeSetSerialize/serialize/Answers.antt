@@ -1,5 +1,6 @@
 use Rattle.std.proofs.Common.{◌∙◌, sym}
 use Rattle.std.specs.Map.Iter.{TakesFirst, deref}
+use Rattle.rkyv_btree_image.proofs.OneTree.{keys_one_tree}
 use Rattle.rkyv_btree_image.proofs.SmallestMaps.{keys_smallest}
 use Rattle.rkyv_btree_image.proofs.TreeSerialised.{keys_begun, keys_drained, list_unserialised, set_serialised, units_count}
 use Rattle.rkyv_btree_image.specs.Sets.{entries_by, unit_archival, with_units}
@@ -23,3 +24,7 @@ returns-clause-err g c =
 pub returns-clause-smallest : goal.returns-clause-smallest
 returns-clause-smallest g c =
     keys_smallest g.KU.Archived.Portable.kind 5 g.KU.Archive.archival c.args.self.now.keys c.len.result g.W.Writer.state _ _ c.serialize_from_ordered_iter.result (rw (← c.iter.ensures.rest) c.serialize_from_ordered_iter.ensures.smallest)
+
+pub returns-clause-one_tree : goal.returns-clause-one_tree
+returns-clause-one_tree g c =
+    keys_one_tree g.KU.Archived.Portable.kind 5 g.KU.Archive.archival c.args.self.now.keys c.len.result g.W.Writer.state _ _ c.len.ensures.len c.serialize_from_ordered_iter.result (rw (← c.iter.ensures.rest) c.serialize_from_ordered_iter.ensures.one_tree)

@@ -1,0 +1,3 @@
+pub mod Rows
+pub mod RowsWritten
+pub mod Building

@@ -1,0 +1,230 @@
+//! Building archived maps from a list of all items, by recursion over the sizes of subtrees.
+ghost use Rattle.std.specs.Prelude.{◌≡◌, ◌+◌, ◌*◌, ◌<◌, ◌≤◌, length, map, alloc_error, IsOk, OnOk, OnErr, IfOk, IfErr, IsErrOf, IsTrue};
+ghost use Rattle.std.specs.Iterator.{UpTo};
+ghost use Rattle.rkyv_btree_archive.specs.mirror.Scratch.{IsFree, IsReserved};
+ghost use Rattle.rkyv_btree_format.specs.Layout.{layout_of, are_fitting};
+ghost use Rattle.rkyv_btree_image.specs.Entries.{now_of};
+ghost use Rattle.rkyv_btree_image.specs.Kept.{NeverGrows, OnlyAppended};
+ghost use Rattle.rkyv_btree_image.specs.Miscounts.{IsMiscount};
+ghost use Rattle.rkyv_btree_image.specs.OneTree.{BuildsOneTree};
+ghost use Rattle.rkyv_btree_image.specs.Serialising.{Serialised, BuildFault, BuildsTree, FailsToBuild};
+ghost use Rattle.rkyv_btree_image.specs.SmallestMaps.{BuildsSmallest};
+ghost use Rattle.rkyv_btree_image.specs.Written.{ChildWritten, ChildStopped};
+ghost use Rattle.rkyv_btree_shape.specs.Logarithm.{ilog};
+ghost use Rattle.rkyv_btree_shape.specs.Plan.{planned_alone};
+ghost use Rattle.rkyv_btree_writer.specs.Archiving.{BeginsWith};
+ghost use Rattle.rkyv_btree_writer.specs.Writing.{position, last_end};
+
+use crate::tree::write_child;
+use rkyv_btree_archive::archive::{Archive, Serialize};
+use rkyv_btree_archive::items::{none_left, take_items};
+use rkyv_btree_archive::writes::{Scratch, reserve_scratch};
+use rkyv_btree_portable::check::Portable;
+use rkyv_btree_shape::height::entries_to_height;
+use rkyv_btree_writer::fault::{Fault, IteratorLengthMismatch};
+use rkyv_btree_writer::place::Writer;
+use rkyv_btree_writer::writes::LAST_END;
+use std::alloc::{AllocError, Allocator};
+
+/// How many entries wait at most, on all levels together, until their nodes' children are written.
+fn waiting<K: Portable, V: Portable, const E: usize>(len: usize) -> usize
+    requires fitting { IsTrue (are_fitting K.kind V.kind E) }
+    requires some { 0 < len }
+    requires small { len ≤ 4294967295 }
+    ensures { result ≡ E * ilog (E + 1) len }
+{
+    E * (entries_to_height::<E>(len as u64) as usize - 1)
+}
+
+/// What building takes: what writing a node takes, and lists of the entries and children that wait for their nodes, and of
+/// the items.
+#[derive(Drop)]
+struct Reserved<'x, KU: Archive, VU: Archive, A: Allocator> {
+    scratch: Scratch<KU::Resolver, VU::Resolver, A>,
+    waiting: Vec<(&'x KU, &'x VU), A>,
+    children: Vec<Option<u32>, A>,
+    items: Vec<(&'x KU, &'x VU), A>,
+}
+
+/// Reserves all memory that building takes of so many items, but for what their own serialising takes.
+fn reserve<'x, KU, VU, K, V, A, const E: usize>(
+    alloc: A,
+    len: usize,
+) -> Result<Reserved<'x, KU, VU, A>, AllocError>
+where
+    KU: Archive<Archived = K> + 'x,
+    VU: Archive<Archived = V> + 'x,
+    K: Portable,
+    V: Portable,
+    A: Allocator + Copy,
+    requires fitting { IsTrue (are_fitting K.kind V.kind E) }
+    requires some { 0 < len }
+    requires small { len ≤ 4294967295 }
+    ensures free { IfOk result (λ it. IsFree (layout_of K.kind V.kind E) it.scratch) }
+    ensures waiting { IfOk result (λ it. IsReserved it.waiting (E * ilog (E + 1) len)) }
+    ensures children { IfOk result (λ it. IsReserved it.children (E * ilog (E + 1) len)) }
+    ensures items { IfOk result (λ it. IsReserved it.items len) }
+{
+    let waiting = waiting::<K, V, E>(len);
+    Ok(Reserved {
+        scratch: reserve_scratch::<KU, VU, K, V, A, E>(alloc)?,
+        waiting: Vec::with_capacity(alloc, waiting)?,
+        children: Vec::with_capacity(alloc, waiting)?,
+        items: Vec::with_capacity(alloc, len)?,
+    })
+}
+
+/// Writes the tree of the items that were taken, and answers where its root node stands; nothing for no items.
+fn write_items<'x, KU, VU, K, V, W, A, const E: usize>(
+    alloc: A,
+    lists: Reserved<'x, KU, VU, A>,
+    writer: &mut W,
+) -> Result<Option<u32>, Fault<W::Error>>
+where
+    KU: Archive<Archived = K> + Serialize<W, A> + 'x,
+    VU: Archive<Archived = V> + Serialize<W, A> + 'x,
+    K: Portable,
+    V: Portable,
+    W: Writer,
+    A: Allocator + Copy,
+    requires fitting { IsTrue (are_fitting K.kind V.kind E) }
+    requires count { length lists.items.items ≤ 4294967295 }
+    requires free { IsFree (layout_of K.kind V.kind E) lists.scratch }
+    requires waiting { IsReserved lists.waiting (E * ilog (E + 1) (length lists.items.items)) }
+    requires children { IsReserved lists.children
+        (E * ilog (E + 1) (length lists.items.items)) }
+    ensures ok { IfOk result (λ root.
+        ChildWritten (layout_of K.kind V.kind E) KU.archival VU.archival (W.state writer.old)
+        (planned_alone E (map now_of lists.entry.items.items)) root (W.state writer.new)) }
+    ensures err { IfErr result (λ fault.
+        ChildStopped (layout_of K.kind V.kind E) KU.archival VU.archival (W.state writer.old)
+        (planned_alone E (map now_of lists.entry.items.items)) fault (W.state writer.new)) }
+    ensures last { OnOk result
+        (0 < length lists.entry.items.items → position (W.state writer.new) ≤ last_end) }
+{
+    let Reserved {
+        mut scratch,
+        mut waiting,
+        mut children,
+        items,
+    } = lists;
+    write_child::<KU, VU, K, V, W, A, E>(
+        alloc,
+        &mut scratch,
+        &mut waiting,
+        &mut children,
+        &items,
+        writer,
+    )
+}
+
+/// Writes the tree of an iterator's items, which are claimed to be `len`, and answers where its root node stands.
+fn build_some<'x, KU, VU, K, V, W, A, I, const E: usize>(
+    alloc: A,
+    len: usize,
+    mut iter: I,
+    writer: &mut W,
+) -> Result<u32, Fault<W::Error>>
+where
+    KU: Archive<Archived = K> + Serialize<W, A> + 'x,
+    VU: Archive<Archived = V> + Serialize<W, A> + 'x,
+    K: Portable,
+    V: Portable,
+    W: Writer,
+    A: Allocator + Copy,
+    I: Iterator<Item = (&'x KU, &'x VU)>,
+    requires fitting { IsTrue (are_fitting K.kind V.kind E) }
+    requires some { 0 < len }
+    requires small { len ≤ 4294967295 }
+    requires can { I.can_next iter }
+    requires ends { UpTo (I.remaining iter) 18446744073709551615 }
+    ensures ok { IfOk result (λ root.
+        Serialised K.kind V.kind E KU.archival VU.archival I.next_gives iter len
+        (W.state writer.old) root (W.state writer.new)) }
+    ensures err { IfErr result (λ fault.
+        BuildFault K.kind V.kind E KU.archival VU.archival I.next_gives iter len
+        (W.state writer.old) fault (W.state writer.new)) }
+    ensures went { OnOk result (OnlyAppended (W.state writer.old) (W.state writer.new)) }
+    ensures memory { NeverGrows KU.archival → NeverGrows VU.archival →
+        IsErrOf result (Fault.Memory alloc_error) → W.state writer.new ≡ W.state writer.old }
+    ensures kept { OnErr result (BeginsWith (W.state writer.new) (W.state writer.old)) }
+    ensures end { OnOk result (position (W.state writer.new) ≤ last_end) }
+{
+    let Ok(mut lists) = reserve::<KU, VU, K, V, A, E>(alloc, len) else {
+        return Err(Fault::Memory(AllocError));
+    };
+    if !take_items(&mut lists.items, len, &mut iter) {
+        return Err(Fault::Length(IteratorLengthMismatch {
+            expected: len,
+            actual: lists.items.len(),
+        }));
+    }
+    let root = write_items::<KU, VU, K, V, W, A, E>(alloc, lists, writer)?;
+    if let Err(miscount) = none_left(iter, len) {
+        return Err(Fault::Length(miscount));
+    }
+    Ok(root.unwrap_or(0))
+}
+
+/// Serializes the items of an iterator, in their order, as the tree of a map, and returns the position of its root node: 0 for
+/// no items. `len` is the claimed number of items. All items are held in memory.
+///
+/// It has the contract of `ArchivedBTreeMap::serialize_from_ordered_iter`, and so appends the same bytes.
+pub fn serialize_recursively<'x, KU, VU, K, V, W, A, I, const E: usize>(
+    alloc: A,
+    len: usize,
+    iter: I,
+    writer: &mut W,
+) -> Result<u32, Fault<W::Error>>
+where
+    KU: Archive<Archived = K> + Serialize<W, A> + 'x,
+    VU: Archive<Archived = V> + Serialize<W, A> + 'x,
+    K: Portable,
+    V: Portable,
+    W: Writer,
+    A: Allocator + Copy,
+    I: Iterator<Item = (&'x KU, &'x VU)>,
+    requires fitting { IsTrue (are_fitting K.kind V.kind E) }
+    requires can { I.can_next iter }
+    requires ends { UpTo (I.remaining iter) 18446744073709551615 }
+    ensures ok { IfOk result
+        (BuildsTree K.kind V.kind E KU.archival VU.archival I.next_gives iter len
+        W.state writer.old writer.new) }
+    // With the map behind it, it is accepted, and means the items; and no accepted map with as many entries has fewer
+    // nodes, node bytes or levels.
+    ensures smallest { IfOk result
+        (BuildsSmallest K.kind V.kind E KU.archival VU.archival I.next_gives iter len
+        W.state writer.old writer.new) }
+    // The tree is the one left-complete tree of the items, and what was appended is its image.
+    ensures one_tree { IfOk result
+        (BuildsOneTree K.kind V.kind E KU.archival VU.archival I.next_gives iter len
+        W.state writer.old writer.new) }
+    ensures err { IfErr result
+        (FailsToBuild K.kind V.kind E KU.archival VU.archival I.next_gives iter len
+        W.state writer.old writer.new) }
+    ensures end { OnOk result (0 < len → position (W.state writer.new) ≤ last_end) }
+    // On success no write failed, and nothing but bytes behind the old ones has changed.
+    ensures went { OnOk result (OnlyAppended (W.state writer.old) (W.state writer.new)) }
+    // Whatever refuses, what the writer held stays in front.
+    ensures kept { OnErr result (BeginsWith (W.state writer.new) (W.state writer.old)) }
+    // Where no entry asks for memory, a refused growth leaves the writer as it was.
+    ensures memory { NeverGrows KU.archival → NeverGrows VU.archival →
+        IsErrOf result (Fault.Memory alloc_error) → W.state writer.new ≡ W.state writer.old }
+    // A claim past 32 bits is refused as that, whatever else there is, and nothing is written.
+    ensures past { last_end < len → IsErrOf result Fault.LengthOverflow }
+    ensures past_kept { last_end < len → W.state writer.new ≡ W.state writer.old }
+    // A claim of nothing is refused for items that come, and for nothing else.
+    ensures none { len ≡ 0 → IfErr result IsMiscount }
+    ensures none_kept { len ≡ 0 → W.state writer.new ≡ W.state writer.old }
+{
+    if len > LAST_END as usize {
+        return Err(Fault::LengthOverflow);
+    }
+    if len == 0 {
+        if let Err(miscount) = none_left(iter, 0) {
+            return Err(Fault::Length(miscount));
+        }
+        return Ok(0);
+    }
+    build_some::<KU, VU, K, V, W, A, I, E>(alloc, len, iter, writer)
+}

@@ -1,0 +1,7 @@
+-- Each turn leaves fewer entries.
+use Rattle.std.proofs.Common.{length}
+use Rattle.callers.proofs.editing.double_along.Given as goal
+use Rattle.rkyv_btree.specs.Cursor.{places_left}
+
+abbrev pub decreases-loop-cursor : goal.decreases-loop-cursor
+decreases-loop-cursor l = length (places_left l.cursor)

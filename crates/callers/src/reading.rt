@@ -1,0 +1,74 @@
+//! Reading a price list in place.
+ghost use Rattle.std.specs.Prelude.{◌≡◌, length};
+ghost use Rattle.rkyv_btree_base.specs.Scalars.{u64_kind};
+ghost use Rattle.rkyv_btree_base.specs.Text.{text_kind};
+ghost use Rattle.rkyv_btree.specs.View.{entries_of};
+
+use anyhow::{Result, bail};
+use rkyv_btree::prelude::*;
+use std::ops::{Bound, ControlFlow};
+
+/// Names and their prices.
+pub type Prices = ArchivedBTreeMap<ArchivedText, ArchivedU64, 5>;
+
+/// Validates the bytes, and returns the price of a name.
+pub fn price_in(bytes: &[u8], name: &str) -> Result<Option<u64>> {
+    if !Prices::fits() {
+        bail!("a node of these types is larger than 4 GiB");
+    }
+    let map = open::<Prices>(bytes)?;
+    Ok(price(map, name))
+}
+
+/// Returns the price of a name.
+pub fn price(map: View<'_, Prices>, name: &str) -> Option<u64> {
+    map.get_by(name).map(|price| price.to_native())
+}
+
+/// Returns the price of a name, by a comparison of the caller's own.
+pub fn price_with(map: View<'_, Prices>, name: &str) -> Option<u64> {
+    let found = map.get_key_value_with(&name, |name: &&str, key: View<ArchivedText>| {
+        Ord::cmp(*name, key.as_str())
+    });
+    found.map(|entry| entry.1.to_native())
+}
+
+/// Adds up all prices, modulo 2 to the power of 64.
+pub fn total(map: View<'_, Prices>) -> u64 {
+    let mut sum: u64 = 0;
+    for (_, price) in map.iter() {
+        sum = sum.wrapping_add(price.to_native());
+    }
+    sum
+}
+
+/// Adds up the prices of the names from `low` to `high`.
+pub fn total_between(map: View<'_, Prices>, low: &str, high: &str) -> u64 {
+    map.range_by(Bound::Included(low), Bound::Included(high))
+        .fold(0, |sum: u64, entry| sum.wrapping_add(entry.1.to_native()))
+}
+
+/// Returns the first price whose name has more than `len` bytes.
+pub fn first_longer(map: View<'_, Prices>, len: usize) -> Option<u64> {
+    map.iter()
+        .find(|entry| entry.0.as_str().len() > len)
+        .map(|entry| entry.1.to_native())
+}
+
+/// Returns the first price above a limit, by a visit that stops there.
+pub fn first_above(map: View<'_, Prices>, limit: u64) -> Option<u64> {
+    map.visit(|_: View<ArchivedText>, price: View<ArchivedU64>| {
+        let price = price.to_native();
+        if price > limit {
+            return ControlFlow::Break(price);
+        }
+        ControlFlow::Continue(())
+    })
+}
+
+/// Counts the entries.
+pub fn count(map: View<'_, Prices>) -> usize
+    ensures { result ≡ length (entries_of text_kind u64_kind 5 map.entry) }
+{
+    map.iter().count()
+}

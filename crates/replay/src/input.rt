@@ -1,0 +1,106 @@
+//! Numbers and native values, taken from the front of a case.
+
+use anyhow::{Context, bail};
+use std::alloc::{AllocError, Global};
+use std::collections::BTreeMap;
+
+/// What is left of the bytes of a case.
+#[derive(Drop)]
+pub struct Input<'a> {
+    pub rest: &'a [u8],
+}
+
+impl<'a> Input<'a> {
+    /// Takes as many bytes as an array has.
+    pub fn array<const N: usize>(&mut self) -> anyhow::Result<[u8; N]> {
+        let (front, back) = self
+            .rest
+            .split_first_chunk::<N>()
+            .context("the case is too short")?;
+        self.rest = back;
+        Ok(*front)
+    }
+
+    pub fn number(&mut self) -> anyhow::Result<u32> {
+        Ok(u32::from_le_bytes(self.array::<4>()?))
+    }
+}
+
+/// A native type whose values cases hold.
+pub trait Wire: Drop {
+    /// Takes the next value of a case.
+    fn take(alloc: Global, input: &mut Input<'_>) -> anyhow::Result<Self>;
+}
+
+impl Wire for u8 {
+    fn take(_alloc: Global, input: &mut Input<'_>) -> anyhow::Result<u8> {
+        Ok(u8::from_le_bytes(input.array::<1>()?))
+    }
+}
+
+impl Wire for u16 {
+    fn take(_alloc: Global, input: &mut Input<'_>) -> anyhow::Result<u16> {
+        Ok(u16::from_le_bytes(input.array::<2>()?))
+    }
+}
+
+impl Wire for i32 {
+    fn take(_alloc: Global, input: &mut Input<'_>) -> anyhow::Result<i32> {
+        Ok(i32::from_le_bytes(input.array::<4>()?))
+    }
+}
+
+impl Wire for u32 {
+    fn take(_alloc: Global, input: &mut Input<'_>) -> anyhow::Result<u32> {
+        Ok(u32::from_le_bytes(input.array::<4>()?))
+    }
+}
+
+impl Wire for u64 {
+    fn take(_alloc: Global, input: &mut Input<'_>) -> anyhow::Result<u64> {
+        Ok(u64::from_le_bytes(input.array::<8>()?))
+    }
+}
+
+impl Wire for () {
+    fn take(_alloc: Global, _input: &mut Input<'_>) -> anyhow::Result<()> {
+        Ok(())
+    }
+}
+
+impl Wire for String {
+    fn take(alloc: Global, input: &mut Input<'_>) -> anyhow::Result<String> {
+        let len = input.number()? as usize;
+        let (front, back) = input
+            .rest
+            .split_at_checked(len)
+            .context("the case is too short")?;
+        input.rest = back;
+        match str::from_utf8(front) {
+            Ok(text) => Ok(String::from_str(alloc, text)?),
+            Err(_) => bail!("a text of the case isn't UTF-8"),
+        }
+    }
+}
+
+impl<A: Wire, B: Wire> Wire for (A, B) {
+    fn take(alloc: Global, input: &mut Input<'_>) -> anyhow::Result<(A, B)> {
+        let first = A::take(alloc, input)?;
+        let second = B::take(alloc, input)?;
+        Ok((first, second))
+    }
+}
+
+impl<K: Wire + Ord, V: Wire> Wire for BTreeMap<K, V> {
+    fn take(alloc: Global, input: &mut Input<'_>) -> anyhow::Result<BTreeMap<K, V>> {
+        let count = input.number()?;
+        let mut map = BTreeMap::new(alloc);
+        for _ in 0..count {
+            let (key, value) = <(K, V)>::take(alloc, input)?;
+            if map.insert(key, value).is_err() {
+                return Err(AllocError.into());
+            }
+        }
+        Ok(map)
+    }
+}

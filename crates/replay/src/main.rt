@@ -1,0 +1,132 @@
+//! Replays cases of archived maps of several types. Each line of standard input is a type, a mode and the bytes of a case,
+//! and each has a line of standard output. A line that begins with `#` is repeated.
+#![tactic(auto)]
+
+mod asking;
+mod building;
+mod damage;
+mod input;
+mod modes;
+mod opening;
+mod shown;
+mod writing;
+
+use crate::modes::{Mode, built, native, sealed};
+use anyhow::{Context, bail};
+use rkyv_btree::prelude::*;
+use std::alloc::Global;
+use std::collections::BTreeMap;
+use std::io;
+use std::io::Write;
+
+/// Runs a case of a map of numbers and `()`, by the name of its type.
+fn of_numbers(
+    alloc: Global,
+    kind: &str,
+    mode: Mode,
+    case: &[u8],
+    out: &mut String,
+) -> anyhow::Result<()> {
+    match kind {
+        "u32,u32,5" => sealed::<u32, u32, ArchivedU32, ArchivedU32, 5>(alloc, mode, case, out),
+        "u32,u32,1" => sealed::<u32, u32, ArchivedU32, ArchivedU32, 1>(alloc, mode, case, out),
+        "u64,u8,1" => sealed::<u64, u8, ArchivedU64, u8, 1>(alloc, mode, case, out),
+        "u32,unit,5" => sealed::<u32, (), ArchivedU32, (), 5>(alloc, mode, case, out),
+        "u32,u32,2" => built::<u32, u32, ArchivedU32, ArchivedU32, 2>(alloc, mode, case, out),
+        "u32,u32,7" => built::<u32, u32, ArchivedU32, ArchivedU32, 7>(alloc, mode, case, out),
+        "u64,u8,5" => built::<u64, u8, ArchivedU64, u8, 5>(alloc, mode, case, out),
+        "u8,u16,3" => built::<u8, u16, u8, ArchivedU16, 3>(alloc, mode, case, out),
+        "u8,u16,5" => built::<u8, u16, u8, ArchivedU16, 5>(alloc, mode, case, out),
+        "i32,unit,5" => built::<i32, (), ArchivedI32, (), 5>(alloc, mode, case, out),
+        "unit,i32,5" => built::<(), i32, (), ArchivedI32, 5>(alloc, mode, case, out),
+        "unit,unit,5" => built::<(), (), (), (), 5>(alloc, mode, case, out),
+        _ => of_others(alloc, kind, mode, case, out),
+    }
+}
+
+/// Runs a case of a map with texts, pairs or maps in it.
+fn of_others(
+    alloc: Global,
+    kind: &str,
+    mode: Mode,
+    case: &[u8],
+    out: &mut String,
+) -> anyhow::Result<()> {
+    match kind {
+        "text,u32,1" => sealed::<String, u32, ArchivedText, ArchivedU32, 1>(alloc, mode, case, out),
+        "text,i32,5" => sealed::<String, i32, ArchivedText, ArchivedI32, 5>(alloc, mode, case, out),
+        "u32,pair(u8,u64),3" => {
+            sealed::<u32, (u8, u64), ArchivedU32, Entry<u8, ArchivedU64>, 3>(alloc, mode, case, out)
+        }
+        "pair(u16,text),u8,2" => {
+            sealed::<(u16, String), u8, Entry<ArchivedU16, ArchivedText>, u8, 2>(
+                alloc, mode, case, out,
+            )
+        }
+        "u32,pair(text,text),3" => {
+            native::<u32, (String, String), ArchivedU32, Entry<ArchivedText, ArchivedText>, 3>(
+                alloc, mode, case, out,
+            )
+        }
+        "u32,map(u32,u32,5),5" => native::<
+            u32,
+            BTreeMap<u32, u32>,
+            ArchivedU32,
+            ArchivedBTreeMap<ArchivedU32, ArchivedU32, 5>,
+            5,
+        >(alloc, mode, case, out),
+        _ => bail!("no such type"),
+    }
+}
+
+/// The number that a digit of base 16 is.
+fn digit(byte: Option<&u8>) -> anyhow::Result<u8> {
+    match byte {
+        Some(digit @ b'0'..=b'9') => Ok(digit.wrapping_sub(b'0')),
+        Some(letter @ b'a'..=b'f') => Ok(letter.wrapping_sub(b'a').wrapping_add(10)),
+        _ => bail!("no digit"),
+    }
+}
+
+/// The bytes that a text names: each by two digits of base 16, or 0 by a dot.
+fn bytes_of(alloc: Global, text: &str) -> anyhow::Result<Vec<u8>> {
+    let mut bytes = Vec::new(alloc);
+    let mut digits = text.as_bytes().iter();
+    while let Some(first) = digits.next() {
+        if *first == b'.' {
+            bytes.push(0)?;
+        } else {
+            let high = digit(Some(first))?;
+            let low = digit(digits.next())?;
+            bytes.push(high.wrapping_mul(16).wrapping_add(low))?;
+        }
+    }
+    Ok(bytes)
+}
+
+/// Replays a line.
+fn replay_line(alloc: Global, line: &str, out: &mut String) -> anyhow::Result<()> {
+    if line.starts_with('#') {
+        out.push_str(line)?;
+        return Ok(());
+    }
+    let (kind, rest) = line.split_once(' ').context("no mode")?;
+    let (name, digits) = rest.split_once(' ').context("no case")?;
+    let mode = Mode::named(name).context("no such mode")?;
+    let case = bytes_of(alloc, digits)?;
+    of_numbers(alloc, kind, mode, &case, out)
+}
+
+fn main(rt: HostRuntime) -> anyhow::Result<()> {
+    let alloc = rt.alloc();
+    let input = io::read_to_string(alloc, rt.stdin())?;
+    let mut output = String::new(alloc);
+    for line in input.lines() {
+        let mut out = String::new(alloc);
+        replay_line(alloc, line, &mut out)?;
+        output.push_str(&out)?;
+        output.push('\n')?;
+    }
+    rt.stdout().write_all(output.as_bytes())?;
+    Ok(())
+}

@@ -1,0 +1,116 @@
+//! The text of archived values, and of bytes.
+
+use rkyv_btree::prelude::*;
+use std::alloc::AllocError;
+
+const DIGITS: [u8; 16] = *b"0123456789abcdef";
+
+/// Appends a byte: two digits of base 16, or a dot for 0.
+pub fn show_byte(byte: u8, out: &mut String) -> Result<(), AllocError> {
+    if byte == 0 {
+        return out.push('.');
+    }
+    out.push(char::from(DIGITS[usize::from(byte / 16)]))?;
+    out.push(char::from(DIGITS[usize::from(byte % 16)]))
+}
+
+/// Appends each byte.
+pub fn show_bytes(bytes: &[u8], out: &mut String) -> Result<(), AllocError> {
+    for byte in bytes {
+        show_byte(*byte, out)?;
+    }
+    Ok(())
+}
+
+/// An archived type whose values have a text. A number has its decimal digits.
+pub trait Shown: Portable {
+    fn show(view: &View<'_, Self>, out: &mut String) -> Result<(), AllocError>;
+}
+
+impl Shown for u8 {
+    fn show(view: &View<'_, u8>, out: &mut String) -> Result<(), AllocError> {
+        let number = view.to_native();
+        write!(out, "{number}")
+    }
+}
+
+impl Shown for ArchivedU16 {
+    fn show(view: &View<'_, ArchivedU16>, out: &mut String) -> Result<(), AllocError> {
+        let number = view.to_native();
+        write!(out, "{number}")
+    }
+}
+
+impl Shown for ArchivedI32 {
+    fn show(view: &View<'_, ArchivedI32>, out: &mut String) -> Result<(), AllocError> {
+        let number = view.to_native();
+        write!(out, "{number}")
+    }
+}
+
+impl Shown for ArchivedU32 {
+    fn show(view: &View<'_, ArchivedU32>, out: &mut String) -> Result<(), AllocError> {
+        let number = view.to_native();
+        write!(out, "{number}")
+    }
+}
+
+impl Shown for ArchivedU64 {
+    fn show(view: &View<'_, ArchivedU64>, out: &mut String) -> Result<(), AllocError> {
+        let number = view.to_native();
+        write!(out, "{number}")
+    }
+}
+
+/// A dot.
+impl Shown for () {
+    fn show(view: &View<'_, ()>, out: &mut String) -> Result<(), AllocError> {
+        view.to_native();
+        out.push('.')
+    }
+}
+
+/// Its bytes, after `x`.
+impl Shown for ArchivedText {
+    fn show(view: &View<'_, ArchivedText>, out: &mut String) -> Result<(), AllocError> {
+        out.push('x')?;
+        show_bytes(view.as_str().as_bytes(), out)
+    }
+}
+
+/// Both parts, in parentheses.
+impl<K: Shown, V: Shown> Shown for Entry<K, V> {
+    fn show(view: &View<'_, Entry<K, V>>, out: &mut String) -> Result<(), AllocError> {
+        out.push('(')?;
+        K::show(&view.key(), out)?;
+        out.push(',')?;
+        V::show(&view.value(), out)?;
+        out.push(')')
+    }
+}
+
+/// Its entries, in braces.
+impl<K: Shown, V: Shown, const E: usize> Shown for ArchivedBTreeMap<K, V, E> {
+    fn show(
+        view: &View<'_, ArchivedBTreeMap<K, V, E>>,
+        out: &mut String,
+    ) -> Result<(), AllocError> {
+        out.push('{')?;
+        for (key, value) in view.iter() {
+            show_entry(key, value, out)?;
+        }
+        out.push('}')
+    }
+}
+
+/// Appends an entry, after a blank: ` KEY=VALUE`.
+pub fn show_entry<K: Shown, V: Shown>(
+    key: View<'_, K>,
+    value: View<'_, V>,
+    out: &mut String,
+) -> Result<(), AllocError> {
+    out.push(' ')?;
+    K::show(&key, out)?;
+    out.push('=')?;
+    V::show(&value, out)
+}

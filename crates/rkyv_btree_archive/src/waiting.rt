@@ -1,0 +1,99 @@
+//! The entries and children that wait until their node is written.
+ghost use Rattle.std.specs.Prelude.{◌≡◌, ◌+◌, ◌≤◌, ◌<◌, [], ◌∷◌, ◌++◌, length, map, take, drop, vec_len, vec_capacity, OnOk, IfOk, IfErr, IsTrue};
+ghost use Rattle.rkyv_btree_format.specs.Layout.{layout_of, are_fitting, inner_size};
+ghost use Rattle.rkyv_btree_archive.specs.mirror.Scratch.{IsFree};
+ghost use Rattle.rkyv_btree_writer.specs.Writing.{position, last_end};
+ghost use Rattle.rkyv_btree_image.specs.Entries.{now_of};
+ghost use Rattle.rkyv_btree_image.specs.Image.{inner_image};
+ghost use Rattle.rkyv_btree_image.specs.Written.{NodeWritten, NodeStopped};
+
+use crate::archive::{Archive, Serialize};
+use crate::writes::{Scratch, write_inner};
+use rkyv_btree_portable::check::Portable;
+use rkyv_btree_writer::fault::Fault;
+use rkyv_btree_writer::place::Writer;
+use std::alloc::Allocator;
+
+/// Appends a value for which there is room.
+#[inline(always)]
+pub fn push<T: Drop, A: Allocator>(values: &mut Vec<T, A>, value: T)
+    requires { vec_len values.old < vec_capacity values.old }
+    ensures items { values.new.items ≡ values.old.items ++ value ∷ [] }
+    ensures len { vec_len values.new ≡ vec_len values.old + 1 }
+    ensures capacity { vec_capacity values.old ≤ vec_capacity values.new }
+{
+    values.push_reserved(value);
+}
+
+/// Lets an entry wait for its node, behind a child of that.
+pub fn wait<T: Drop, A: Allocator>(
+    waiting: &mut Vec<T, A>,
+    children: &mut Vec<Option<u32>, A>,
+    child: Option<u32>,
+    entry: T,
+)
+    requires waiting_room { vec_len waiting.old < vec_capacity waiting.old }
+    requires child_room { vec_len children.old < vec_capacity children.old }
+    ensures waiting { waiting.new.items ≡ waiting.old.items ++ entry ∷ [] }
+    ensures children { children.new.items ≡ children.old.items ++ child ∷ [] }
+    ensures room { (vec_capacity waiting.old ≤ vec_capacity waiting.new)
+        × (vec_capacity children.old ≤ vec_capacity children.new) }
+{
+    push(children, child);
+    push(waiting, entry);
+}
+
+/// Writes the inner node of the entries and children that have waited from these numbers on, over its last child too, and
+/// answers its position. None of them waits any longer.
+pub fn write_above<'x, KU, VU, K, V, W, A, const E: usize>(
+    alloc: A,
+    scratch: &mut Scratch<KU::Resolver, VU::Resolver, A>,
+    waiting: &mut Vec<(&'x KU, &'x VU), A>,
+    children: &mut Vec<Option<u32>, A>,
+    first: usize,
+    first_child: usize,
+    last: Option<u32>,
+    writer: &mut W,
+) -> Result<u32, Fault<W::Error>>
+where
+    KU: Archive<Archived = K> + Serialize<W, A> + 'x,
+    VU: Archive<Archived = V> + Serialize<W, A> + 'x,
+    K: Portable,
+    V: Portable,
+    W: Writer,
+    A: Allocator + Copy,
+    requires fitting { IsTrue (are_fitting K.kind V.kind E) }
+    requires waiting { length waiting.old.items ≡ first + E }
+    requires children { length children.old.items ≡ first_child + E }
+    requires free { IsFree (layout_of K.kind V.kind E) scratch.old }
+    ensures ok { IfOk result (λ root.
+        NodeWritten (layout_of K.kind V.kind E) KU.archival VU.archival
+        (λ at owns. inner_image (layout_of K.kind V.kind E) at owns
+        (drop first_child children.old.items ++ last ∷ []))
+        (inner_size (layout_of K.kind V.kind E)) (W.state writer.old)
+        (map now_of (drop first waiting.old.items)) root (W.state writer.new)) }
+    ensures err { IfErr result (λ fault.
+        NodeStopped (layout_of K.kind V.kind E) KU.archival VU.archival
+        (λ at owns. inner_image (layout_of K.kind V.kind E) at owns
+        (drop first_child children.old.items ++ last ∷ []))
+        (inner_size (layout_of K.kind V.kind E)) (W.state writer.old)
+        (map now_of (drop first waiting.old.items)) fault (W.state writer.new)) }
+    ensures last { OnOk result (position (W.state writer.new) ≤ last_end) }
+    ensures free { OnOk result (IsFree (layout_of K.kind V.kind E) scratch.new) }
+    ensures kept { OnOk result ((waiting.new.items ≡ take first waiting.old.items)
+        × (children.new.items ≡ take first_child children.old.items)) }
+    ensures room { OnOk result ((vec_capacity waiting.old ≤ vec_capacity waiting.new)
+        × (vec_capacity children.old ≤ vec_capacity children.new)) }
+{
+    let root = write_inner::<KU, VU, K, V, W, A, E>(
+        alloc,
+        scratch,
+        &waiting[first..],
+        &children[first_child..],
+        last,
+        writer,
+    )?;
+    waiting.truncate(first);
+    children.truncate(first_child);
+    Ok(root)
+}

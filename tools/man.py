@@ -1,0 +1,68 @@
+#!/usr/bin/env python3
+"""Makes docs/btreearc.1, the man page, of docs/BTREEARC.md: tools/man.py [--check]
+
+Headings of the page become sections, and tables become lists: the first cell of a row is the term. With --check nothing is written, and
+the status is 1 if the man page is stale.
+"""
+import pathlib
+import re
+import sys
+
+ROOT = pathlib.Path(__file__).resolve().parent.parent
+PAGE, MAN = ROOT / "docs" / "BTREEARC.md", ROOT / "docs" / "btreearc.1"
+
+
+def escaped(text):
+    text = text.replace("\\", "\\e").replace("-", "\\-")
+    return "\\&" + text if text.startswith((".", "'")) else text
+
+
+def inline(text):
+    """Turns code, strong words and links into roff."""
+    text = re.sub(r"\[([^\]]*)\]\([^)]*\)", r"\1", text)
+    parts = re.split(r"`([^`]*)`|\*\*([^*]*)\*\*", text)
+    roff = escaped(parts[0])
+    for code, strong, rest in zip(parts[1::3], parts[2::3], parts[3::3]):
+        roff += f"\\fB{escaped(code or strong).removeprefix(chr(92) + '&')}\\fR" + escaped(rest).removeprefix("\\&")
+    return roff
+
+
+def table(rows):
+    """Turns the rows of a table, without its head, into a list."""
+    for cells in rows:
+        rest = "; ".join(inline(cell) for cell in cells[1:] if cell)
+        yield f".TP\n{inline(cells[0])}\n{rest}"
+
+
+def roff(text):
+    """Returns the man page of a page."""
+    title, _, text = text.partition("\n")
+    name, _, about = title.removeprefix("# ").partition(": ")
+    lines = [f'.TH {name.upper()} 1', ".SH NAME", f"{name} \\- {escaped(about)}"]
+    for part in re.split(r"\n\n+", text.strip()):
+        if part.startswith("## "):
+            lines.append(f".SH {part[3:].upper()}")
+        elif part.startswith("```"):
+            body = "\n".join(escaped(line) for line in part.splitlines()[1:-1])
+            lines.append(f".PP\n.nf\n.RS 4\n{body}\n.RE\n.fi")
+        elif part.startswith("|"):
+            rows = [[cell.strip() for cell in row.strip("|").split(" | ")] for row in part.splitlines()]
+            lines += table(rows[2:])
+        elif part.startswith("- "):
+            items = re.split(r"^- ", part, flags=re.M)[1:]
+            lines += [f".IP \\(bu 2\n{inline(' '.join(item.split()))}" for item in items]
+        else:
+            lines.append(f".PP\n{inline(' '.join(part.split()))}")
+    return "\n".join(lines) + "\n"
+
+
+def main(words):
+    made = roff(PAGE.read_text())
+    if words == ["--check"]:
+        return int(not MAN.exists() or MAN.read_text() != made)
+    MAN.write_text(made)
+    return 0
+
+
+if __name__ == "__main__":
+    sys.exit(main(sys.argv[1:]))
