@@ -27,23 +27,14 @@ fn the_largest_claim_takes_little_memory(rt: HostRuntime) -> Result<(), Fail> {
     Ok(())
 }
 
+// The last leaf, of 48 bytes, and the root, of 68, are missing.
 #[test]
-fn too_few_items_are_counted_wherever_they_end(rt: HostRuntime) -> Result<(), Fail> {
+fn too_few_items_leave_the_nodes_that_were_written(rt: HostRuntime) -> Result<(), Fail> {
     let entries = tens(rt.alloc(), 35)?;
-    for len in 0..36 {
-        let mut writer = VecWriter::new(rt.alloc());
-        let few = archive::<5>(
-            &rt,
-            rt.alloc(),
-            36,
-            entries.as_slice().split_at(len).0,
-            &mut writer,
-        );
-        same(&rt, mismatch(few), Some((36, len)));
-        if len == 35 {
-            same(&rt, writer.bytes().len(), 308);
-        }
-    }
+    let mut writer = VecWriter::new(rt.alloc());
+    let few = archive::<5>(&rt, rt.alloc(), 36, &entries, &mut writer);
+    same(&rt, mismatch(few), Some((36, 35)));
+    same(&rt, writer.bytes().len(), 308);
     Ok(())
 }
 

@@ -129,3 +129,17 @@ fn a_key_is_made_before_its_value(rt: HostRuntime) -> Result<(), Fail> {
     same(&rt, by_value, Err(7));
     Ok(())
 }
+
+// Two codes are equal where both are 0. The map is made by putting in one entry after another.
+#[test]
+fn of_equal_keys_the_last_value_counts(rt: HostRuntime) -> Result<(), Fail> {
+    let alloc = rt.alloc();
+    let mut writer = VecWriter::new(alloc);
+    let entries = [(0, 10), (0, 20)];
+    let pos = archive::<u8, u8, u8, u8, 1>(&rt, alloc, &entries, &mut writer)?;
+    let map = opened::<ArchivedCode, u8, 1>(&rt, writer.bytes(), pos);
+    let made: BTreeMap<u8, u8> =
+        ArchivedBTreeMap::<ArchivedCode, u8, 1>::deserialize(alloc, &map)?;
+    same(&rt, (made.len(), made.get(&0).copied()), (1, Some(20)));
+    Ok(())
+}

@@ -1,20 +1,14 @@
-//! Tests at concrete types: what is written, byte for byte, what is read of it, and what no contract says.
+//! Tests at concrete types, of what no case of `replay` shows.
 #![tactic(auto)]
 
-#[cfg(test)]
-mod by_hand;
 #[cfg(test)]
 mod claims;
 #[cfg(test)]
 mod coded;
 #[cfg(test)]
-mod competitors;
-#[cfg(test)]
 mod convert;
 #[cfg(test)]
 mod cursors;
-#[cfg(test)]
-mod damage;
 #[cfg(test)]
 mod entries;
 #[cfg(test)]
@@ -24,10 +18,6 @@ mod equal_maps;
 #[cfg(test)]
 mod faults;
 #[cfg(test)]
-mod first;
-#[cfg(test)]
-mod foreign;
-#[cfg(test)]
 mod heap;
 #[cfg(test)]
 mod in_place;
@@ -35,8 +25,6 @@ mod in_place;
 mod lookups;
 #[cfg(test)]
 mod lookups_counted;
-#[cfg(test)]
-mod lookups_foreign;
 #[cfg(test)]
 mod lookups_learnt;
 #[cfg(test)]
@@ -51,8 +39,6 @@ mod numbers;
 mod opening;
 #[cfg(test)]
 mod pairs;
-#[cfg(test)]
-mod prelude;
 #[cfg(test)]
 mod ranges;
 #[cfg(test)]

@@ -9,11 +9,6 @@ pub(crate) fn number(view: View<ArchivedU32>) -> u32 {
     view.to_native()
 }
 
-/// The text that a view reads.
-pub(crate) fn text<'a>(view: View<'a, ArchivedText>) -> &'a str {
-    view.as_str()
-}
-
 /// The numbers of an entry.
 pub(crate) fn numbers(entry: (View<ArchivedU32>, View<ArchivedU32>)) -> (u32, u32) {
     (entry.0.to_native(), entry.1.to_native())

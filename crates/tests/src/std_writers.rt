@@ -42,28 +42,6 @@ fn whole(rt: &impl Abort, alloc: Global) -> Result<Vec<u8>, Fail> {
     Ok(writer.into_vec())
 }
 
-#[test]
-fn a_vector_takes_the_same_bytes(rt: HostRuntime) -> Result<(), Fail> {
-    let whole = whole(&rt, rt.alloc())?;
-    let mut writer = IoWriter::new(Vec::new(rt.alloc()));
-    let root = archive_in(&rt, rt.alloc(), &entries(), &mut writer)?;
-    same(&rt, writer.pos(), u64::from(root) + 8);
-    same(&rt, writer.into_inner().as_slice(), whole.as_slice());
-    Ok(())
-}
-
-#[test]
-fn a_buffer_takes_the_same_bytes(rt: HostRuntime) -> Result<(), Fail> {
-    let whole = whole(&rt, rt.alloc())?;
-    let buffer = BufWriter::with_capacity(rt.alloc(), 20, Vec::new(rt.alloc()))?;
-    let mut writer = IoWriter::new(buffer);
-    archive_in(&rt, rt.alloc(), &entries(), &mut writer)?;
-    let mut buffer = writer.into_inner();
-    buffer.flush()?;
-    same(&rt, buffer.get_ref().as_slice(), whole.as_slice());
-    Ok(())
-}
-
 /// A writer that is interrupted at each odd call, takes three bytes at most at each even one, and fails at one call.
 #[derive(Drop)]
 struct Slow {

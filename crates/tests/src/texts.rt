@@ -3,18 +3,12 @@
 use crate::convert::archive_claimed;
 use crate::faults::Failing;
 use crate::same::same;
-use crate::walks::long_text;
 use rkyv_btree_base::archive::{Archive, Serialize};
 use rkyv_btree_base::check::{CheckBytes, Portable, Window};
 use rkyv_btree_base::fault::{Fault, ResolveFault};
-use rkyv_btree_base::layout;
-use rkyv_btree_base::map::ArchivedBTreeMap;
-use rkyv_btree_base::numbers::ArchivedU32;
 use rkyv_btree_base::place::{Place, VecWriter, Writer};
 use rkyv_btree_base::refusal::Refusal;
-use rkyv_btree_base::signed::ArchivedI32;
 use rkyv_btree_base::text::ArchivedText;
-use rkyv_btree_base::verify::verify;
 use std::alloc::{AllocError, Global};
 use std::process::Abort;
 use std::test::Fail;
@@ -73,40 +67,6 @@ fn texts_are_utf8(rt: HostRuntime) -> Result<(), Fail> {
     Ok(())
 }
 
-#[test]
-fn texts_lie_in_their_windows(rt: HostRuntime) -> Result<(), Fail> {
-    let left = |lo| Ok(Window { lo, hi: 4 });
-    let bad = Err(Refusal::BadEntry { pos: 4 });
-    let rows = [
-        (-4, 2, 0, left(2)),
-        (-4, 4, 0, left(4)),
-        (-3, 1, 1, left(2)),
-        (0, 0, 4, left(4)),
-        (-4, 0, 0, left(0)),
-        (-4, 2, 1, bad),
-        (-4, 5, 0, bad),
-        (-4, u32::MAX, 0, bad),
-        (-5, 2, 0, bad),
-        (i32::MIN, 0, 0, bad),
-        (1, 0, 0, bad),
-    ];
-    for (offset, len, lo, answer) in rows {
-        let mut bytes = [98, 99, 0, 0].to_vec(rt.alloc())?;
-        bytes.extend_from_slice(&i32::to_le_bytes(offset))?;
-        bytes.extend_from_slice(&u32::to_le_bytes(len))?;
-        assert!(rt; lo <= 4);
-        let window = Window { lo, hi: 4 };
-        same(&rt, ArchivedText::check(&bytes, 4, window), answer);
-    }
-    let bytes = [0; 12];
-    let window = Window { lo: 0, hi: 0 };
-    let odd = Err(Refusal::Misaligned { pos: 2 });
-    same(&rt, ArchivedText::check(&bytes, 2, window), odd);
-    let past = Err(Refusal::OutOfRange { pos: 8 });
-    same(&rt, ArchivedText::check(&bytes, 8, window), past);
-    Ok(())
-}
-
 /// Each text with its value.
 pub(crate) fn with_texts<V: Copy + Drop>(
     alloc: Global,
@@ -132,90 +92,6 @@ where
 {
     let len = entries.len();
     archive_claimed::<String, VU, ArchivedText, V, E>(rt, alloc, len, entries, writer)
-}
-
-#[test]
-fn texts_stand_before_their_node(rt: HostRuntime) -> Result<(), Fail> {
-    let empty = [("", 5u32)];
-    let mut writer = VecWriter::new(rt.alloc());
-    let entries = with_texts(rt.alloc(), &empty)?;
-    let root = archive_texts::<u32, ArchivedU32, 1>(&rt, rt.alloc(), &entries, &mut writer)?;
-    same(&rt, root, 20);
-    let want = [
-        0, 0, 0, 0, // kind
-        0xFC, 0xFF, 0xFF, 0xFF, 0, 0, 0, 0, // key
-        5, 0, 0, 0, // value
-        1, 0, 0, 0, // length
-        0xEC, 0xFF, 0xFF, 0xFF, 1, 0, 0, 0, // root
-    ];
-    same(&rt, writer.bytes(), want.as_slice());
-    Ok(())
-}
-
-#[test]
-fn texts_of_an_inner_node_stand_behind_its_children(rt: HostRuntime) -> Result<(), Fail> {
-    let two = [("a", 1u32), ("bc", 2)];
-    let mut writer = VecWriter::new(rt.alloc());
-    let entries = with_texts(rt.alloc(), &two)?;
-    let root = archive_texts::<u32, ArchivedU32, 1>(&rt, rt.alloc(), &entries, &mut writer)?;
-    same(&rt, root, 52);
-    let want = [
-        97, 0, 0, 0, // a
-        0, 0, 0, 0, 0xF8, 0xFF, 0xFF, 0xFF, 1, 0, 0, 0, 1, 0, 0, 0, 1, 0, 0, 0, // leaf
-        98, 99, 0, 0, // bc
-        1, 0, 0, 0, 0xF8, 0xFF, 0xFF, 0xFF, 2, 0, 0, 0, 2, 0, 0, 0, // inner node
-        0xD8, 0xFF, 0xFF, 0xFF, 1, 0, 0, 0, // pointers
-        0xE8, 0xFF, 0xFF, 0xFF, 2, 0, 0, 0, // root
-    ];
-    same(&rt, writer.bytes(), want.as_slice());
-    Ok(())
-}
-
-#[test]
-fn texts_of_a_leaf_stand_one_behind_another(rt: HostRuntime) -> Result<(), Fail> {
-    let four = [("bar", 20i32), ("bat", 80), ("baz", 40), ("foo", 10)];
-    let mut writer = VecWriter::new(rt.alloc());
-    let entries = with_texts(rt.alloc(), &four)?;
-    let root = archive_texts::<i32, ArchivedI32, 5>(&rt, rt.alloc(), &entries, &mut writer)?;
-    same(&rt, root, 80);
-    let want = [
-        b'b', b'a', b'r', b'b', b'a', b't', b'b', b'a', b'z', b'f', b'o', b'o', // texts
-        0, 0, 0, 0, // kind
-        0xF0, 0xFF, 0xFF, 0xFF, 3, 0, 0, 0, // bar
-        0xEB, 0xFF, 0xFF, 0xFF, 3, 0, 0, 0, // bat
-        0xE6, 0xFF, 0xFF, 0xFF, 3, 0, 0, 0, // baz
-        0xE1, 0xFF, 0xFF, 0xFF, 3, 0, 0, 0, // foo
-        0, 0, 0, 0, 0, 0, 0, 0, // no key
-        20, 0, 0, 0, 80, 0, 0, 0, 40, 0, 0, 0, 10, 0, 0, 0, 0, 0, 0, 0, // values
-        4, 0, 0, 0, // length
-        0xBC, 0xFF, 0xFF, 0xFF, 4, 0, 0, 0, // root
-    ];
-    same(&rt, writer.bytes(), want.as_slice());
-    Ok(())
-}
-
-#[test]
-fn written_texts_are_accepted(rt: HostRuntime) -> Result<(), Fail> {
-    let long = long_text(rt.alloc())?;
-    let texts = [
-        ("", 1u32),
-        ("a", 2),
-        ("\u{E9}", 3),
-        ("\u{20AC}", 4),
-        ("a\u{1F600}", 5),
-        (long.as_str(), 6),
-        ("", 7),
-    ];
-    let entries = with_texts(rt.alloc(), &texts)?;
-    assert!(rt; layout::fits::<ArchivedText, ArchivedU32, 2>());
-    for count in 0..=entries.len() {
-        let mut writer = VecWriter::new(rt.alloc());
-        let some = &entries[..count];
-        let hi = archive_texts::<u32, ArchivedU32, 2>(&rt, rt.alloc(), some, &mut writer)?;
-        let left = verify::<ArchivedText, ArchivedU32, 2>(writer.bytes(), hi, Window { lo: 0, hi });
-        same(&rt, left, Ok(Window { lo: hi, hi }));
-    }
-    Ok(())
 }
 
 #[test]

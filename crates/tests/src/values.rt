@@ -2,13 +2,11 @@
 
 use crate::same::same;
 use rkyv_btree_base::bytes::{num32, target};
-use rkyv_btree_base::check::{CheckBytes, Scalar, Window};
+use rkyv_btree_base::check::{CheckBytes, Window};
 use rkyv_btree_base::numbers::ArchivedU16;
 use rkyv_btree_base::place::{Place, RelPtr};
 use rkyv_btree_base::refusal::{EntriesLengthMismatch, InvalidLength, Refusal};
-use rkyv_btree_base::scalars::{ArchivedChar, ArchivedNonZeroU32};
 use rkyv_btree_base::signed::{ArchivedI16, ArchivedI32, ArchivedI64};
-use std::num::NonZeroU32;
 use std::test::Fail;
 
 #[test]
@@ -21,34 +19,6 @@ fn pointers_are_written_and_read(rt: HostRuntime) {
     same(&rt, num32(&bytes, 0), 0xFFFF_FFD0);
     same(&rt, target(&bytes, 0), Some(-48));
     same(&rt, target(&bytes, 4), None);
-}
-
-#[test]
-fn numbers_are_written_in_place(rt: HostRuntime) {
-    let mut bytes = [9; 20];
-    bool::write(true, &mut bytes[0..1]);
-    i8::write(-2, &mut bytes[1..2]);
-    ArchivedI16::write(-3, &mut bytes[2..4]);
-    ArchivedI32::write(-4, &mut bytes[4..8]);
-    ArchivedI64::write(-5, &mut bytes[8..16]);
-    ArchivedU16::write(0x0102, &mut bytes[16..18]);
-    same(
-        &rt,
-        bytes,
-        [
-            1, 254, 253, 255, 252, 255, 255, 255, 251, 255, 255, 255, 255, 255, 255, 255, 2, 1, 9,
-            9,
-        ],
-    );
-}
-
-#[test]
-fn characters_and_nothing_are_written_in_place(rt: HostRuntime) {
-    let mut bytes = [9; 9];
-    ArchivedChar::write('\u{10FFFF}', &mut bytes[0..4]);
-    ArchivedNonZeroU32::write(NonZeroU32::MIN, &mut bytes[4..8]);
-    <()>::write((), &mut bytes[8..8]);
-    same(&rt, bytes, [0xFF, 0xFF, 0x10, 0, 1, 0, 0, 0, 9]);
 }
 
 #[test]
@@ -66,31 +36,6 @@ fn values_are_checked_by_themselves(rt: HostRuntime) {
     let past = Refusal::OutOfRange { pos: 6 };
     same(&rt, ArchivedI32::check(&bytes, 6, window), Err(past));
     same(&rt, ArchivedI16::check(&bytes, 6, window), Ok(window));
-}
-
-#[test]
-fn the_empty_type_and_edges_of_others_are_checked(rt: HostRuntime) {
-    let window = Window { lo: 0, hi: 0 };
-    let bad = Err(Refusal::BadEntry { pos: 0 });
-    let codes = [
-        (0xD7FF, Ok(window)),
-        (0xD800, bad),
-        (0xDFFF, bad),
-        (0xE000, Ok(window)),
-        (0x10_FFFF, Ok(window)),
-        (0x11_0000, bad),
-    ];
-    for (code, answer) in codes {
-        let bytes = u32::to_le_bytes(code);
-        same(&rt, ArchivedChar::check(&bytes, 0, window), answer);
-    }
-    for (number, answer) in [(0, bad), (1, Ok(window)), (u32::MAX, Ok(window))] {
-        let bytes = u32::to_le_bytes(number);
-        same(&rt, ArchivedNonZeroU32::check(&bytes, 0, window), answer);
-    }
-    let past = Err(Refusal::OutOfRange { pos: 2 });
-    same(&rt, <()>::check(&[7], 1, window), Ok(window));
-    same(&rt, <()>::check(&[7], 2, window), past);
 }
 
 #[test]
