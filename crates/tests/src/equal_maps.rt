@@ -3,24 +3,19 @@
 use crate::convert;
 use crate::entries::Recorder;
 use crate::same::{same, shown};
-use crate::texts::{archive_texts, with_texts};
+use crate::texts::with_texts;
 use crate::views::hashed;
-use rkyv_btree::compare::ViewHash;
-use rkyv_btree::debug::ViewDebug;
-use rkyv_btree::view::View;
 use rkyv_btree_base::place::VecWriter;
 use rkyv_btree_base::signed::ArchivedI32;
 use rkyv_btree_base::text::ArchivedText;
-use std::alloc::Global;
 use std::hash::{DefaultHasher, Hash, Hasher};
-use std::process::Abort;
 use std::test::Fail;
 
 #[test]
 fn a_map_of_texts_is_hashed_and_shown_entry_by_entry(rt: HostRuntime) -> Result<(), Fail> {
     let entries = with_texts(rt.alloc(), &[("a", 1), ("b", 2)])?;
     let mut writer = VecWriter::new(rt.alloc());
-    let pos = archive_texts::<i32, ArchivedI32, 5>(&rt, rt.alloc(), &entries, &mut writer)?;
+    let pos = convert::archive::<String, i32, _, _, 5>(&rt, rt.alloc(), &entries, &mut writer)?;
     let map = convert::opened::<ArchivedText, ArchivedI32, 5>(&rt, writer.bytes(), pos);
     let mut state = DefaultHasher::new();
     "a".hash(&mut state);
@@ -33,22 +28,6 @@ fn a_map_of_texts_is_hashed_and_shown_entry_by_entry(rt: HostRuntime) -> Result<
     Ok(())
 }
 
-/// A recorder keeps these bytes of a map, which is shown so.
-fn is_taken_and_shown_as<T: ViewHash + ViewDebug>(
-    rt: &impl Abort,
-    alloc: Global,
-    map: View<T>,
-    bytes: u64,
-    text: &str,
-) -> Result<(), Fail> {
-    let mut taken = Recorder(0);
-    map.hash(&mut taken);
-    same(rt, taken.finish(), bytes);
-    let told = shown(alloc, &map)?;
-    same(rt, told.as_str(), text);
-    Ok(())
-}
-
 // The recorder keeps eight bytes, which two entries of two bytes fill.
 #[test]
 fn a_map_feeds_a_hasher_its_entries_and_no_length(rt: HostRuntime) -> Result<(), Fail> {
@@ -56,11 +35,10 @@ fn a_map_feeds_a_hasher_its_entries_and_no_length(rt: HostRuntime) -> Result<(),
     let mut writer = VecWriter::new(rt.alloc());
     let pos = convert::archive::<u8, u8, _, _, 1>(&rt, rt.alloc(), &entries, &mut writer)?;
     let map = convert::opened::<u8, u8, 1>(&rt, writer.bytes(), pos);
-    is_taken_and_shown_as(
-        &rt,
-        rt.alloc(),
-        map,
-        0x01_FF_02_FF_03_FF_04_FF,
-        "{1: 2, 3: 4}",
-    )
+    let mut taken = Recorder(0);
+    map.hash(&mut taken);
+    same(&rt, taken.finish(), 0x01_FF_02_FF_03_FF_04_FF);
+    let told = shown(rt.alloc(), &map)?;
+    same(&rt, told.as_str(), "{1: 2, 3: 4}");
+    Ok(())
 }

@@ -36,8 +36,6 @@ mod natives;
 #[cfg(test)]
 mod numbers;
 #[cfg(test)]
-mod opening;
-#[cfg(test)]
 mod pairs;
 #[cfg(test)]
 mod ranges;

@@ -1,32 +1,19 @@
-//! Native values that are made of views.
+//! What comes of a text that is made native, and what is said of faults.
 
 use crate::same::same;
 use rkyv_btree::deserialize::{Deserialize, DeserializeFault};
 use rkyv_btree::view::View;
-use rkyv_btree_base::check::{CheckBytes, Portable};
 use rkyv_btree_base::fault::EntryFault;
 use rkyv_btree_base::text::ArchivedText;
-use std::alloc::{AllocError, Global};
-use std::process::Abort;
+use std::alloc::AllocError;
 use std::test::Fail;
-
-/// The native value that is made of what stands at a position.
-fn made<T: CheckBytes + Deserialize<N>, N: PartialEq>(
-    rt: &impl Abort,
-    alloc: Global,
-    buf: &[u8],
-    pos: u32,
-) -> Result<N, DeserializeFault> {
-    assert!(rt; T::fits());
-    let view = View::<T>::check(buf, pos).expect(rt, "a value");
-    T::deserialize(alloc, &view)
-}
 
 // The text's copy is the one growth. `rt try --test --fail-alloc 1` refuses it.
 #[test]
 fn a_text_is_copied_or_its_growth_is_refused(rt: HostRuntime) {
     let buf = [195u8, 169, 98, 0, 252, 255, 255, 255, 3, 0, 0, 0];
-    match made::<ArchivedText, String>(&rt, rt.alloc(), &buf, 4) {
+    let view = View::<ArchivedText>::check(&buf, 4).expect(&rt, "a text");
+    match ArchivedText::deserialize(rt.alloc(), &view) {
         Ok(text) => same(&rt, text.as_str(), "\u{E9}b"),
         Err(fault) => same(&rt, fault, DeserializeFault::Memory(AllocError)),
     }

@@ -2,13 +2,15 @@
 
 use crate::convert;
 use crate::same::same;
+use rkyv_btree::map::access;
 use rkyv_btree_base::check::{CheckBytes, Window};
 use rkyv_btree_base::fault::Fault;
 use rkyv_btree_base::layout;
 use rkyv_btree_base::map::ArchivedBTreeMap;
 use rkyv_btree_base::numbers::ArchivedU32;
 use rkyv_btree_base::place::VecWriter;
-use rkyv_btree_base::scalars::ArchivedChar;
+use rkyv_btree_base::refusal::Refusal;
+use rkyv_btree_base::scalars::{ArchivedChar, ArchivedNonZeroU32};
 use std::alloc::{AllocError, Global};
 use std::num::NonZeroU32;
 use std::process::Abort;
@@ -30,7 +32,7 @@ pub(crate) fn archive<const E: usize>(
 }
 
 #[test]
-fn keys_other_than_0_are_archived_as_numbers(rt: HostRuntime) -> Result<(), Fail> {
+fn keys_other_than_0_are_archived_and_checked(rt: HostRuntime) -> Result<(), Fail> {
     let mut writer = VecWriter::new(rt.alloc());
     let seven = NonZeroU32::new(7).ok_or("7 is 0")?;
     let entries = [(seven, 11u32)];
@@ -43,6 +45,11 @@ fn keys_other_than_0_are_archived_as_numbers(rt: HostRuntime) -> Result<(), Fail
         208, 255, 255, 255, 1, 0, 0, 0, // map
     ];
     same(&rt, writer.bytes(), want.as_slice());
+    let mut zero = want;
+    zero[4] = 0;
+    assert!(rt; layout::fits::<ArchivedNonZeroU32, ArchivedU32, 5>());
+    let refused = access::<ArchivedNonZeroU32, ArchivedU32, 5>(&zero, pos).err();
+    same(&rt, refused, Some(Refusal::BadEntry { pos: 4 }));
     Ok(())
 }
 

@@ -1,9 +1,8 @@
 //! Ranges between bounds that are native values, or that a function of one's own compares.
 
-use crate::convert::opened;
+use crate::convert::{archive, opened};
 use crate::read::text_and_number;
 use crate::same::same;
-use crate::texts::archive_texts;
 use rkyv_btree::view::View;
 use rkyv_btree_base::map::ArchivedBTreeMap;
 use rkyv_btree_base::numbers::ArchivedU32;
@@ -51,7 +50,7 @@ fn has_range_by_first_characters(
 fn ranges_of_texts(rt: HostRuntime) -> Result<(), Fail> {
     let entries = letters(rt.alloc())?;
     let mut writer = VecWriter::new(rt.alloc());
-    let root = archive_texts::<u32, ArchivedU32, 5>(&rt, rt.alloc(), &entries, &mut writer)?;
+    let root = archive::<String, u32, _, _, 5>(&rt, rt.alloc(), &entries, &mut writer)?;
     let map = opened::<ArchivedText, ArchivedU32, 5>(&rt, writer.bytes(), root);
     has_range_by_first_characters(&rt, &map);
     let mut range = map.range_by(Bound::Excluded("wz"), Bound::Unbounded);

@@ -90,18 +90,13 @@ fn is_full(outcome: &Result<u32, Fault<io::Error>>) -> bool {
     }
 }
 
+// A writer that doesn't fail is handed bytes until it has taken all.
 #[test]
-fn bytes_are_handed_on_until_all_are_taken(rt: HostRuntime) -> Result<(), Fail> {
+fn a_failed_write_leaves_a_beginning(rt: HostRuntime) -> Result<(), Fail> {
     let whole = whole(&rt, rt.alloc())?;
     let (outcome, writer) = fails_at(&rt, rt.alloc(), 0);
     assert!(rt; outcome.is_ok());
     same(&rt, writer.bytes.as_slice(), whole.as_slice());
-    Ok(())
-}
-
-#[test]
-fn a_failed_write_leaves_a_beginning(rt: HostRuntime) -> Result<(), Fail> {
-    let whole = whole(&rt, rt.alloc())?;
     // The first leaf has 48 bytes. The inner node behind it has 68, of which the last two are taken by call 78.
     let rows = [
         (1, 0),

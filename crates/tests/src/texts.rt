@@ -1,12 +1,11 @@
 //! Texts, checked by themselves and archived as keys.
 
-use crate::convert::archive_claimed;
 use crate::faults::Failing;
 use crate::same::same;
 use rkyv_btree_base::archive::{Archive, Serialize};
-use rkyv_btree_base::check::{CheckBytes, Portable, Window};
+use rkyv_btree_base::check::{CheckBytes, Window};
 use rkyv_btree_base::fault::{Fault, ResolveFault};
-use rkyv_btree_base::place::{Place, VecWriter, Writer};
+use rkyv_btree_base::place::{Place, VecWriter};
 use rkyv_btree_base::refusal::Refusal;
 use rkyv_btree_base::text::ArchivedText;
 use std::alloc::{AllocError, Global};
@@ -77,21 +76,6 @@ pub(crate) fn with_texts<V: Copy + Drop>(
         owned.push((String::from_str(alloc, text)?, *value))?;
     }
     Ok(owned)
-}
-
-/// Writes the tree and the root of a map of texts, and answers where the root stands.
-pub(crate) fn archive_texts<VU, V, const E: usize>(
-    rt: &impl Abort,
-    alloc: Global,
-    entries: &[(String, VU)],
-    writer: &mut VecWriter,
-) -> Result<u32, Fault<AllocError>>
-where
-    VU: Archive<Archived = V> + Serialize<VecWriter, Global>,
-    V: Portable,
-{
-    let len = entries.len();
-    archive_claimed::<String, VU, ArchivedText, V, E>(rt, alloc, len, entries, writer)
 }
 
 #[test]
