@@ -36,38 +36,155 @@ ends() {
     cmp -s "$work/said" "$work/line" || fail "words ${*@Q}: on standard error: $(cat "$work/said")"
 }
 
-usage='usage: btreearc build | list | get KEY | range LOW HIGH | check | set KEY VALUE'
-empty='\x01\x00\x00\x00\x00\x00\x00\x00'
-three=$(printf '1 10\n2 20\n9 90\n' | "$program" build | od -An -v -t x1 | tr -d '\n' | sed 's/ /\\x/g')
+# The bytes of the archive that is built of these lines, as escapes.
+archive_of() {
+    printf '%b' "$1" | "$program" build | od -An -v -t x1 | tr -d '\n' | sed 's/ /\\x/g'
+}
 
-#    status  line on standard error                           input     output            words
-ends 0       ''                                               ''        "$empty"          build
-ends 0       ''                                               "$empty"  ''                list
-ends 0       ''                                               "$empty"  'ok 0 entries\n'  check
-ends 1       ''                                               "$empty"  ''                get 1
-ends 0       ''                                               "$three"  '2 20\n9 90\n'    range 2 9
-ends 0       ''                                               "$three"  ''                range 9 2
-ends 1       ''                                               "$three"  ''                set 3 99
-ends 2       'btreearc: line 2: not KEY VALUE'                '1 2\n3'  ''                build
-ends 2       'btreearc: refused: position 0 is out of range'  ''        ''                list
-ends 2       'btreearc: refused: position 0 is out of range'  ''        ''                check
-ends 2       'btreearc: refused: position 0 is out of range'  ''        ''                set 2 99
-ends 2       "$usage"                                         ''        ''
-ends 2       "$usage"                                         "$empty"  ''                lists
-ends 2       "$usage"                                         "$empty"  ''                list list
-ends 2       "$usage"                                         "$three"  ''                range 2
-ends 2       "$usage"                                         "$three"  ''                range -1 2
-ends 2       "$usage"                                         "$three"  ''                set 2
-ends 2       "$usage"                                         "$three"  ''                set 2 x
-ends 2       "$usage"                                         "$empty"  ''                $'\xff'
+usage='usage: btreearc build | list | get KEY | range LOW HIGH | check | set KEY VALUE'
+none='\x00\x00\x00\x00'
+one='\x01\x00\x00\x00'
+empty="$one$none"
+keys="\x07\x00\x00\x00$none$none$none$none"
+values="\x0b\x00\x00\x00$none$none$none$none"
+root="\xd0\xff\xff\xff$one"
+seven="$none$keys$values$one$root"
+two="$none$one\x02\x00\x00\x00$none$none$none\x0a\x00\x00\x00\x14\x00\x00\x00$none$none$none\x02\x00\x00\x00"
+two+='\xd0\xff\xff\xff\x02\x00\x00\x00'
+greatest="$none\xff\xff\xff\xff$none$none$none$none\xff\xff\xff\xff$none$none$none$none$one$root"
+three=$(archive_of '1 10\n2 20\n9 90\n')
+unordered=$(archive_of '3 30\n1 10\n2 20\n')
+
+#    status  line on standard error                           input            output                      words
+ends 0       ''                                               ''               "$empty"                    build
+ends 0       ''                                               '7 11\n'         "$seven"                    build
+ends 0       ''                                               '0000000007 11'  "$seven"                    build
+ends 0       ''                                               '1 10\n2 20\n'   "$two"                      build
+ends 0       ''                                               '4294967295 4294967295'  "$greatest"         build
+ends 0       ''                                               "$empty"         ''                          list
+ends 0       ''                                               '\xff\xff\xff\xff\x00\x00\x00\x00'  ''       list
+ends 0       ''                                               "$seven"         '7 11\n'                    list
+ends 0       ''                                               "$two"           '1 10\n2 20\n'              list
+ends 0       ''                                               "$greatest"      '4294967295 4294967295\n'   list
+ends 0       ''                                               "$empty"         'ok 0 entries\n'            check
+ends 0       ''                                               "$seven"         'ok 1 entries\n'            check
+ends 0       ''                                               "$two"           'ok 2 entries\n'            check
+ends 1       ''                                               "$empty"         ''                          get 1
+ends 0       ''                                               "$seven"         '11\n'                      get 7
+ends 0       ''                                               "$two"           '20\n'                      get 2
+ends 0       ''                                               "$two"           '10\n'                      get 0000000001
+ends 1       ''                                               "$two"           ''                          get 3
+ends 1       ''                                               "$two"           ''                          get 0
+ends 0       ''                                               "$unordered"     '30\n'                      get 3
+ends 1       ''                                               "$unordered"     ''                          get 1
+ends 0       ''                                               "$three"         '2 20\n9 90\n'              range 2 9
+ends 0       ''                                               "$three"         '1 10\n'                    range 1 1
+ends 0       ''                                               "$three"         '1 10\n2 20\n'              range 0 2
+ends 0       ''                                               "$three"         '2 20\n'                    range 0000000002 8
+ends 0       ''                                               "$three"         ''                          range 3 8
+ends 0       ''                                               "$three"         ''                          range 10 4294967295
+ends 0       ''                                               "$three"         '1 10\n2 20\n9 90\n'        range 0 4294967295
+ends 0       ''                                               "$three"         ''                          range 9 2
+ends 0       ''                                               "$three"         ''                          range 4294967295 0
+ends 0       ''                                               "$empty"         ''                          range 0 4294967295
+ends 0       ''                                               "$seven"         "${seven/x0b/x0d}"          set 7 13
+ends 1       ''                                               "$three"         ''                          set 3 99
+ends 1       ''                                               "$two"           ''                          set 0 99
+ends 1       ''                                               "$two"           ''                          set 10 99
+ends 1       ''                                               "$unordered"     ''                          set 1 99
+ends 1       ''                                               "$empty"         ''                          set 1 99
+ends 2       'btreearc: line 2: not KEY VALUE'                '1 2\n3'         ''                          build
+ends 2       'btreearc: line 2: not KEY VALUE'                '1 2\n\n3 4\n'   ''                          build
+ends 2       'btreearc: line 3: not KEY VALUE'                '1 2\n3 4\n5\n7 8\n9 10\n11 12\n'  ''        build
+ends 2       'btreearc: refused: position 0 is out of range'  ''               ''                          list
+ends 2       'btreearc: refused: position 0 is out of range'  ''               ''                          check
+ends 2       'btreearc: refused: position 0 is out of range'  ''               ''                          get 7
+ends 2       'btreearc: refused: position 0 is out of range'  ''               ''                          range 1 2
+ends 2       'btreearc: refused: position 0 is out of range'  ''               ''                          set 2 99
+ends 2       'btreearc: refused: position 0 is out of range'  "$none\x07\x00\x00"  ''                      list
+ends 2       'btreearc: refused: position 1 is misaligned'    "$none\x07$none"     ''                      list
+ends 2       'btreearc: refused: position 1 is out of range'  "$one$one"       ''                          list
+ends 2       'btreearc: refused: position -48 is out of range'  "$root"        ''                          list
+ends 2       "$usage"                                         ''               ''
+ends 2       "$usage"                                         '1 2\n'          ''                          ''
+ends 2       "$usage"                                         '1 2\n'          ''                          Build
+ends 2       "$usage"                                         '1 2\n'          ''                          build 1
+ends 2       "$usage"                                         "$empty"         ''                          lists
+ends 2       "$usage"                                         "$empty"         ''                          list list
+ends 2       "$usage"                                         "$seven"         ''                          check ''
+ends 2       "$usage"                                         "$seven"         ''                          get
+ends 2       "$usage"                                         "$seven"         ''                          get 7 7
+ends 2       "$usage"                                         "$three"         ''                          range
+ends 2       "$usage"                                         "$three"         ''                          range 2
+ends 2       "$usage"                                         "$three"         ''                          range 1 2 3
+ends 2       "$usage"                                         "$three"         ''                          ranges 1 2
+ends 2       "$usage"                                         "$three"         ''                          set
+ends 2       "$usage"                                         "$three"         ''                          set 2
+ends 2       "$usage"                                         "$three"         ''                          set 2 99 3
+ends 2       "$usage"                                         "$three"         ''                          sets 2 99
+ends 2       "$usage"                                         "$empty"         ''                          $'\xff'
+
+for word in '' x 1x -1 +1 ' 1' '2 ' 4294967296 00000000001; do
+    ends 2 "$usage" "$seven" '' get "$word"
+    ends 2 "$usage" "$seven" '' range "$word" 2
+    ends 2 "$usage" "$seven" '' range 1 "$word"
+    ends 2 "$usage" "$seven" '' set "$word" 99
+    ends 2 "$usage" "$seven" '' set 7 "$word"
+done
+
+for lines in '1 x' '4294967296 1' '1 4294967296' '00000000001 2' '1  2' '1 2\r\n' '\n1 2\n' '1 2 \n'; do
+    ends 2 'btreearc: line 1: not KEY VALUE' "$lines" '' build
+done
+
+# The archive of 7 and 11 with its kind, its leaf's length, its map's length or its map's pointer changed, and moved.
+for words in list check 'set 7 99'; do
+    read -ra words <<< "$words"
+    ends 2 'btreearc: refused: position 0 holds kind 2, which is no node' \
+        "\x02\x00\x00\x00$keys$values$one$root" '' "${words[@]}"
+    ends 2 'btreearc: refused: Invalid length in B-tree node: len 6 was greater than maximum 5' \
+        "$none$keys$values\x06\x00\x00\x00$root" '' "${words[@]}"
+    ends 2 'btreearc: refused: B-tree map claimed to have 2 entries, but actually had 1' \
+        "$none$keys$values$one\xd0\xff\xff\xff\x02\x00\x00\x00" '' "${words[@]}"
+    ends 2 'btreearc: refused: position 1 is out of range' "$none$keys$values$one\xd1\xff\xff\xff$one" '' "${words[@]}"
+    ends 2 'btreearc: refused: position 2 is misaligned' \
+        "$none$keys$values$one\xd0\xff\xff\xff\xce\xff\xff\xff$one" '' "${words[@]}"
+done
+
+# A case: what is listed of the three entries where a value was set.
+sets() {
+    local lines=$1
+    shift
+    printf '%b' "$three" | "$program" set "$@" | "$program" list > "$work/listed"
+    printf '%b' "$lines" | cmp -s - "$work/listed" || fail "list doesn't give the value that set ${*@Q} has written"
+}
+
+sets '1 10\n2 99\n9 90\n' 2 99
+sets '1 0\n2 20\n9 90\n' 0000000001 0
+sets '1 10\n2 20\n9 4294967295\n' 9 4294967295
+sets '1 10\n2 20\n9 16909060\n' 9 16909060
+sets '1 10\n2 20\n9 90\n' 2 0000000020
+sets '1 256\n2 20\n9 90\n' 1 256
+
+# Archives of one level to three. Of the last, 7 entries in more than one node are a range, and each value is set.
+awk 'BEGIN { for (i = 1; i <= 215; i++) print i, 10 * i }' > "$work/tens"
+for count in 1 5 6 17 36 215; do
+    head -n "$count" "$work/tens" > "$work/lines"
+    "$program" build < "$work/lines" > "$work/archive"
+    "$program" list < "$work/archive" | cmp -s - "$work/lines" || fail "list doesn't give back $count lines"
+    [[ $("$program" check < "$work/archive") == "ok $count entries" ]] || fail "check doesn't count $count entries"
+    [[ $("$program" get "$count" < "$work/archive") == "${count}0" ]] || fail "get doesn't find the last of $count"
+done
+"$program" range 99 105 < "$work/archive" | cmp -s - <(sed -n 99,105p "$work/tens") || fail "range 99 105 of 215 entries"
+for ((key = 1; key <= 215; key++)); do
+    "$program" set "$key" 7 < "$work/archive" > "$work/edited"
+    mv "$work/edited" "$work/archive"
+done
+"$program" list < "$work/archive" | cmp -s - <(awk '{ print $1, 7 }' "$work/tens") || fail "set doesn't reach each of 215"
 
 awk 'BEGIN { for (i = 0; i < 100000; i++) printf "%d %d\n", 4 * i + 1, 10 * i }' > "$work/lines"
 (($(wc -c < "$work/lines") > 1048576)) || fail "the lines are no more than 1 MB"
 "$program" build < "$work/lines" | "$program" list | cmp -s - "$work/lines" ||
     fail "list doesn't give back the lines that were built"
-
-printf '%b' "$three" | "$program" set 2 99 | "$program" list > "$work/listed"
-printf '1 10\n2 99\n9 90\n' | cmp -s - "$work/listed" || fail "list doesn't give the value that set has written"
 
 awk 'BEGIN { for (i = 1; i <= 17; i++) print i, 10 * i }' | "$program" build | "$tools/drawing.py" |
     cmp -s - "$tools/../docs/format.svg" || fail "docs/format.svg isn't the drawing of 17 entries; run make drawing"
