@@ -77,6 +77,7 @@ ends 1       ''                                               "$two"           '
 ends 1       ''                                               "$two"           ''                          get 0
 ends 0       ''                                               "$unordered"     '30\n'                      get 3
 ends 1       ''                                               "$unordered"     ''                          get 1
+ends 0       ''                                               "$two"           '2 20\n'                    range 2 9
 ends 0       ''                                               "$three"         '2 20\n9 90\n'              range 2 9
 ends 0       ''                                               "$three"         '1 10\n'                    range 1 1
 ends 0       ''                                               "$three"         '1 10\n2 20\n'              range 0 2

@@ -1,5 +1,5 @@
 //! The headline's functions, at maps of numbers.
-use crate::shared::{number, same, value};
+use crate::shared::{number, same};
 use examples::headline::{
     ArchiveAt, archived, archived_set, archived_std_map, archived_std_set, looked_up,
     looked_up_in_set, sealed, visited, walk_of_set, walks, within, within_set,
@@ -184,5 +184,6 @@ fn finds(rt: &impl Abort, bytes: &[u8], pos: u32, key: u32) -> Result<Option<u32
     assert!(rt; layout::fits::<ArchivedU32, ArchivedU32, 2>());
     let key = key.to_le_bytes();
     let key = View::<ArchivedU32>::check(&key, 0)?;
-    Ok(looked_up::<ArchivedU32, ArchivedU32, 2>(bytes, pos, key)?.map(value))
+    let found = looked_up::<ArchivedU32, ArchivedU32, 2>(bytes, pos, key)?;
+    Ok(found.map(|entry: (View<ArchivedU32>, View<ArchivedU32>)| entry.1.to_native()))
 }

@@ -76,7 +76,11 @@ fn sets_come_back(rt: HostRuntime) -> Result<(), Fail> {
     let alloc = rt.alloc();
     comes_back(&rt, alloc, &numbers(alloc, 0)?)?;
     comes_back(&rt, alloc, &numbers(alloc, 36)?)?;
-    comes_back(&rt, alloc, &BTreeSet::from_array(alloc, [(1u32, 2u8), (1, 3), (3, 4)])?)?;
+    comes_back(
+        &rt,
+        alloc,
+        &BTreeSet::from_array(alloc, [(1u32, 2u8), (1, 3), (3, 4)])?,
+    )?;
     let sets = [(7u32, set_of(alloc, "a")?), (8, set_of(alloc, "")?)];
     comes_back(&rt, alloc, &BTreeMap::from_array(alloc, sets)?)
 }
@@ -92,22 +96,46 @@ fn numbers_come_back(rt: HostRuntime) -> Result<(), Fail> {
     comes_back(&rt, alloc, &BTreeMap::from_array(alloc, long)?)?;
     let unsigned = [(0, i8::MAX), (255, -1), (256, 0), (u16::MAX, i8::MIN)];
     comes_back(&rt, alloc, &BTreeMap::from_array(alloc, unsigned)?)?;
-    comes_back(&rt, alloc, &BTreeMap::from_array(alloc, [(false, ()), (true, ())])?)
+    comes_back(
+        &rt,
+        alloc,
+        &BTreeMap::from_array(alloc, [(false, ()), (true, ())])?,
+    )
 }
 
 #[test]
 fn characters_and_texts_come_back(rt: HostRuntime) -> Result<(), Fail> {
     let alloc = rt.alloc();
     let (least, greatest) = (NonZeroU32::MIN, NonZeroU32::MAX);
-    let letters = [('\0', greatest), ('\u{D7FF}', least), ('\u{E000}', greatest)];
+    let letters = [
+        ('\0', greatest),
+        ('\u{D7FF}', least),
+        ('\u{E000}', greatest),
+    ];
     comes_back(&rt, alloc, &BTreeMap::from_array(alloc, letters)?)?;
     let numbers = [(least, '\u{10FFFF}'), (greatest, '\0')];
     comes_back(&rt, alloc, &BTreeMap::from_array(alloc, numbers)?)?;
     let mut texts: BTreeMap<String, String> = BTreeMap::new(alloc);
     for (key, value) in [("a", "\u{E9}"), ("", "b"), ("bc", "")] {
-        texts.insert(String::from_str(alloc, key)?, String::from_str(alloc, value)?)?;
+        texts.insert(
+            String::from_str(alloc, key)?,
+            String::from_str(alloc, value)?,
+        )?;
     }
     comes_back(&rt, alloc, &texts)
+}
+
+#[test]
+fn texts_of_numbers_come_back(rt: HostRuntime) -> Result<(), Fail> {
+    let alloc = rt.alloc();
+    for count in [0, 1, 2, 3, 4, 5, 6, 17, 35, 36, 112, 215, 100000] {
+        let mut texts: BTreeMap<String, u32> = BTreeMap::new(alloc);
+        for number in 0..count {
+            texts.insert(format!(in alloc; "{number}")?, number)?;
+        }
+        comes_back(&rt, alloc, &texts)?;
+    }
+    Ok(())
 }
 
 #[test]

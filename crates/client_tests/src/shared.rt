@@ -14,8 +14,3 @@ pub(crate) fn same<T: PartialEq + Debug + Drop>(rt: &impl Abort, found: T, wante
 pub(crate) fn number(view: View<ArchivedU32>) -> u32 {
     view.to_native()
 }
-
-/// The number that is an entry's value.
-pub(crate) fn value(entry: (View<ArchivedU32>, View<ArchivedU32>)) -> u32 {
-    entry.1.to_native()
-}

@@ -138,8 +138,7 @@ fn of_equal_keys_the_last_value_counts(rt: HostRuntime) -> Result<(), Fail> {
     let entries = [(0, 10), (0, 20)];
     let pos = archive::<u8, u8, u8, u8, 1>(&rt, alloc, &entries, &mut writer)?;
     let map = opened::<ArchivedCode, u8, 1>(&rt, writer.bytes(), pos);
-    let made: BTreeMap<u8, u8> =
-        ArchivedBTreeMap::<ArchivedCode, u8, 1>::deserialize(alloc, &map)?;
+    let made: BTreeMap<u8, u8> = ArchivedBTreeMap::<ArchivedCode, u8, 1>::deserialize(alloc, &map)?;
     same(&rt, (made.len(), made.get(&0).copied()), (1, Some(20)));
     Ok(())
 }

@@ -70,7 +70,11 @@ fn are_raised<K: ToNative<Native = u32>, V: InPlace<Native = u32>, const E: usiz
 fn values_between_bounds_are_written_by_a_cursor(rt: HostRuntime) -> Result<(), Fail> {
     let entries = [(1, 10), (2, 20), (3, 30), (4, 40), (5, 50)];
     let (mut bytes, pos) = archived::<2>(&rt, rt.alloc(), &entries)?;
-    let MapSeal { buf, pos: at, of: _ } = opened::<2>(&rt, &mut bytes, pos);
+    let MapSeal {
+        buf,
+        pos: at,
+        of: _,
+    } = opened::<2>(&rt, &mut bytes, pos);
     let mut cursor = Range::by(buf, at, Bound::Excluded(1), Bound::Included(4));
     are_raised::<ArchivedU32, ArchivedU32, 2>(&rt, &mut cursor, &entries[1..4]);
     let raised = [(1, 10), (2, 30), (3, 40), (4, 50), (5, 50)];
@@ -78,7 +82,11 @@ fn values_between_bounds_are_written_by_a_cursor(rt: HostRuntime) -> Result<(), 
     same(&rt, bytes.as_slice(), want.as_slice());
     let map = opened::<2>(&rt, &mut bytes, pos);
     let walk = map.walk_between(Bound::Included(&4), Bound::Unbounded, compare);
-    let MapSeal { buf, pos: at, of: _ } = map;
+    let MapSeal {
+        buf,
+        pos: at,
+        of: _,
+    } = map;
     let mut cursor = Range::over(buf, at, walk);
     are_raised::<ArchivedU32, ArchivedU32, 2>(&rt, &mut cursor, &raised[3..]);
     let raised = [(1, 10), (2, 30), (3, 40), (4, 60), (5, 60)];

@@ -54,7 +54,13 @@ fn finds_value<const E: usize>(
 fn each_look_up_finds_the_keys_of_a_map(rt: HostRuntime) -> Result<(), Fail> {
     let mut writer = VecWriter::new(rt.alloc());
     let map = nine(&rt, rt.alloc(), &mut writer)?;
-    for (key, value) in [(0, None), (1, Some(10)), (5, Some(50)), (9, Some(90)), (10, None)] {
+    for (key, value) in [
+        (0, None),
+        (1, Some(10)),
+        (5, Some(50)),
+        (9, Some(90)),
+        (10, None),
+    ] {
         let bytes = u32::to_le_bytes(key);
         let view = View::<ArchivedU32>::at(&bytes, 0);
         finds_entry::<5>(&rt, &map, &view, value.map(|value: u32| (key, value)));

@@ -77,7 +77,13 @@ fn numbers_are_found(rt: HostRuntime) -> Result<(), Fail> {
 fn other_scalars_are_found(rt: HostRuntime) -> Result<(), Fail> {
     let alloc = rt.alloc();
     are_found::<bool, bool, bool>(&rt, alloc, &[(false, 1), (true, 2)], &[false, true])?;
-    let keys = [('\0', 1), ('a', 2), ('\u{D7FF}', 3), ('\u{E000}', 4), ('\u{10FFFF}', 5)];
+    let keys = [
+        ('\0', 1),
+        ('a', 2),
+        ('\u{D7FF}', 3),
+        ('\u{E000}', 4),
+        ('\u{10FFFF}', 5),
+    ];
     let queries = ['\0', 'a', '\u{D7FF}', '\u{E000}', '\u{10FFFF}'];
     are_found::<char, char, ArchivedChar>(&rt, alloc, &keys, &queries)?;
     let (least, greatest) = (NonZeroU32::MIN, NonZeroU32::MAX);
@@ -89,7 +95,10 @@ fn other_scalars_are_found(rt: HostRuntime) -> Result<(), Fail> {
 #[test]
 fn texts_and_pairs_are_found(rt: HostRuntime) -> Result<(), Fail> {
     let alloc = rt.alloc();
-    let (first, second) = (String::from_str(alloc, "a")?, String::from_str(alloc, "aa")?);
+    let (first, second) = (
+        String::from_str(alloc, "a")?,
+        String::from_str(alloc, "aa")?,
+    );
     let keys = [
         (EntryAdapter::new(&first, &0u8), 1),
         (EntryAdapter::new(&second, &0u8), 2),

@@ -9,7 +9,7 @@ use rkyv_btree_base::layout;
 use rkyv_btree_base::map::ArchivedBTreeMap;
 use rkyv_btree_base::numbers::ArchivedU32;
 use rkyv_btree_base::place::VecWriter;
-use rkyv_btree_base::refusal::Refusal;
+use rkyv_btree_base::refusal::{EntriesLengthMismatch, Refusal};
 use rkyv_btree_base::scalars::{ArchivedChar, ArchivedNonZeroU32};
 use std::alloc::{AllocError, Global};
 use std::num::NonZeroU32;
@@ -50,6 +50,10 @@ fn keys_other_than_0_are_archived_and_checked(rt: HostRuntime) -> Result<(), Fai
     assert!(rt; layout::fits::<ArchivedNonZeroU32, ArchivedU32, 5>());
     let refused = access::<ArchivedNonZeroU32, ArchivedU32, 5>(&zero, pos).err();
     same(&rt, refused, Some(Refusal::BadEntry { pos: 4 }));
+    zero[44] = 0;
+    let refused = access::<ArchivedNonZeroU32, ArchivedU32, 5>(&zero, pos).err();
+    let none = EntriesLengthMismatch { entries: 0, len: 1 };
+    same(&rt, refused, Some(Refusal::EntriesLengthMismatch(none)));
     Ok(())
 }
 

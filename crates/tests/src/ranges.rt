@@ -7,6 +7,7 @@ use rkyv_btree::view::View;
 use rkyv_btree_base::map::ArchivedBTreeMap;
 use rkyv_btree_base::numbers::ArchivedU32;
 use rkyv_btree_base::place::VecWriter;
+use rkyv_btree_base::scalars::ArchivedChar;
 use rkyv_btree_base::text::ArchivedText;
 use std::alloc::Global;
 use std::ops::Bound;
@@ -24,11 +25,6 @@ fn letters(alloc: Global) -> Result<Vec<(String, u32)>, Fail> {
     Ok(entries)
 }
 
-/// The number of a letter.
-fn letter_number(entry: (View<ArchivedText>, View<ArchivedU32>)) -> u32 {
-    entry.1.to_native()
-}
-
 /// The range of letters from d to before w has their numbers.
 fn has_range_by_first_characters(
     rt: &impl Abort,
@@ -40,7 +36,9 @@ fn has_range_by_first_characters(
         |letter: &char, key: View<ArchivedText>| Some(*letter).cmp(&key.as_str().chars().next()),
     );
     for letter in 'd'..='v' {
-        same(rt, range.next().map(letter_number), Some(u32::from(letter)));
+        let met = range.next().map(text_and_number);
+        let met_number = met.map(|entry: (&str, u32)| entry.1);
+        same(rt, met_number, Some(u32::from(letter)));
     }
     assert!(rt; range.next().is_none());
 }
@@ -55,5 +53,24 @@ fn ranges_of_texts(rt: HostRuntime) -> Result<(), Fail> {
     has_range_by_first_characters(&rt, &map);
     let mut range = map.range_by(Bound::Excluded("wz"), Bound::Unbounded);
     same(&rt, range.next().map(text_and_number), Some(("x", 120)));
+    Ok(())
+}
+
+// A bar is behind all letters.
+#[test]
+fn ranges_of_characters(rt: HostRuntime) -> Result<(), Fail> {
+    let mut entries = Vec::new(rt.alloc());
+    for letter in 'a'..='y' {
+        entries.push((letter, letter))?;
+    }
+    let mut writer = VecWriter::new(rt.alloc());
+    let root = archive::<char, char, _, _, 5>(&rt, rt.alloc(), &entries, &mut writer)?;
+    let map = opened::<ArchivedChar, ArchivedChar, 5>(&rt, writer.bytes(), root);
+    let mut before = map.range_by(Bound::Unbounded, Bound::Excluded('a'));
+    assert!(rt; before.next().is_none());
+    let mut behind = map.range_by(Bound::Included('|'), Bound::Unbounded);
+    assert!(rt; behind.next().is_none());
+    let mut last = map.range_by(Bound::Included('y'), Bound::Unbounded);
+    same(&rt, last.next().map(|(k, _)| k.to_native()), Some('y'));
     Ok(())
 }

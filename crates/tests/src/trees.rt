@@ -1,5 +1,6 @@
 //! How high trees are and how many nodes they have, and the sizes of nodes.
 
+use crate::convert::opened;
 use crate::numbers::{Numbers, archive, tens};
 use crate::same::same;
 use rkyv_btree_base::check::Portable;
@@ -55,6 +56,20 @@ fn built_trees_have_as_many_nodes_as_they_need(rt: HostRuntime) -> Result<(), Fa
 }
 
 #[test]
+fn maps_of_up_to_200_entries_are_walked(rt: HostRuntime) -> Result<(), Fail> {
+    for count in 0..=200 {
+        let entries = tens(rt.alloc(), count)?;
+        let mut writer = VecWriter::new(rt.alloc());
+        let pos = archive::<5>(&rt, rt.alloc(), entries.len(), &entries, &mut writer)?;
+        let map = opened::<ArchivedU32, ArchivedU32, 5>(&rt, writer.bytes(), pos);
+        same(&rt, map.len(), count);
+        same(&rt, map.iter().count(), count as usize);
+    }
+    Ok(())
+}
+
+// A node of more than 4294967295 bytes doesn't fit.
+#[test]
 fn a_node_of_one_entry_has_its_sizes(rt: HostRuntime) {
     assert!(rt; layout::fits::<ArchivedU64, u8, 1>());
     same(&rt, layout::key_at::<ArchivedU64, u8, 1>(0), 8);
@@ -66,10 +81,6 @@ fn a_node_of_one_entry_has_its_sizes(rt: HostRuntime) {
     same(&rt, layout::inner_size::<ArchivedU64, u8, 1>(), 32);
     same(&rt, layout::align::<ArchivedU64, u8, 1>(), 8);
     same(&rt, layout::node_align::<u8, u8, 1>(), 1);
-}
-
-#[test]
-fn nodes_past_32_bits_do_not_fit(rt: HostRuntime) {
     assert!(rt; layout::fits::<ArchivedU32, ArchivedU32, 357913940>());
     assert!(rt; !layout::fits::<ArchivedU32, ArchivedU32, 357913941>());
     assert!(rt; !layout::fits::<ArchivedU32, ArchivedU32, 0>());
