@@ -66,7 +66,7 @@ fn an_iterator_counts_what_is_left(rt: HostRuntime) -> Result<(), Fail> {
     Ok(())
 }
 
-// 2 and 3 have a leaf each, below 1.
+// 1 and 3 have a leaf each, below 2.
 #[test]
 fn keys_are_visited_up_to_a_break_and_shown(rt: HostRuntime) -> Result<(), Fail> {
     let mut writer = VecWriter::new(rt.alloc());
