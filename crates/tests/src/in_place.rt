@@ -20,19 +20,19 @@ use std::test::Fail;
 fn is_replaced<VU, N, V>(
     rt: &impl Abort,
     alloc: Global,
-    old: VU,
-    new: VU,
+    old: &[(u32, VU)],
+    new: &[(u32, VU)],
     value: N,
 ) -> Result<(), Fail>
 where
-    VU: Archive<Archived = V> + Serialize<VecWriter, Global> + Drop,
+    VU: Archive<Archived = V> + Serialize<VecWriter, Global>,
     N: Drop,
     V: InPlace<Native = N>,
 {
     let mut writer = VecWriter::new(alloc);
-    let pos = archive::<u32, VU, ArchivedU32, V, 2>(rt, alloc, &[(1, old)], &mut writer)?;
+    let pos = archive::<u32, VU, ArchivedU32, V, 2>(rt, alloc, old, &mut writer)?;
     let mut want = VecWriter::new(alloc);
-    archive::<u32, VU, ArchivedU32, V, 2>(rt, alloc, &[(1, new)], &mut want)?;
+    archive::<u32, VU, ArchivedU32, V, 2>(rt, alloc, new, &mut want)?;
     let mut bytes = writer.into_vec();
     assert!(rt; layout::fits::<ArchivedU32, V, 2>());
     let mut map = access_mut::<ArchivedU32, V, 2>(&mut bytes, pos)?;
@@ -44,27 +44,37 @@ where
 #[test]
 fn numbers_are_replaced(rt: HostRuntime) -> Result<(), Fail> {
     let alloc = rt.alloc();
-    is_replaced::<u16, u16, ArchivedU16>(&rt, alloc, 0, 0x0102, 0x0102)?;
-    is_replaced::<u64, u64, ArchivedU64>(&rt, alloc, u64::MAX, 1 << 32, 1 << 32)?;
-    is_replaced::<i8, i8, i8>(&rt, alloc, 1, -2, -2)?;
-    is_replaced::<i16, i16, ArchivedI16>(&rt, alloc, 1, -2, -2)?;
-    is_replaced::<i64, i64, ArchivedI64>(&rt, alloc, i64::MAX, i64::MIN, i64::MIN)?;
-    is_replaced::<bool, bool, bool>(&rt, alloc, false, true, true)
+    is_replaced::<u16, u16, ArchivedU16>(&rt, alloc, &[(1, 0)], &[(1, 0x0102)], 0x0102)?;
+    is_replaced::<u64, u64, ArchivedU64>(&rt, alloc, &[(1, u64::MAX)], &[(1, 1 << 32)], 1 << 32)?;
+    is_replaced::<i8, i8, i8>(&rt, alloc, &[(1, 1)], &[(1, -2)], -2)?;
+    is_replaced::<i16, i16, ArchivedI16>(&rt, alloc, &[(1, 1)], &[(1, -2)], -2)?;
+    is_replaced::<i64, i64, ArchivedI64>(&rt, alloc, &[(1, i64::MAX)], &[(1, i64::MIN)], i64::MIN)?;
+    is_replaced::<bool, bool, bool>(&rt, alloc, &[(1, false)], &[(1, true)], true)
 }
 
 #[test]
 fn characters_and_pairs_are_replaced(rt: HostRuntime) -> Result<(), Fail> {
     let alloc = rt.alloc();
-    is_replaced::<char, char, ArchivedChar>(&rt, alloc, 'a', '\u{10FFFF}', '\u{10FFFF}')?;
+    is_replaced::<char, char, ArchivedChar>(
+        &rt,
+        alloc,
+        &[(1, 'a')],
+        &[(1, '\u{10FFFF}')],
+        '\u{10FFFF}',
+    )?;
     let (least, greatest) = (NonZeroU32::MIN, NonZeroU32::MAX);
     is_replaced::<NonZeroU32, NonZeroU32, ArchivedNonZeroU32>(
-        &rt, alloc, least, greatest, greatest,
+        &rt,
+        alloc,
+        &[(1, least)],
+        &[(1, greatest)],
+        greatest,
     )?;
     is_replaced::<EntryAdapter<i16, bool>, (i16, bool), Entry<ArchivedI16, bool>>(
         &rt,
         alloc,
-        EntryAdapter::new(&1, &false),
-        EntryAdapter::new(&-2, &true),
+        &[(1, EntryAdapter::new(&1, &false))],
+        &[(1, EntryAdapter::new(&-2, &true))],
         (-2, true),
     )
 }
