@@ -56,8 +56,13 @@ fn keys_are_archived_and_found(rt: HostRuntime) -> Result<(), Fail> {
     let found = looked_up_in_set::<ArchivedU32, 2>(&made.bytes, made.pos, high)?;
     same(&rt, found.is_some(), false);
     let (low, high) = (Bound::Included(low), Bound::Excluded(high));
-    let within = within_set::<ArchivedU32, 2>(&made.bytes, made.pos, low, high)?;
-    same(&rt, within.count(), 3);
+    let mut left = &KEYS[1..4];
+    for key in within_set::<ArchivedU32, 2>(&made.bytes, made.pos, low, high)? {
+        let (wanted, rest) = left.split_first().ok_or("too many keys")?;
+        same(&rt, key.to_native(), *wanted);
+        left = rest;
+    }
+    assert!(rt; left.is_empty());
     Ok(())
 }
 
