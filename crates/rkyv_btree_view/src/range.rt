@@ -54,24 +54,21 @@ impl<'a, K: Portable, V: Portable, M: ArchivedMap<Key = K, Mapped = V>> Iterator
 
     #[inline(always)]
     fn next(&mut self) -> Option<(View<'a, K>, View<'a, V>)> {
+        // Both branches end in one place, so that a loop over the range keeps `next` and `end` of the leaf in registers.
         let buf = self.buf;
-        let next = self.part.next;
-        if next < self.part.end {
-            let item = entry::<K, V, M>(buf, self.part.node, next);
-            self.part.next = next + 1;
-            return Some(item);
+        let mut node = self.part.node;
+        let mut index = self.part.next;
+        if index < self.part.end {
+            self.part.next = index + 1;
+        } else {
+            let step = advance_before::<K, V, M>(buf, self.stop, &mut self.path)?;
+            node = step.node;
+            index = step.index;
+            self.part.node = step.leaf.node;
+            self.part.next = 0;
+            self.part.end = step.leaf.count;
         }
-        match advance_before::<K, V, M>(buf, self.stop, &mut self.path) {
-            None => None,
-            Some(step) => {
-                self.part = Part {
-                    node: step.leaf.node,
-                    next: 0,
-                    end: step.leaf.count,
-                };
-                Some(entry::<K, V, M>(buf, step.node, step.index))
-            }
-        }
+        Some(entry::<K, V, M>(buf, node, index))
     }
 }
 

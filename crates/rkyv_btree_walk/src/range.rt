@@ -25,6 +25,14 @@ use rkyv_btree_base::check::Portable;
 use std::cmp::Ordering;
 use std::ops::Bound;
 
+/// Takes all nodes from a path. It calls nothing, so that a step that doesn't end a range has few registers to save.
+#[inline(always)]
+fn take_all(path: &mut Path)
+    ensures { path.new.items ≡ [] }
+{
+    'up: while let Some(_) = path.pop() {}
+}
+
 /// A walk with nothing left, beside an empty path.
 fn nothing() -> Part
     ensures { (result.node ≡ 0) × (result.next ≡ 0) × (result.end ≡ 0) }
@@ -231,7 +239,7 @@ fn cut<K: Portable, V: Portable, M: ArchivedMap<Key = K, Mapped = V>>(
         None => part.end,
         Some((node, index)) => {
             if node == part.node && part.next <= index && index < part.end {
-                path.clear();
+                take_all(path);
                 return index;
             }
             part.end
@@ -261,7 +269,7 @@ pub fn advance_before<K: Portable, V: Portable, M: ArchivedMap<Key = K, Mapped =
         None => None,
         Some(step) => {
             if is_stop(stop, step.node, step.index) {
-                path.clear();
+                take_all(path);
                 return None;
             }
             let part = Part {
@@ -316,7 +324,7 @@ fn between_in<
 {
     let part = seek_low::<Q, K, V, M, W, C>(buf, root, low, cmp, path);
     if starts_past::<Q, K, V, M, W, C>(buf, part, high, cmp, path) {
-        path.clear();
+        take_all(path);
         return (nothing(), None);
     }
     let stop = first_past::<Q, K, V, M, W, C>(buf, part, high, cmp, path);

@@ -11,12 +11,12 @@ use Rattle.rkyv_btree_walk.proofs.range.between_in.Goals as goal
 pub returns-then-starts_past-clause-run : goal.returns-then-starts_past-clause-run
 returns-then-starts_past-clause-run g c =
     let s = layout_of g.K.Portable.kind g.V.Portable.kind g.M.ArchivedMap.E in
-    ([], tree_rest s c.args.buf.now 32 c.args.root 0, rw (c.nothing.ensures.1, c.nothing.ensures.2, c.clear.ensures) refl)
+    ([], tree_rest s c.args.buf.now 32 c.args.root 0, rw (c.nothing.ensures.1, c.nothing.ensures.2, c.take_all.ensures) refl)
 
 pub returns-then-starts_past-clause-within : goal.returns-then-starts_past-clause-within
 returns-then-starts_past-clause-within g c f p from past =
     let seek = c.seek_low-part.ensures in
-    rw (c.nothing.ensures.1, c.nothing.ensures.2, c.clear.ensures)
+    rw (c.nothing.ensures.1, c.nothing.ensures.2, c.take_all.ensures)
     (within_none _ _ _ seek.run.0 _ seek.run.1 (seek.from f p from) past (sym (c.starts_past.ensures.past f p) ∙ c.if-starts_past.true))
 
 pub returns-clause-stands : goal.returns-clause-stands

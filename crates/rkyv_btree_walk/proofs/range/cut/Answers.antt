@@ -12,7 +12,7 @@ returns-then-index-part-clause-rest g c =
     let b = c.args._buf.now in
     let p = c.args.part.node in let i = c.args.part.next in let j = c.in-Some.index in
     let to = taken_to s b p (path_rest s b 32 c.args.path.now.items) j (j - i) (c.args.part.end - i) i (omega (arith, c.if-part-index.true)) (omega (arith, c.if-index-part.true, c.if-part-index.true)) in
-    rw (c.in-Some.is, c.if-node-part.true, c.clear.ensures, to) (append-nil _)
+    rw (c.in-Some.is, c.if-node-part.true, c.take_all.ensures, to) (append-nil _)
 
 pub returns-in-None-clause-rest : goal.returns-in-None-clause-rest
 returns-in-None-clause-rest g c =
