@@ -249,7 +249,7 @@ fn cut<K: Portable, V: Portable, M: ArchivedMap<Key = K, Mapped = V>>(
 
 /// Takes the first entry that is left of the path before the stop, and finds the part of the leaf behind it.
 #[inline(never)]
-pub fn advance_before<K: Portable, V: Portable, M: ArchivedMap<Key = K, Mapped = V>>(
+fn climb_before<K: Portable, V: Portable, M: ArchivedMap<Key = K, Mapped = V>>(
     buf: &[u8],
     stop: Option<(u32, u32)>,
     path: &mut Path,
@@ -286,6 +286,27 @@ pub fn advance_before<K: Portable, V: Portable, M: ArchivedMap<Key = K, Mapped =
             })
         }
     }
+}
+
+/// Does as `climb_before` does. It is inlined, so that the place of its result is blanked only where it is called.
+#[inline(always)]
+pub fn advance_before<K: Portable, V: Portable, M: ArchivedMap<Key = K, Mapped = V>>(
+    buf: &[u8],
+    stop: Option<(u32, u32)>,
+    path: &mut Path,
+) -> Option<Step>
+    requires fitting { IsTrue (are_fitting K.kind V.kind M.E) }
+    requires short { length buf.now ≤ 4294967295 }
+    requires path { IsPath K.kind V.kind M.E buf.now 32 path.old.items }
+    ensures path { IsPath K.kind V.kind M.E buf.now 32 path.new.items }
+    ensures entry { IfSome result (StepStands K.kind V.kind M.E buf.now) }
+    ensures leaf { IfSome result (λ e. LeafStands K.kind V.kind M.E buf.now e.leaf) }
+    ensures rest { StepsBefore (layout_of K.kind V.kind M.E) buf.now stop result path.old.items
+        path.new.items }
+    ensures below { StepStaysBelow (layout_of K.kind V.kind M.E) buf.now path.old.items
+        path.new.items result }
+{
+    climb_before::<K, V, M>(buf, stop, path)
 }
 
 /// Begins a walk between the bounds, of the tree at `root`.

@@ -1,7 +1,7 @@
 -- A step to an entry that isn't the stop takes the first entry of the range.
 use Rattle.std.proofs.Common.{sym, ◌∙◌}
 use Rattle.rkyv_btree_walk.proofs.Ranges.{step_before}
-use Rattle.rkyv_btree_walk.proofs.range.advance_before.Goals as goal
+use Rattle.rkyv_btree_walk.proofs.range.climb_before.Goals as goal
 
 pub returns-else-is_stop-clause-rest : goal.returns-else-is_stop-clause-rest
 returns-else-is_stop-clause-rest g c =
