@@ -6,14 +6,14 @@ use rkyv_btree::map::access;
 use rkyv_btree_base::layout;
 use rkyv_btree_base::numbers::ArchivedU32;
 
-/// The test that a map stands at `root`.
+/// Returns whether there is a map at `root`.
 #[inline(never)]
 fn is_map(bytes: &[u8], root: u32) -> bool {
     layout::fits::<ArchivedU32, ArchivedU32, 5>()
         && access::<ArchivedU32, ArchivedU32, 5>(bytes, root).is_ok()
 }
 
-/// Times the check of the map that stands at `root`.
+/// Times the validation of the map at `root`.
 pub(crate) fn measure(report: &Report, bytes: &[u8], root: u32) -> anyhow::Result<()> {
     let accepted = report.time("port", "access", report.count, || is_map(bytes, root))?;
     ensure!(accepted, "refused");

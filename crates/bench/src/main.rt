@@ -54,7 +54,7 @@ fn tell(rt: &impl Print, what: &str, time: Duration, count: u32) -> io::Result<(
     println!(rt; "{what} {count} text entries: {each} ns an entry")
 }
 
-/// Times the writing of the map of the entries, and answers where it stands.
+/// Times the writing of the map of the entries, and returns its position.
 fn build(
     rt: &HostRuntime,
     entries: &[(String, u32)],

@@ -8,7 +8,7 @@ use rkyv_btree_base::map::ArchivedBTreeMap;
 use rkyv_btree_base::place::VecWriter;
 use std::alloc::Global;
 
-/// Writes the map of these entries, and answers where it stands.
+/// Writes the map of these entries, and returns its position.
 pub(crate) fn write<KU, VU, K, V>(
     alloc: Global,
     entries: &[(KU, VU)],

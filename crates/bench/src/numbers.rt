@@ -159,7 +159,7 @@ fn measure_walks(
     Ok(())
 }
 
-/// Times the iterators of both maps, and tells their sums.
+/// Times the iterators of both maps, and returns their sums.
 fn measure_iterators(
     report: &Report,
     map: View<Map>,
@@ -206,7 +206,7 @@ fn measure_lookups(
     Ok(())
 }
 
-/// Times look-ups, walks and ranges of an archive of the entries, whose map stands at `root`.
+/// Times lookups, iterations and ranges of an archive of the entries, whose map is at `root`.
 fn measure_reads(
     report: &Report,
     bytes: &[u8],

@@ -3,7 +3,7 @@
 use std::io;
 use std::time::Instant;
 
-/// Where times are told, and of how many entries.
+/// Where times are printed, and for how many entries.
 #[derive(Drop)]
 pub struct Report<'a> {
     pub rt: &'a HostRuntime,
@@ -11,8 +11,8 @@ pub struct Report<'a> {
 }
 
 impl Report<'_> {
-    /// Runs a measure of so many operations some times, tells the least time of one operation, and gives what the last run
-    /// answered.
+    /// Runs a measure of `operations` operations five times, prints the least time of one operation, and returns the result of
+    /// the last run.
     pub fn time<T: Drop, F: FnMut() -> T>(
         &self,
         who: &str,
@@ -25,7 +25,7 @@ impl Report<'_> {
         self.time_often(who, what, operations, 4, run)
     }
 
-    /// Does the same, and runs so many times again.
+    /// Does as `time` does, but runs the measure once and then `again` times.
     pub fn time_often<T: Drop, F: FnMut() -> T>(
         &self,
         who: &str,

@@ -17,7 +17,7 @@ use rkyv_btree_base::numbers::ArchivedU32;
 use std::collections::BTreeMap;
 use std::ops::ControlFlow;
 
-/// Writes another value of each key, and tells how many are there.
+/// Writes another value for each key, and returns how many of the keys are there.
 #[inline(never)]
 fn set_archived(map: &mut MapSeal<Map>, keys: &[u32]) -> u32 {
     let mut found = 0u32;
@@ -71,7 +71,7 @@ fn visit_std(map: &mut BTreeMap<u32, u32>) {
     }
 }
 
-/// Times writes into the archived map, and tells how many keys were found.
+/// Times writes into the archived map, and returns how many keys were found.
 fn measure_archived(report: &Report, map: &mut MapSeal<Map>, keys: &[u32]) -> anyhow::Result<u32> {
     let found = report.time("port", "set", LOOKUPS, || set_archived(map, keys))?;
     report.time("port", "visit_seal", report.count, || visit_archived(map))?;

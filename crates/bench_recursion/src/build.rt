@@ -26,7 +26,7 @@ use rkyv_btree_writer::place::Writer;
 use rkyv_btree_writer::writes::LAST_END;
 use std::alloc::{AllocError, Allocator};
 
-/// How many entries wait at most, on all levels together, until their nodes' children are written.
+/// Returns how many entries wait at most, on all levels together, until their nodes' children are written.
 fn waiting<K: Portable, V: Portable, const E: usize>(len: usize) -> usize
     requires fitting { IsTrue (are_fitting K.kind V.kind E) }
     requires some { 0 < len }
@@ -36,8 +36,8 @@ fn waiting<K: Portable, V: Portable, const E: usize>(len: usize) -> usize
     E * (entries_to_height::<E>(len as u64) as usize - 1)
 }
 
-/// What building takes: what writing a node takes, and lists of the entries and children that wait for their nodes, and of
-/// the items.
+/// The memory for building: that for one node, and lists of the entries and children that wait for their nodes, and of the
+/// items.
 #[derive(Drop)]
 struct Reserved<'x, KU: Archive, VU: Archive, A: Allocator> {
     scratch: Scratch<KU::Resolver, VU::Resolver, A>,
@@ -46,7 +46,7 @@ struct Reserved<'x, KU: Archive, VU: Archive, A: Allocator> {
     items: Vec<(&'x KU, &'x VU), A>,
 }
 
-/// Reserves all memory that building takes of so many items, but for what their own serialising takes.
+/// Reserves all memory for building a tree of `len` items, except what serializing them takes.
 fn reserve<'x, KU, VU, K, V, A, const E: usize>(
     alloc: A,
     len: usize,
@@ -74,7 +74,7 @@ where
     })
 }
 
-/// Writes the tree of the items that were taken, and answers where its root node stands; nothing for no items.
+/// Writes the tree of the items that were taken, and returns the position of its root node: `None` if there are no items.
 fn write_items<'x, KU, VU, K, V, W, A, const E: usize>(
     alloc: A,
     lists: Reserved<'x, KU, VU, A>,
@@ -118,7 +118,7 @@ where
     )
 }
 
-/// Writes the tree of an iterator's items, which are claimed to be `len`, and answers where its root node stands.
+/// Writes the tree of an iterator's items, and returns the position of its root node. `len` is the declared number of items.
 fn build_some<'x, KU, VU, K, V, W, A, I, const E: usize>(
     alloc: A,
     len: usize,
@@ -166,8 +166,8 @@ where
     Ok(root.unwrap_or(0))
 }
 
-/// Serializes the items of an iterator, in their order, as the tree of a map, and returns the position of its root node: 0 for
-/// no items. `len` is the claimed number of items. All items are held in memory.
+/// Serializes the items of an iterator, in their order, as the tree of a map, and returns the position of its root node: 0 if
+/// there are no items. `len` is the declared number of items. All items are held in memory.
 ///
 /// It has the contract of `ArchivedBTreeMap::serialize_from_ordered_iter`, and so appends the same bytes.
 pub fn serialize_recursively<'x, KU, VU, K, V, W, A, I, const E: usize>(
@@ -190,12 +190,12 @@ where
     ensures ok { IfOk result
         (BuildsTree K.kind V.kind E KU.archival VU.archival I.next_gives iter len
         W.state writer.old writer.new) }
-    // With the map behind it, it is accepted, and means the items; and no accepted map with as many entries has fewer
-    // nodes, node bytes or levels.
+    // With the map after it, the tree is accepted, and means the items. No accepted map with as many entries has fewer nodes,
+    // node bytes or levels.
     ensures smallest { IfOk result
         (BuildsSmallest K.kind V.kind E KU.archival VU.archival I.next_gives iter len
         W.state writer.old writer.new) }
-    // The tree is the one left-complete tree of the items, and what was appended is its image.
+    // The tree is the only left-complete tree of the items, and the appended bytes are its image.
     ensures one_tree { IfOk result
         (BuildsOneTree K.kind V.kind E KU.archival VU.archival I.next_gives iter len
         W.state writer.old writer.new) }
@@ -203,17 +203,17 @@ where
         (FailsToBuild K.kind V.kind E KU.archival VU.archival I.next_gives iter len
         W.state writer.old writer.new) }
     ensures end { OnOk result (0 < len → position (W.state writer.new) ≤ last_end) }
-    // On success no write failed, and nothing but bytes behind the old ones has changed.
+    // On success no write has failed, and bytes were only appended.
     ensures went { OnOk result (OnlyAppended (W.state writer.old) (W.state writer.new)) }
-    // Whatever refuses, what the writer held stays in front.
+    // After any error the contents begin with the old ones.
     ensures kept { OnErr result (BeginsWith (W.state writer.new) (W.state writer.old)) }
-    // Where no entry asks for memory, a refused growth leaves the writer as it was.
+    // After an error of memory the writer is unchanged, if serializing an entry takes no memory.
     ensures memory { NeverGrows KU.archival → NeverGrows VU.archival →
         IsErrOf result (Fault.Memory alloc_error) → W.state writer.new ≡ W.state writer.old }
-    // A claim past 32 bits is refused as that, whatever else there is, and nothing is written.
+    // A length past 32 bits is always the error `LengthOverflow`, and nothing is written.
     ensures past { last_end < len → IsErrOf result Fault.LengthOverflow }
     ensures past_kept { last_end < len → W.state writer.new ≡ W.state writer.old }
-    // A claim of nothing is refused for items that come, and for nothing else.
+    // With a declared length of 0 the only error is a wrong count, and nothing is written.
     ensures none { len ≡ 0 → IfErr result IsMiscount }
     ensures none_kept { len ≡ 0 → W.state writer.new ≡ W.state writer.old }
 {

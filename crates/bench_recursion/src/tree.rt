@@ -17,7 +17,7 @@ use rkyv_btree_writer::fault::Fault;
 use rkyv_btree_writer::place::Writer;
 use std::alloc::Allocator;
 
-/// What `child_base` says of so many entries, where they take inner nodes; nothing where a leaf has room for them.
+/// Returns the `child_base` of `len` entries, or `None` if they fit in a leaf.
 fn inner_base<const E: usize>(len: usize) -> Option<usize>
     requires some { 1 ≤ E }
     requires small { E < 2 ^ 30 }
@@ -35,7 +35,7 @@ fn inner_base<const E: usize>(len: usize) -> Option<usize>
     Some(child_base::<E>(len))
 }
 
-/// How many of the entries on the last level a child takes: a full child has `E * base` there.
+/// Returns how many of the entries on the last level a child takes. A full child has `E * base` there.
 fn taken_by_child<const E: usize>(on_last: usize, base: usize) -> usize
     requires { base * (E + 1) ≤ 4294967295 }
     ensures { result ≡ min on_last (E * base) }
@@ -43,7 +43,7 @@ fn taken_by_child<const E: usize>(on_last: usize, base: usize) -> usize
     on_last.min(E * base)
 }
 
-/// Writes entries for which a leaf has room, and answers where that stands; nothing for no entries.
+/// Writes entries that fit in a leaf, and returns the leaf's position: `None` if there are no entries.
 fn write_few<KU, VU, K, V, W, A, const E: usize>(
     alloc: A,
     scratch: &mut Scratch<KU::Resolver, VU::Resolver, A>,
@@ -76,8 +76,8 @@ where
     Ok(Some(root))
 }
 
-/// Does nothing. Its contract says that the entries which wait for the nodes below a child, of fewer entries than the
-/// parent's base allows, and the parent's own find room together where those of the whole parent do.
+/// Does nothing. Its contract says that two groups of entries fit together in the room for the whole parent: those that wait
+/// for the nodes of a child, and the parent's own. The child has fewer entries than `base * (E + 1)`.
 fn child_is_lower<const E: usize>(len: usize, child_len: usize, base: usize)
     requires some { 1 ≤ E }
     requires more { E < len }
@@ -86,8 +86,8 @@ fn child_is_lower<const E: usize>(len: usize, child_len: usize, base: usize)
     ensures room { E * ilog (E + 1) child_len + E ≤ E * ilog (E + 1) len }
 {}
 
-/// Writes the tree of these entries with what they write, and answers where its root node stands; nothing for no
-/// entries. `waiting` and `children` have room for what waits on each level until a node's children are written.
+/// Serializes the tree of these entries, and returns the position of its root node: `None` if there are no entries. `waiting`
+/// and `children` have room for what waits on each level until a node's children are written.
 pub(crate) fn write_child<'x, KU, VU, K, V, W, A, const E: usize>(
     alloc: A,
     scratch: &mut Scratch<KU::Resolver, VU::Resolver, A>,
@@ -128,8 +128,8 @@ where
     };
     let first = waiting.len();
     let first_child = children.len();
-    // Above the last level stand the root's `E` entries and `base - 1` of each of its `E + 1` children, which are one less
-    // than `base * (E + 1)` in all. The others are on the last level, which the children fill from the left.
+    // Above the last level are the root's `E` entries and `base - 1` entries of each of its `E + 1` children. These are one
+    // less than `base * (E + 1)` in all. The others are on the last level, which the children fill from the left.
     let mut on_last = items.len() + 1 - base * (E + 1);
     let mut start = 0;
     let mut left = E;

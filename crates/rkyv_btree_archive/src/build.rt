@@ -33,7 +33,7 @@ use rkyv_btree_writer::writes::{LAST_END, pad, put};
 use std::alloc::{AllocError, Allocator};
 use std::marker::Model;
 
-/// Where the root node of a serialised map stands. That of an empty map stands for position 0.
+/// The position of the root node of a serialized map: 0 if the map is empty.
 #[derive(Drop)]
 pub struct BTreeMapResolver {
     pub(crate) root: u32,
@@ -45,7 +45,7 @@ impl Model for BTreeMapResolver {
     ghost view = { λ r. r.root };
 }
 
-/// Reserves all memory that building takes of so many levels, but for what the items' own serialising takes.
+/// Reserves all memory for building a tree of `above` levels above its last one, except what serializing the items takes.
 fn reserve<'x, KU, VU, K, V, A, const E: usize>(
     alloc: A,
     above: usize,
@@ -74,7 +74,7 @@ where
     })
 }
 
-/// How many levels the tree of so many entries has above its last one, and how many entries that has.
+/// Returns how many levels the tree of `len` entries has above its last one, and how many entries the last one has.
 fn levels_of<const E: usize>(len: usize) -> (usize, usize)
     requires entries { 1 ≤ E }
     requires small { E < 2 ^ 30 }
@@ -90,7 +90,7 @@ fn levels_of<const E: usize>(len: usize) -> (usize, usize)
     (above, len + 1 - (E + 1).pow(above as u32))
 }
 
-/// Writes the tree of an iterator's items, which are claimed to be `len`, and answers where its root node stands.
+/// Writes the tree of an iterator's items, and returns the position of its root node. `len` is the declared number of items.
 fn build_some<'x, KU, VU, K, V, W, A, I, const E: usize>(
     alloc: A,
     len: usize,
@@ -138,14 +138,14 @@ where
 }
 
 impl<K: Portable, V: Portable, const E: usize> ArchivedBTreeMap<K, V, E> {
-    /// Serialises the items of an iterator, in their order, as the tree of a map, and answers where its root node
-    /// stands. `len` is the claimed number of items. Before a node stands what its entries write, each key before its
-    /// value.
+    /// Serializes the items of an iterator, in their order, as the tree of a map, and returns the position of its root node.
+    /// `len` is the declared number of items. The entries of a node are serialized before the node is written, each key before
+    /// its value.
     ///
-    /// A claim past 32 bits is refused before an item is taken. All memory is reserved before the first byte is
-    /// written. After an error the writer's contents begin with the old ones, and no resolver comes out; after a
-    /// refused growth they are unchanged, unless a key or value asked for it. Too many items are refused with all of
-    /// them counted. `next` isn't called again once it has answered `None`.
+    /// If `len` is past 32 bits, it fails before an item is taken. All memory is reserved before the first byte is written.
+    /// After an error the writer's contents begin with the old ones. After an error of memory they are unchanged, unless the
+    /// memory was for serializing a key or value. With too many items the error has the count of all of them. `next` isn't
+    /// called again after it has returned `None`.
     pub fn serialize_from_ordered_iter<'x, KU, VU, W, A, I>(
         alloc: A,
         len: usize,
@@ -164,12 +164,12 @@ impl<K: Portable, V: Portable, const E: usize> ArchivedBTreeMap<K, V, E> {
         ensures ok { IfOk result
             (BuildsTree K.kind V.kind E KU.archival VU.archival I.next_gives iter len
             W.state writer.old writer.new) }
-        // With the map behind it, it is accepted, and means the items; and no accepted map with as many entries has fewer
+        // With the map after it, the tree is accepted, and means the items. No accepted map with as many entries has fewer
         // nodes, node bytes or levels.
         ensures smallest { IfOk result
             (BuildsSmallest K.kind V.kind E KU.archival VU.archival I.next_gives iter len
             W.state writer.old writer.new) }
-        // The tree is the one left-complete tree of the items, and what was appended is its image.
+        // The tree is the only left-complete tree of the items, and the appended bytes are its image.
         ensures one_tree { IfOk result
             (BuildsOneTree K.kind V.kind E KU.archival VU.archival I.next_gives iter len
             W.state writer.old writer.new) }
@@ -177,17 +177,17 @@ impl<K: Portable, V: Portable, const E: usize> ArchivedBTreeMap<K, V, E> {
             (FailsToBuild K.kind V.kind E KU.archival VU.archival I.next_gives iter len
             W.state writer.old writer.new) }
         ensures end { OnOk result (0 < len → position (W.state writer.new) ≤ last_end) }
-        // On success no write failed, and nothing but bytes behind the old ones has changed.
+        // On success no write has failed, and bytes were only appended.
         ensures went { OnOk result (OnlyAppended (W.state writer.old) (W.state writer.new)) }
-        // Whatever refuses, what the writer held stays in front.
+        // After any error the contents begin with the old ones.
         ensures kept { OnErr result (BeginsWith (W.state writer.new) (W.state writer.old)) }
-        // Where no entry asks for memory, a refused growth leaves the writer as it was.
+        // After an error of memory the writer is unchanged, if serializing an entry takes no memory.
         ensures memory { NeverGrows KU.archival → NeverGrows VU.archival →
             IsErrOf result (Fault.Memory alloc_error) → W.state writer.new ≡ W.state writer.old }
-        // A claim past 32 bits is refused as that, whatever else there is, and nothing is written.
+        // A length past 32 bits is always the error `LengthOverflow`, and nothing is written.
         ensures past { last_end < len → IsErrOf result Fault.LengthOverflow }
         ensures past_kept { last_end < len → W.state writer.new ≡ W.state writer.old }
-        // A claim of nothing is refused for items that come, and for nothing else.
+        // With a declared length of 0 the only error is a wrong count, and nothing is written.
         ensures none { len ≡ 0 → IfErr result IsMiscount }
         ensures none_kept { len ≡ 0 → W.state writer.new ≡ W.state writer.old }
     {
@@ -204,7 +204,7 @@ impl<K: Portable, V: Portable, const E: usize> ArchivedBTreeMap<K, V, E> {
     }
 }
 
-/// Writes a map's eight bytes at a position.
+/// Fills the eight bytes of a map at position `pos`.
 pub(crate) fn fill_root(
     pos: u32,
     bytes: &mut [u8],
@@ -233,7 +233,7 @@ pub(crate) fn fill_root(
 }
 
 impl<K, V, const E: usize> ArchivedBTreeMap<K, V, E> {
-    /// Writes the map over a root node that was serialised for `len` entries. An `Err` leaves the place as it was.
+    /// Writes the map of a root node that was serialized for `len` entries. After an error the place is unchanged.
     pub fn resolve_from_len(
         len: usize,
         resolver: BTreeMapResolver,
@@ -250,8 +250,8 @@ impl<K, V, const E: usize> ArchivedBTreeMap<K, V, E> {
         fill_root(pos, bytes, len, resolver.root)
     }
 
-    /// Writes the map behind zeros up to a multiple of 4, and answers its position. After an error what was written
-    /// stays.
+    /// Writes zeros up to a multiple of 4 and then the map, and returns the map's position. After an error what was written
+    /// remains.
     pub fn write_root<W: Writer>(
         len: usize,
         resolver: BTreeMapResolver,
@@ -285,22 +285,22 @@ impl<K, V, const E: usize> ArchivedBTreeMap<K, V, E> {
     }
 }
 
-/// A buffer that holds what was serialised, and behind it the map as `resolve_from_len` or `write_root` writes it, is
-/// accepted there, and means the list of the items. That no accepted map of as many is smaller is said by `smallest` of the
-/// calls that serialise.
+/// States that a map is accepted, and means the list of the items, in a buffer that holds what was serialized and then the map
+/// as `resolve_from_len` or `write_root` writes it. `smallest` of the calls that serialize says that no accepted map of as many
+/// entries is smaller.
 pub fn archives_are_accepted<K: Portable, V: Portable, const E: usize>()
     ensures entries { SerialisedIsAccepted K.kind V.kind E }
     ensures none { EmptyIsAccepted K.kind V.kind E }
 {}
 
-/// A writer from position 0 on, to which a tree was appended and then the map by `write_root`, holds such an archive: so
-/// what `smallest` says of the calls that serialise holds of its contents.
+/// States that a writer from position 0 on holds such an archive, if a tree was appended and then the map by `write_root`. So
+/// what `smallest` says of the calls that serialize holds of its contents.
 pub fn written_maps_are_held()
     ensures { WrittenIsHeld }
 {}
 
-/// Where what keys and values mean determines, with positions, how they are archived, two builds from one position of
-/// lists that mean the same append the same bytes, whatever the writers, and have one root.
+/// States that two builds, from one position, of lists that mean the same append the same bytes and have one root, whatever the
+/// writers. The condition is that what keys and values mean determines, with positions, how they are archived.
 pub fn trees_are_determined<KU: Archive, VU: Archive, const E: usize>()
     ensures { TreesAreDetermined KU.Archived.kind VU.Archived.kind E KU.archival VU.archival }
 {}

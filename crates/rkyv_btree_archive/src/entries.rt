@@ -1,4 +1,4 @@
-//! Serialising the entries of a node.
+//! Serializing the entries of a node.
 ghost use Rattle.std.specs.Prelude.{◌≡◌, ◌+◌, ◌≤◌, ◌<◌, [], ◌∷◌, ◌++◌, length, map, vec_capacity, IsTrue, OnOk, IfErr};
 ghost use Rattle.rkyv_btree_image.specs.Entries.{AreSerialised, AreUnserialised, now_of};
 
@@ -17,8 +17,8 @@ fn push_back<T: Drop, A: Allocator>(values: &mut Vec<T, A>, value: T)
     values.push_reserved(value);
 }
 
-/// Serialises entries in their order, each key before its value, and keeps in two lists with room for it what resolving
-/// needs.
+/// Serializes entries in their order, each key before its value, and appends their resolvers to two lists that have room for
+/// them.
 #[inline(always)]
 pub(crate) fn serialize_entries<KU, VU, W, A>(
     alloc: A,

@@ -1,4 +1,4 @@
-//! Taking the items of an iterator: as many as are claimed, and no more.
+//! Taking items from an iterator, and counting those that are left.
 ghost use Rattle.std.specs.Prelude.{◌≡◌, ◌+◌, ◌-◌, ◌<◌, ◌≤◌, List, [], length, true, false, vec_capacity, OnOk, IfErr};
 ghost use Rattle.std.specs.Iterator.{Yields, Drains, IsFinite, UpTo, size};
 
@@ -6,7 +6,7 @@ use crate::waiting::push;
 use rkyv_btree_writer::fault::IteratorLengthMismatch;
 use std::alloc::Allocator;
 
-/// Takes items until there are `count`, and answers whether the iterator gave that many.
+/// Takes items until there are `count`, and returns whether the iterator yielded that many.
 pub fn take_items<'x, M, N, A: Allocator, I: Iterator<Item = (&'x M, &'x N)>>(
     items: &mut Vec<(&'x M, &'x N), A>,
     count: usize,
@@ -35,7 +35,7 @@ pub fn take_items<'x, M, N, A: Allocator, I: Iterator<Item = (&'x M, &'x N)>>(
     true
 }
 
-/// Refuses what is left of an iterator that has given `len` items, with all of it counted.
+/// Fails if an iterator that has yielded `len` items yields more. The error has the count of all of them.
 pub fn none_left<T: Drop, I: Iterator<Item = T>>(
     iter: I,
     len: usize,

@@ -16,7 +16,7 @@ use rkyv_btree_writer::place::write_offset;
 use std::alloc::Allocator;
 use std::mem;
 
-/// Writes bytes from `start` on.
+/// Copies bytes into a node, from `start` on.
 #[inline(always)]
 fn place_bytes(node: &mut [u8], start: usize, bytes: &[u8])
     requires { start + length bytes.now ≤ length node.old }
@@ -48,14 +48,14 @@ fn place_value<T: Archive>(
     resolve_into(value, resolver, pos, &mut node[start..end])
 }
 
-/// Which half of each entry is meant.
+/// The choice of one half of each entry: the key or the value.
 trait Half<X> {
-    /// What that half is.
+    /// The type of that half.
     type Part: Archive;
 
     ghost part: { X → Self.Part };
 
-    /// The half of an entry.
+    /// Returns that half of an entry.
     fn of<'a>(entry: &'a X) -> &'a Self::Part
         ensures { result.now ≡ part entry.now };
 }
@@ -84,7 +84,7 @@ impl<'x, M, N: Archive> Half<(&'x M, &'x N)> for Values {
     }
 }
 
-/// Writes the keys of entries, or their values, as `place_halves` does, and takes each resolver from the back of a list.
+/// Writes the keys of entries, or their values, as `place_halves` does, and takes each resolver from the end of a list.
 #[inline(always)]
 fn place_each<H: Half<X>, X, A: Allocator>(
     node: &mut [u8],
@@ -155,7 +155,7 @@ fn place_halves<H: Half<X>, X, A: Allocator + Copy>(
     placed
 }
 
-/// Writes a node's kind and entries, and zeros in all of its other bytes. The node stands at `pos`.
+/// Writes the kind and the entries of a node at position `pos`, and zeros in all of its other bytes.
 #[inline(always)]
 fn place_entries<KU, VU, K, V, A, const E: usize>(
     alloc: A,
@@ -208,7 +208,7 @@ where
     )
 }
 
-/// Writes a pointer that stands at `pos` to a child, if it reaches the child, from `start` on.
+/// Writes a pointer at position `pos` to a child, from `start` on, and returns whether it reaches the child.
 #[inline(always)]
 fn place_pointer(node: &mut [u8], start: usize, pos: u32, child: Option<u32>) -> bool
     requires { start + 4 ≤ length node.old }
@@ -226,7 +226,7 @@ fn place_pointer(node: &mut [u8], start: usize, pos: u32, child: Option<u32>) ->
     true
 }
 
-/// Writes pointers to children, if each reaches its child, from `start` on. The first pointer stands at `pos`.
+/// Writes pointers to children, from `start` on, and returns whether each reaches its child. The first has position `pos`.
 #[inline(always)]
 fn place_pointers(node: &mut [u8], start: usize, pos: u32, children: &[Option<u32>]) -> bool
     requires end { pos + 4 * length children.now ≤ 4294967295 }
@@ -244,7 +244,7 @@ fn place_pointers(node: &mut [u8], start: usize, pos: u32, children: &[Option<u3
     true
 }
 
-/// Writes an inner node's pointers, if each reaches its child, from `start` on. The first stands at `pos`.
+/// Writes an inner node's pointers, from `start` on, and returns whether each reaches its child. The first has position `pos`.
 #[inline(always)]
 fn place_children(
     node: &mut [u8],
@@ -268,7 +268,7 @@ fn place_children(
     place_pointer(node, start + len, pos + len as u32, last)
 }
 
-/// Fills the bytes of a leaf that stands at `pos`.
+/// Fills the bytes of a leaf at position `pos`.
 #[inline(always)]
 fn leaf_into<KU, VU, K, V, A, const E: usize>(
     alloc: A,
@@ -308,7 +308,7 @@ where
     Ok(())
 }
 
-/// Fills the first bytes of `node` as a leaf that stands at `pos`, and keeps those behind it.
+/// Fills the first bytes of `node` as a leaf at position `pos`. The bytes after it are unchanged.
 #[inline(always)]
 fn fill_leaf<KU, VU, K, V, A, const E: usize>(
     alloc: A,
@@ -346,7 +346,7 @@ where
     leaf_into::<KU, VU, K, V, A, E>(alloc, &mut node[..size], pos, entries, keys, values)
 }
 
-/// Fills the first bytes of a list as a leaf that stands at `pos`, and keeps those behind it.
+/// Fills the first bytes of a list as a leaf at position `pos`. The bytes after it are unchanged.
 #[inline(always)]
 pub(crate) fn put_leaf<KU, VU, K, V, A, const E: usize>(
     alloc: A,
@@ -385,7 +385,7 @@ where
     fill_leaf::<KU, VU, K, V, A, E>(alloc, whole, pos, entries, keys, values)
 }
 
-/// Fills the bytes of an inner node that stands at `pos`, if each of its pointers reaches its child.
+/// Fills the bytes of an inner node at position `pos`. Fails if a pointer can't reach its child.
 #[inline(always)]
 fn inner_into<KU, VU, K, V, A, const E: usize>(
     alloc: A,
@@ -434,8 +434,8 @@ where
     Ok(())
 }
 
-/// Fills the first bytes of `node` as an inner node that stands at `pos`, if each of its pointers reaches its child, and keeps
-/// those behind it.
+/// Fills the first bytes of `node` as an inner node at position `pos`. Fails if a pointer can't reach its child. The bytes
+/// after the node are unchanged.
 #[inline(always)]
 fn fill_inner<KU, VU, K, V, A, const E: usize>(
     alloc: A,
@@ -490,8 +490,8 @@ where
     )
 }
 
-/// Fills the first bytes of a list as an inner node that stands at `pos`, if each of its pointers reaches its child, and keeps
-/// those behind it.
+/// Fills the first bytes of a list as an inner node at position `pos`. Fails if a pointer can't reach its child. The bytes
+/// after the node are unchanged.
 #[inline(always)]
 pub(crate) fn put_inner<KU, VU, K, V, A, const E: usize>(
     alloc: A,

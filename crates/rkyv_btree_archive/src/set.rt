@@ -38,7 +38,7 @@ pub struct ArchivedBTreeSet<K, const E: usize> {
     map: ArchivedBTreeMap<K, (), E>,
 }
 
-/// Where the root node of a serialised set stands. That of an empty set stands for position 0.
+/// The position of the root node of a serialized set: 0 if the set is empty.
 pub type BTreeSetResolver = BTreeMapResolver;
 
 impl<K: Portable, const E: usize> Portable for ArchivedBTreeSet<K, E> {
@@ -96,8 +96,8 @@ fn with_unit<'x, M>(key: &'x M) -> (&'x M, &'x ())
 }
 
 impl<K: Portable, const E: usize> ArchivedBTreeSet<K, E> {
-    /// Serialises the items of an iterator, in their order, as the tree of a set, and answers where its root node stands.
-    /// `len` is the claimed number of items. It is the map's call with a `()` beside each key, and refuses as that does.
+    /// Serializes the items of an iterator, in their order, as the tree of a set, and returns the position of its root node.
+    /// `len` is the declared number of items. It is the map's call with a `()` for each key, and has the same errors.
     pub fn serialize_from_ordered_iter<'x, KU, W, A, I>(
         alloc: A,
         len: usize,
@@ -114,7 +114,7 @@ impl<K: Portable, const E: usize> ArchivedBTreeSet<K, E> {
         requires ends { UpTo (I.remaining iter) 18446744073709551615 }
         ensures ok { IfOk result
             (BuildsSet K.kind E KU.archival I.next_gives iter len W.state writer.old writer.new) }
-        // With the set behind it, it is accepted, and means the keys; and no accepted set with as many keys has fewer nodes,
+        // With the set after it, the tree is accepted, and means the keys. No accepted set with as many keys has fewer nodes,
         // node bytes or levels.
         ensures smallest { IfOk result
             (BuildsSmallestSet K.kind E KU.archival I.next_gives iter len
@@ -127,17 +127,17 @@ impl<K: Portable, const E: usize> ArchivedBTreeSet<K, E> {
             (FailsToBuildSet K.kind E KU.archival I.next_gives iter len
             W.state writer.old writer.new) }
         ensures end { OnOk result (0 < len → position (W.state writer.new) ≤ last_end) }
-        // On success no write failed, and nothing but bytes behind the old ones has changed.
+        // On success no write has failed, and bytes were only appended.
         ensures went { OnOk result (OnlyAppended (W.state writer.old) (W.state writer.new)) }
-        // Whatever refuses, what the writer held stays in front.
+        // After any error the contents begin with the old ones.
         ensures kept { OnErr result (BeginsWith (W.state writer.new) (W.state writer.old)) }
-        // Where no key asks for memory, a refused growth leaves the writer as it was.
+        // After an error of memory the writer is unchanged, if serializing a key takes no memory.
         ensures memory { NeverGrows KU.archival →
             IsErrOf result (Fault.Memory alloc_error) → W.state writer.new ≡ W.state writer.old }
-        // A claim past 32 bits is refused as that, whatever else there is, and nothing is written.
+        // A length past 32 bits is always the error `LengthOverflow`, and nothing is written.
         ensures past { last_end < len → IsErrOf result Fault.LengthOverflow }
         ensures past_kept { last_end < len → W.state writer.new ≡ W.state writer.old }
-        // A claim of nothing is refused for items that come, and for nothing else.
+        // With a declared length of 0 the only error is a wrong count, and nothing is written.
         ensures none { len ≡ 0 → IfErr result IsMiscount }
         ensures none_kept { len ≡ 0 → W.state writer.new ≡ W.state writer.old }
     {
@@ -151,7 +151,7 @@ impl<K: Portable, const E: usize> ArchivedBTreeSet<K, E> {
 }
 
 impl<K, const E: usize> ArchivedBTreeSet<K, E> {
-    /// Writes the set over a root node that was serialised for `len` keys. An `Err` leaves the place as it was.
+    /// Writes the set of a root node that was serialized for `len` keys. After an error the place is unchanged.
     pub fn resolve_from_len(
         len: usize,
         resolver: BTreeSetResolver,
@@ -173,8 +173,8 @@ impl<K, const E: usize> ArchivedBTreeSet<K, E> {
         ArchivedBTreeMap::<K, (), E>::resolve_from_len(len, resolver, map)
     }
 
-    /// Writes the set behind zeros up to a multiple of 4, and answers its position. After an error what was written
-    /// stays.
+    /// Writes zeros up to a multiple of 4 and then the set, and returns the set's position. After an error what was written
+    /// remains.
     pub fn write_root<W: Writer>(
         len: usize,
         resolver: BTreeSetResolver,

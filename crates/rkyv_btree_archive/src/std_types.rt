@@ -65,13 +65,13 @@ impl<KU: Archive + Ord, VU: Archive> Archive for BTreeMap<KU, VU> {
 
 impl<W: Writer, A: Allocator + Copy, KU: Serialize<W, A> + Ord, VU: Serialize<W, A>> Serialize<W, A>
     for BTreeMap<KU, VU> {
-    /// Writes the tree of the entries, with what they write, and answers where its root node stands.
+    /// Serializes the tree of the entries, and returns the position of its root node.
     fn serialize(&self, alloc: A, writer: &mut W) -> Result<BTreeMapResolver, Fault<W::Error>>
         requires fitting { IsTrue (are_fitting KU.Archived.kind VU.Archived.kind 5) }
         ensures ok { IfOk result
             (Serialises (tree_archival 5 KU.archival VU.archival (λ map. map.entries)) self.now
             (W.state writer.old) (W.state writer.new)) }
-        // With the map behind it, it is accepted, and means the entries; and no accepted map with as many entries has fewer
+        // With the map after it, the tree is accepted, and means the entries. No accepted map with as many entries has fewer
         // nodes, node bytes or levels.
         ensures smallest { IfOk result (λ root.
             IsSmallestArchive KU.Archived.kind VU.Archived.kind 5 KU.archival VU.archival
@@ -129,13 +129,13 @@ impl<KU: Archive + Ord> Archive for BTreeSet<KU> {
 }
 
 impl<W: Writer, A: Allocator + Copy, KU: Serialize<W, A> + Ord> Serialize<W, A> for BTreeSet<KU> {
-    /// Writes the tree of the keys, with what they write, and answers where its root node stands.
+    /// Serializes the tree of the keys, and returns the position of its root node.
     fn serialize(&self, alloc: A, writer: &mut W) -> Result<BTreeSetResolver, Fault<W::Error>>
         requires fitting { IsTrue (are_fitting KU.Archived.kind unit_kind 5) }
         ensures ok { IfOk result
             (Serialises (tree_archival 5 KU.archival unit_archival (λ set. with_units set.keys))
             self.now (W.state writer.old) (W.state writer.new)) }
-        // With the set behind it, it is accepted, and means the keys; and no accepted set with as many keys has fewer nodes,
+        // With the set after it, the tree is accepted, and means the keys. No accepted set with as many keys has fewer nodes,
         // node bytes or levels.
         ensures smallest { IfOk result (λ root.
             IsSmallestArchive KU.Archived.kind unit_kind 5 KU.archival unit_archival

@@ -1,5 +1,5 @@
-//! Writing a tree in one pass over its entries. Of the entries that have come only those wait whose node isn't written: of
-//! each level above one node's, and of one leaf.
+//! Writing a tree in one pass over its entries. Only the entries of open nodes wait in memory: those of one node for each level
+//! above the last, and those of one leaf.
 ghost use Rattle.std.specs.Prelude.{◌≡◌, ℕ, ◌+◌, ◌*◌, ◌-◌, ◌^◌, ◌≤◌, ◌<◌, ◌↔◌, List, [], ◌∷◌, ◌++◌, length, min, replicate, vec_len, vec_capacity, OnOk, IfOk, IfErr, IfSome, IfNone, IsTrue};
 ghost use Rattle.std.specs.Iterator.{IsFinite, size};
 ghost use Rattle.rkyv_btree_format.specs.Layout.{layout_of, are_fitting};
@@ -17,15 +17,15 @@ use rkyv_btree_writer::fault::{Fault, IteratorLengthMismatch};
 use rkyv_btree_writer::place::Writer;
 use std::alloc::Allocator;
 
-/// Whether the child that comes next is an inner node: it has so many levels above the tree's last one, for which so many
-/// entries are still to come.
+/// Returns whether the next child is an inner node. It has `levels` levels above the tree's last one, for which `on_last`
+/// entries are left.
 fn is_inner(levels: usize, on_last: usize) -> bool
     ensures { IsTrue result ↔ ((1 ≤ levels) × (1 ≤ on_last + (levels - 1))) }
 {
     levels > 1 || (levels == 1 && on_last > 0)
 }
 
-/// How many entries it has where it is a leaf; none where it is absent.
+/// Returns how many entries the next child has, if it isn't an inner node: 0 if it is absent.
 fn leaf_len<const E: usize>(levels: usize, on_last: usize) -> usize
     requires low { levels ≤ 1 }
     requires leaf { levels ≡ 1 → on_last ≡ 0 }
@@ -35,8 +35,8 @@ fn leaf_len<const E: usize>(levels: usize, on_last: usize) -> usize
     if levels == 0 { on_last.min(E) } else { E }
 }
 
-/// Opens the inner nodes down to the next child that isn't one, whose levels it answers. Of each it notes how many
-/// entries wait before its own.
+/// Opens the inner nodes down to the next child that isn't one, and returns the levels of that child. For each node it appends
+/// to `starts` how many entries wait before the node's own.
 fn open_nodes<A: Allocator>(
     levels: usize,
     on_last: usize,
@@ -59,7 +59,7 @@ fn open_nodes<A: Allocator>(
     below
 }
 
-/// How many entries wait before those of the innermost open node, if one is open.
+/// Returns how many entries wait before those of the innermost open node, if a node is open.
 fn innermost<A: Allocator>(starts: &Vec<usize, A>) -> Option<usize>
     ensures some { IfSome result (λ first. (front : List ℕ) × (starts.now.items ≡ front ++ first ∷ [])) }
     ensures none { IfNone result (starts.now.items ≡ []) }
@@ -67,8 +67,8 @@ fn innermost<A: Allocator>(starts: &Vec<usize, A>) -> Option<usize>
     starts.last().copied()
 }
 
-/// What writing a tree takes: what writing a node takes, and lists of the entries and children that wait for their nodes, of
-/// the open nodes, and of a leaf's entries.
+/// The memory for writing a tree: that for one node, and lists of the entries and children that wait for their nodes, of the
+/// open nodes, and of a leaf's entries.
 #[derive(Drop)]
 pub(crate) struct Lists<'x, KU: Archive, VU: Archive, A: Allocator> {
     pub(crate) scratch: Scratch<KU::Resolver, VU::Resolver, A>,
@@ -78,8 +78,8 @@ pub(crate) struct Lists<'x, KU: Archive, VU: Archive, A: Allocator> {
     pub(crate) leaf: Vec<(&'x KU, &'x VU), A>,
 }
 
-/// Takes the items of a tree and writes it, and answers where its root node stands. It has so many levels `above` its last
-/// one, for which `on_last` entries come.
+/// Takes the items of a tree, writes the tree, and returns the position of its root node. The tree has `above` levels above its
+/// last one, which has `on_last` entries.
 pub(crate) fn write_tree<'x, KU, VU, K, V, W, A, I, const E: usize>(
     alloc: A,
     above: usize,

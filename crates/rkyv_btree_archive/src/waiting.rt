@@ -14,7 +14,7 @@ use rkyv_btree_writer::fault::Fault;
 use rkyv_btree_writer::place::Writer;
 use std::alloc::Allocator;
 
-/// Appends a value for which there is room.
+/// Appends a value to a list that has room for it.
 #[inline(always)]
 pub fn push<T: Drop, A: Allocator>(values: &mut Vec<T, A>, value: T)
     requires { vec_len values.old < vec_capacity values.old }
@@ -25,7 +25,7 @@ pub fn push<T: Drop, A: Allocator>(values: &mut Vec<T, A>, value: T)
     values.push_reserved(value);
 }
 
-/// Lets an entry wait for its node, behind a child of that.
+/// Appends an entry, and the child before it, to the lists of those that wait for their node.
 pub fn wait<T: Drop, A: Allocator>(
     waiting: &mut Vec<T, A>,
     children: &mut Vec<Option<u32>, A>,
@@ -43,8 +43,8 @@ pub fn wait<T: Drop, A: Allocator>(
     push(waiting, entry);
 }
 
-/// Writes the inner node of the entries and children that have waited from these numbers on, over its last child too, and
-/// answers its position. None of them waits any longer.
+/// Writes the inner node of the waiting entries from `first` on, the waiting children from `first_child` on and the child
+/// `last`, and returns its position. Then it removes these entries and children from their lists.
 pub fn write_above<'x, KU, VU, K, V, W, A, const E: usize>(
     alloc: A,
     scratch: &mut Scratch<KU::Resolver, VU::Resolver, A>,

@@ -20,7 +20,7 @@ use rkyv_btree_writer::place::Writer;
 use rkyv_btree_writer::writes::{LAST_END, pad, put};
 use std::alloc::{AllocError, Allocator};
 
-/// What writing a node takes: the bytes of the largest node, and lists of what resolving its keys and values needs.
+/// The memory for writing a node: the bytes of the largest node, and lists of the resolvers of its keys and values.
 #[derive(Drop)]
 pub struct Scratch<R, S, A: Allocator> {
     pub node: Vec<u8, A>,
@@ -28,7 +28,7 @@ pub struct Scratch<R, S, A: Allocator> {
     pub values: Vec<S, A>,
 }
 
-/// Reserves what writing a node takes.
+/// Reserves the memory for writing a node.
 pub fn reserve_scratch<KU, VU, K, V, A, const E: usize>(
     alloc: A,
 ) -> Result<Scratch<KU::Resolver, VU::Resolver, A>, AllocError>
@@ -48,7 +48,7 @@ where
     })
 }
 
-/// The fault of serialising that a fault of resolving is.
+/// Returns an error of resolving as an error of serialization.
 pub fn fault_of<E>(fault: ResolveFault) -> Fault<E>
     ensures { result ≡ as_fault fault }
 {
@@ -58,8 +58,8 @@ pub fn fault_of<E>(fault: ResolveFault) -> Fault<E>
     }
 }
 
-/// Writes what the entries of a node of `size` bytes write, and the padding before the node, and answers the node's
-/// position, from which it ends at a position in 32 bits.
+/// Serializes the entries of a node of `size` bytes, writes the padding before the node, and returns the node's position. The
+/// node ends at a position that fits in 32 bits.
 #[inline(always)]
 fn begin_node<KU, VU, K, V, W, A, const E: usize>(
     alloc: A,
@@ -103,7 +103,7 @@ where
     Ok(pos as u32)
 }
 
-/// Writes a leaf of these entries behind what they write, and answers its position.
+/// Serializes the entries of a leaf, writes the leaf after them, and returns its position.
 #[inline(always)]
 pub fn write_leaf<KU, VU, K, V, W, A, const E: usize>(
     alloc: A,
@@ -157,8 +157,7 @@ where
     Ok(root)
 }
 
-/// Writes an inner node of these entries over written children, behind what the entries write, and answers its
-/// position.
+/// Serializes the entries of an inner node, writes the node with pointers to its children after them, and returns its position.
 pub fn write_inner<KU, VU, K, V, W, A, const E: usize>(
     alloc: A,
     scratch: &mut Scratch<KU::Resolver, VU::Resolver, A>,

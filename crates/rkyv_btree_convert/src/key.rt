@@ -11,9 +11,10 @@ use rkyv_btree_base::scalars::ArchivedNonZeroU32;
 use rkyv_btree_base::text::ArchivedText;
 use std::num::NonZeroU32;
 
-/// An archived type whose native values can be keys of native maps: they are ordered as what is told of them.
+/// An archived type whose native values can be keys of native maps: they are ordered as their `told` are.
 pub trait DeserializeKey<T: Ord>: Deserialize<T> {
-    /// The test that keys which are equal by their order are the same, by what is told of them. It may fail where they are.
+    /// Returns whether any two keys that are equal by their order have the same `told`. It may return `false` although they
+    /// have.
     fn equal_keys_are_same() -> bool
         ensures { IsTrue result → (x y : Self.Told) → Self.told_order x y ≡ Equal → x ≡ y }
     {

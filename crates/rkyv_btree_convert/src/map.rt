@@ -31,7 +31,7 @@ fn native_entry<T: PartialEq + Drop, U: PartialEq + Drop, K: Deserialize<T>, V: 
     Ok((key, value))
 }
 
-/// Puts a native entry behind a list.
+/// Appends a native entry to a list.
 fn push_entry<T: PartialEq + Drop, U: PartialEq + Drop, K: Deserialize<T>, V: Deserialize<U>>(
     alloc: Global,
     key: &View<'_, K>,
@@ -51,7 +51,7 @@ fn push_entry<T: PartialEq + Drop, U: PartialEq + Drop, K: Deserialize<T>, V: De
     Ok(())
 }
 
-/// The native entries of a map in their order, up to the first that refuses itself.
+/// Returns the native entries of a map in their order, or the error of the first that fails.
 pub(crate) fn native_entries<
     T: PartialEq + Drop,
     U: PartialEq + Drop,
@@ -78,7 +78,7 @@ pub(crate) fn native_entries<
     Ok(made)
 }
 
-/// Puts a native entry into a map, where an equal key stays and takes the value.
+/// Inserts a native entry into a map. A key that is equal stays, and gets the value.
 fn put_entry<T: Ord + Drop, U: PartialEq + Drop, K: DeserializeKey<T>, V: Deserialize<U>>(
     alloc: Global,
     key: &View<'_, K>,
@@ -98,7 +98,7 @@ fn put_entry<T: Ord + Drop, U: PartialEq + Drop, K: DeserializeKey<T>, V: Deseri
     }
 }
 
-/// The native map into which its entries are put in turn.
+/// Returns the native map into which the entries are inserted one after another.
 fn in_turn<
     T: Ord + Drop,
     U: PartialEq + Drop,
@@ -123,7 +123,7 @@ fn in_turn<
     Ok(map)
 }
 
-/// The native map that its entries make at once, where equal keys are the same.
+/// Returns the native map that is made of all entries at once. Requires that equal keys are the same.
 fn at_once<
     T: Ord + Drop,
     U: PartialEq + Drop,
@@ -164,9 +164,9 @@ impl<
 
     ghost native = { native_map K.kind V.kind E K.native V.native K.told_order };
 
-    /// The native map: of entries with equal keys the first key stays, or one that is the same by what is told of it, and
-    /// the last value counts. The entries are read in order, a key before its value, up to the first that refuses
-    /// itself. Where equal keys are the same, they make a list first, and the map is made of that at once.
+    /// Returns the native map. Of entries with equal keys it has the first key, or one with the same `told`, and the last
+    /// value. The entries are read in order, a key before its value, up to the first that fails. If equal keys are the same,
+    /// the map is made of the list of all entries at once.
     fn deserialize(
         alloc: Global,
         view: &View<'_, ArchivedBTreeMap<K, V, E>>,
@@ -183,7 +183,8 @@ impl<
     ghost told_whole = { λ x y. map_told_whole K.told_whole V.told_whole x.entries y.entries };
 }
 
-/// What deserialising a map gives is told by its list of entries: by what each key and each value gives, by its meaning.
+/// States that what a map is deserialized to depends on its list of entries alone: on what the meaning of each key and value is
+/// deserialized to.
 pub fn maps_are_given_by_entries<
     T: Ord,
     U: PartialEq,
@@ -194,8 +195,8 @@ pub fn maps_are_given_by_entries<
     ensures { IsGivenByEntries K.kind V.kind E K.native V.native K.told_order }
 {}
 
-/// In the native map that is made of entries with equal keys, the first key stays and the last value counts; and its
-/// keys ascend, as in each native map.
+/// States that the native map of entries with equal keys has the first key and the last value. Its keys ascend, as in each
+/// native map.
 pub fn last_values_count<T: Ord, U: PartialEq, K: DeserializeKey<T>, V: Deserialize<U>>()
     ensures { (entries : List (K.Told × V.Told)) → CountsLast K.told_order entries }
 {}

@@ -1,4 +1,4 @@
-//! Archived types of which native values are made as `ToNative` reads them.
+//! Archived types that are deserialized to the native values that `ToNative` reads.
 ghost use Rattle.std.specs.Prelude.{◌≡◌, IsTrue};
 ghost use Rattle.std.specs.declared.cmp.Ordering.TheVariants.{Equal};
 
@@ -7,10 +7,11 @@ use rkyv_btree_base::scalars::ArchivedChar;
 use rkyv_btree_base::signed::{ArchivedI16, ArchivedI32, ArchivedI64};
 use rkyv_btree_view::native::ToNative;
 
-/// A type whose values are deserialised as `ToNative` reads them: a type of one's own joins by an empty `impl`.
+/// A type whose values are deserialized as `ToNative` reads them. Implement it for a type of your own by an empty `impl`.
 // `ToNative` alone can't say so, since a text might have it one day, as far as this crate knows.
 pub trait DeserializeNative: ToNative {
-    /// The test that native values which are equal by their order are the same. It may fail where they are.
+    /// Returns whether any two native values that are equal by their order are the same. It may return `false` although they
+    /// are.
     fn equal_values_are_same() -> bool
         ensures { IsTrue result → (x y : Self.Native) → Self.Native.cmp x y ≡ Equal → x ≡ y }
     {

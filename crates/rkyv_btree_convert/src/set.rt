@@ -16,7 +16,7 @@ use rkyv_btree_view::view::View;
 use std::alloc::{AllocError, Global};
 use std::collections::BTreeSet;
 
-/// Puts a native key into a set, where an equal key stays. After an error the set is as it was.
+/// Inserts a native key into a set. A key that is equal stays.
 fn put_key<T: Ord + Drop, K: DeserializeKey<T>>(
     alloc: Global,
     key: &View<'_, K>,
@@ -35,7 +35,7 @@ fn put_key<T: Ord + Drop, K: DeserializeKey<T>>(
     Ok(())
 }
 
-/// The native set into which its keys are put in turn.
+/// Returns the native set into which the keys are inserted one after another.
 fn in_turn<T: Ord + Drop, K: DeserializeKey<T>, const E: usize>(
     alloc: Global,
     view: &View<'_, ArchivedBTreeSet<K, E>>,
@@ -54,7 +54,7 @@ fn in_turn<T: Ord + Drop, K: DeserializeKey<T>, const E: usize>(
     Ok(set)
 }
 
-/// The native set that its keys make at once, where equal keys are the same.
+/// Returns the native set that is made of all keys at once. Requires that equal keys are the same.
 fn at_once<T: Ord + Drop, K: DeserializeKey<T>, const E: usize>(
     alloc: Global,
     view: &View<'_, ArchivedBTreeSet<K, E>>,
@@ -87,8 +87,8 @@ impl<T: Ord + Drop, K: DeserializeKey<T>, const E: usize> Deserialize<BTreeSet<T
 
     ghost native = { native_set K.kind E K.native K.told_order };
 
-    /// The native set: of equal keys the first stays, or one that is the same by what is told of it. The keys are read
-    /// in order, up to the first that refuses itself. Where equal keys are the same, the set is made of all at once.
+    /// Returns the native set. Of equal keys it has the first, or one with the same `told`. The keys are read in order, up to
+    /// the first that fails. If equal keys are the same, the set is made of all of them at once.
     fn deserialize(
         alloc: Global,
         view: &View<'_, ArchivedBTreeSet<K, E>>,

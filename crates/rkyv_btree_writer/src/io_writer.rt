@@ -10,8 +10,8 @@ use std::io::{Error, ErrorKind, Write};
 use std::marker::Model;
 use std::snapshot::Snapshot;
 
-/// A writer over one of std. It hands the bytes on as they come, and keeps none of them. Its contents are the bytes that
-/// the inner writer has taken, behind those that it is known to hold from the start.
+/// A writer over one of std. It passes the bytes on as they come, and keeps none of them. Its contents are the bytes that the
+/// inner writer was known to hold at the start, and then those that it has taken.
 #[derive(Drop)]
 pub struct IoWriter<W: Write> {
     inner: W,
@@ -40,7 +40,7 @@ impl<W: Write> Model for IoWriter<W> {
 }
 
 impl<W: Write> IoWriter<W> {
-    /// A writer whose first byte has position 0.
+    /// Returns a writer whose first byte has position 0.
     pub fn new(inner: W) -> IoWriter<W>
         requires { IfSome (W.contents inner) (λ held. held ≡ []) }
         ensures { result ≡ record { base = 0; contents = []; failures = 0 } }
@@ -48,7 +48,7 @@ impl<W: Write> IoWriter<W> {
         IoWriter::with_base(inner, 0)
     }
 
-    /// A writer whose next byte has position `base`. What `inner` is known to hold counts as written before.
+    /// Returns a writer whose next byte has position `base`. What `inner` is known to hold counts as written before.
     pub fn with_base(inner: W, base: u64) -> IoWriter<W>
         requires { IfSome (W.contents inner) (λ held. length held ≤ base) }
         ensures { result ≡ begun base (W.contents inner) }
@@ -63,7 +63,7 @@ impl<W: Write> IoWriter<W> {
         }
     }
 
-    /// The inner writer. Where that is a buffer, the caller flushes it.
+    /// Returns the inner writer. The caller flushes it, if it is a buffer.
     pub fn into_inner(self) -> W
         ensures { HoldsAll W.contents result self.contents }
     {
@@ -80,7 +80,7 @@ impl<W: Write> Writer for IoWriter<W> {
         self.pos
     }
 
-    /// Fails where the inner writer fails, where it takes no more bytes, and where a position would pass 64 bits.
+    /// Fails if the inner writer fails, if it takes no more bytes, or if a position would be past 64 bits.
     fn write(&mut self, bytes: &[u8]) -> Result<(), Error> {
         if bytes.len() as u64 > u64::MAX - self.pos {
             self.failures = self.failures.wrapping_add(1);
@@ -96,7 +96,7 @@ impl<W: Write> Writer for IoWriter<W> {
     }
 }
 
-/// Writes until all bytes are taken or a write fails, and says how many were taken.
+/// Writes until all bytes are taken or a write fails, and returns how many were taken.
 fn hand_on<W: Write>(writer: &mut W, bytes: &[u8]) -> (usize, io::Result<()>)
     ensures count { result.0 ≤ length bytes.now }
     ensures all { OnOk result.1 (result.0 ≡ length bytes.now) }

@@ -15,14 +15,14 @@ impl Model for Taken {
 }
 
 impl Taken {
-    /// No bytes.
+    /// Returns no bytes.
     pub(crate) fn new() -> Taken
         ensures { result.bytes ≡ [] }
     {
         Taken {}
     }
 
-    /// Takes more bytes behind these.
+    /// Appends more bytes.
     pub(crate) fn add(&mut self, _more: &[u8])
         ensures { self.new.bytes ≡ self.old.bytes ++ _more.now }
     {}
