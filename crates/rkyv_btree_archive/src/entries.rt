@@ -1,21 +1,12 @@
 //! Serializing the entries of a node.
-ghost use Rattle.std.specs.Prelude.{◌≡◌, ◌+◌, ◌≤◌, ◌<◌, [], ◌∷◌, ◌++◌, length, map, vec_capacity, IsTrue, OnOk, IfErr};
+ghost use Rattle.std.specs.Prelude.{◌≡◌, ◌≤◌, [], length, map, vec_capacity, IsTrue, OnOk, IfErr};
 ghost use Rattle.rkyv_btree_image.specs.Entries.{AreSerialised, AreUnserialised, now_of};
 
 use crate::archive::{Archive, Serialize};
+use crate::waiting::push;
 use rkyv_btree_writer::fault::Fault;
 use rkyv_btree_writer::place::Writer;
 use std::alloc::Allocator;
-
-/// Appends a value for which there is room.
-#[inline(always)]
-fn push_back<T: Drop, A: Allocator>(values: &mut Vec<T, A>, value: T)
-    requires { length values.old.items < vec_capacity values.old }
-    ensures items { values.new.items ≡ values.old.items ++ value ∷ [] }
-    ensures capacity { vec_capacity values.old ≤ vec_capacity values.new }
-{
-    values.push_reserved(value);
-}
 
 /// Serializes entries in their order, each key before its value, and appends their resolvers to two lists that have room for
 /// them.
@@ -52,8 +43,8 @@ where
     for entry in entries {
         let key = entry.0.serialize(alloc, writer)?;
         let value = entry.1.serialize(alloc, writer)?;
-        push_back(keys, key);
-        push_back(values, value);
+        push(keys, key);
+        push(values, value);
     }
     Ok(())
 }

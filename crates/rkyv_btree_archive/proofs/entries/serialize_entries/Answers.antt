@@ -26,12 +26,12 @@ loop-entry-preserved g c =
     let key : IsSerialised g.KU.Archive.archival now c.entry-item.result.0.now c.in_ok-key.key mid = record { writes = done.0; allowed = done.1; wrote = done.2; is_in = done.3; end = done.4 } in
     let value : IsSerialised g.VU.Archive.archival mid c.entry-item.result.1.now c.in_ok-value.value next = record { writes = done2.0; allowed = done2.1; wrote = done2.2; is_in = done2.3; end = done2.4 } in
     record {
-      so_far = next_serialised g.row.W-Error.Denot g.KU.Archive.archival g.VU.Archive.archival (g.W.Writer.state c.args.writer.now) (map now_of c.args.entries.now) c.args.entries.now c.loop-entry.entry-index _ c.entry-item.result now mid next c.in_ok-key.key c.in_ok-value.value c.loop-entry.keys.items c.push_back.new.values.items c.loop-entry.values.items c.push_back-in-loop-entry.new.values.items
-          c.loop-entry-test.true c.entry-item.is c.push_back.ensures.items c.push_back-in-loop-entry.ensures.items before.so_far key value;
-      keys = ap length c.push_back.ensures.items ∙ (length_push c.loop-entry.keys.items c.in_ok-key.key ∙ ap (λ n. n + 1) before.keys);
-      values = ap length c.push_back-in-loop-entry.ensures.items ∙ (length_push c.loop-entry.values.items c.in_ok-value.value ∙ ap (λ n. n + 1) before.values);
-      key_room = no_less _ _ _ before.key_room c.push_back.ensures.capacity;
-      value_room = no_less _ _ _ before.value_room c.push_back-in-loop-entry.ensures.capacity;
+      so_far = next_serialised g.row.W-Error.Denot g.KU.Archive.archival g.VU.Archive.archival (g.W.Writer.state c.args.writer.now) (map now_of c.args.entries.now) c.args.entries.now c.loop-entry.entry-index _ c.entry-item.result now mid next c.in_ok-key.key c.in_ok-value.value c.loop-entry.keys.items c.push.new.values.items c.loop-entry.values.items c.push-in-loop-entry.new.values.items
+          c.loop-entry-test.true c.entry-item.is c.push.ensures.items c.push-in-loop-entry.ensures.items before.so_far key value;
+      keys = ap length c.push.ensures.items ∙ (length_push c.loop-entry.keys.items c.in_ok-key.key ∙ ap (λ n. n + 1) before.keys);
+      values = ap length c.push-in-loop-entry.ensures.items ∙ (length_push c.loop-entry.values.items c.in_ok-value.value ∙ ap (λ n. n + 1) before.values);
+      key_room = no_less _ _ _ before.key_room c.push.ensures.capacity;
+      value_room = no_less _ _ _ before.value_room c.push-in-loop-entry.ensures.capacity;
     }
 
 pub returns-clause-ok : goal.returns-clause-ok
