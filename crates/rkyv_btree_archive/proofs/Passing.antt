@@ -4,7 +4,7 @@ use Rattle.std.specs.Iterator.{Yields, Drains}
 use Rattle.std.proofs.lemmas.List.{length-append, append_assoc, append-nil, nil_from_length, length-map, map-append}
 use Rattle.rkyv_btree_portable.specs.InPlace.{OwnBytes}
 use Rattle.rkyv_btree_format.specs.Layout.{NodeLayout, inner_size}
-use Rattle.rkyv_btree_shape.specs.Tree.{Tree, leaf, inner, Row, last, step, Child, absent, child, row_list, child_list, row_entries}
+use Rattle.rkyv_btree_shape.specs.Tree.{inner, Row, last, step, Child, child, row_list, child_list, row_entries}
 use Rattle.rkyv_btree_shape.specs.mirror.Filled.{Filled, most, IsNext}
 use Rattle.rkyv_btree_shape.proofs.Filled.{count, same, full_up}
 use Rattle.rkyv_btree_writer.specs.Archiving.{Archival}

@@ -1,13 +1,14 @@
 -- Pieces written in their places over zeros.
-use Rattle.std.proofs.Common.{◌≡◌, ℕ, ◌+◌, ◌-◌, ◌∙◌, ◌≤◌, ◌<◌, List, [], ◌∷◌, ◌++◌, length, take, drop, set, get_or, Option, Some, None, ◌*◌, replicate, refl, sym, ap, subst, arith}
-use Rattle.std.proofs.lemmas.List.{append_assoc, length-append, length-replicate, length-take-le, length-drop, replicate-append-replicate, take_at, drop_at, drop-drop, set_split, take-append-drop, take_more, take_all}
+use Rattle.std.proofs.Common.{◌≡◌, ℕ, ◌+◌, ◌-◌, ◌∙◌, ◌≤◌, ◌<◌, List, [], ◌∷◌, ◌++◌, length, take, drop, set, get_or, Option, ◌*◌, replicate, refl, sym, ap, subst, arith}
+use Rattle.std.proofs.lemmas.List.{append_assoc, length-append, length-replicate, length-take-le, length-drop, replicate-append-replicate, take_at, drop_at, drop-drop, set_split, take-append-drop, take_more}
 use Rattle.std.specs.List.{flat_map, splice}
 use Rattle.std.specs.Int.{w32, to_le_bytes}
 use Rattle.rkyv_btree_portable.specs.InPlace.{OwnBytes}
 use Rattle.rkyv_btree_portable.specs.Bytes.{filled, zeros}
+use Rattle.rkyv_btree_portable.specs.laws.Holding.{length-filled}
 use Rattle.rkyv_btree_format.specs.Layout.{NodeLayout, keys_at, values_at, len_at, leaf_size, inner_size}
 use Rattle.rkyv_btree_image.specs.Image.{entry_bytes, leaf_bytes, inner_bytes, pointers}
-use Rattle.rkyv_btree_writer.specs.Pointers.{pointer, no_pointer}
+use Rattle.rkyv_btree_image.proofs.NodesHeld.{length-pointers}
 use Rattle.rkyv_btree_image.proofs.PointerRuns.{pointers-append}
 use Rattle.rkyv_btree_image.proofs.Resolving.{paired, filled_columns, filled_leaf}
 
@@ -31,9 +32,6 @@ splice_more xs a b c done own eb ec inside =
     ap (λ z. z ++ (own ++ drop c (splice xs a b done))) head
     ∙ (ap (λ z. front ++ (own ++ z)) tail
     ∙ (append_assoc (take a xs) done (own ++ drop c xs) ∙ ap (λ z. take a xs ++ z) (sym (append_assoc done own (drop c xs)))))
-
-pub length-filled : (front : List ℕ) (n : ℕ) → length front ≤ n → length (filled front n) ≡ n
-length-filled front n low = omega (arith, length-append front (zeros (n - length front)), length-replicate {A = ℕ} (n - length front) 0)
 
 -- zeros up to a length are zeros up to a place before it, and the rest of them
 split_zeros : (front : List ℕ) (n full : ℕ) → length front ≤ n → n ≤ full → filled front full ≡ filled front n ++ zeros (full - n)
@@ -91,11 +89,6 @@ leaf_put s owns count start size len b0 b1 ec es ez el low high before after =
     let whole : b1 ≡ filled (filled entries start ++ len) size = after ∙ (ap (λ z. splice z start (start + length len) len) before ∙ put_over entries len start (start + length len) size (omega arith) refl high) in
     filled_leaf s owns count start size entries (filled entries start) (filled entries start ++ len) b1 ec es ez refl refl (ap (λ z. filled entries start ++ z) el) whole
 
-pub pointers_length : (at : ℕ) (qs : List (Option ℕ)) → length (pointers at qs) ≡ 4 * length qs
-pointers_length at [] = refl
-pointers_length at (None ∷ qs) = omega (arith, pointers_length (at + 4) qs, length-append no_pointer (pointers (at + 4) qs))
-pointers_length at (Some q ∷ qs) = omega (arith, pointers_length (at + 4) qs, length-append (pointer at q) (pointers (at + 4) qs))
-
 -- nothing was written yet
 pub nothing_put : (xs : List ℕ) (start : ℕ) → xs ≡ splice xs start (start + 0) []
 nothing_put xs start =
@@ -105,7 +98,7 @@ nothing_put xs start =
 -- pointers behind those that were written
 pub more_pointers_put : (first old new : List ℕ) (start at middle end n : ℕ) (ps qs : List (Option ℕ)) → middle ≡ start + 4 * length ps → end ≡ middle + 4 * length qs → n ≡ at + 4 * length ps → end ≤ length first → old ≡ splice first start middle (pointers at ps) → new ≡ splice old middle end (pointers n qs) → new ≡ splice first start end (pointers at (ps ++ qs))
 more_pointers_put first old new start at middle end n ps qs em ee en inside before after =
-    let whole : splice (splice first start middle (pointers at ps)) middle end (pointers n qs) ≡ splice first start end (pointers at ps ++ pointers n qs) = splice_more first start middle end (pointers at ps) (pointers n qs) (omega (arith, pointers_length at ps)) (omega (arith, pointers_length n qs)) inside in
+    let whole : splice (splice first start middle (pointers at ps)) middle end (pointers n qs) ≡ splice first start end (pointers at ps ++ pointers n qs) = splice_more first start middle end (pointers at ps) (pointers n qs) (omega (arith, length-pointers at ps)) (omega (arith, length-pointers n qs)) inside in
     let joined : pointers at ps ++ pointers n qs ≡ pointers at (ps ++ qs) = ap (λ k. pointers at ps ++ pointers k qs) en ∙ sym (pointers-append at ps qs) in
     after ∙ (ap (λ z. splice z middle end (pointers n qs)) before ∙ (whole ∙ ap (splice first start end) joined))
 
@@ -124,7 +117,7 @@ pub inner_put : (s : NodeLayout) (owns : List OwnBytes) (pos start end size n : 
 inner_put s owns pos start end size n qs b0 b1 es en ez low ee high before after =
     let entries = entry_bytes s 1 owns in
     after ∙ (ap (λ z. splice z start end (pointers n qs)) before
-    ∙ (put_over entries (pointers n qs) start end size (omega arith) (omega (arith, pointers_length n qs)) high
+    ∙ (put_over entries (pointers n qs) start end size (omega arith) (omega (arith, length-pointers n qs)) high
     ∙ (ap (λ k. filled (filled entries k ++ pointers n qs) size) es
     ∙ (ap (λ k. filled (filled entries (len_at s) ++ pointers k qs) size) en ∙ ap (filled (filled entries (len_at s) ++ pointers (pos + len_at s) qs)) ez))))
 

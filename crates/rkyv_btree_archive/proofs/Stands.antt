@@ -181,15 +181,6 @@ module _ {M N R S P : Type 0} (s : NodeLayout) (K : Archival M R) (V : Archival 
         starts_is = c ∙ (ap (λ xs. xs ++ replicate (g - g2) (length waiting2)) z ∙ (ap (λ k. starts_of (f2 ∷ i.fs) ++ replicate (g - g2) k) (ap length w) ∙ sym (opening_starts (g - g2) (f2 ∷ i.fs))));
       }
 
-  -- there is room for the child behind that entry
-  pub pushed_room : (g left taken : ℕ) (waiting : List (Bor M × Bor N)) (children : List (Option ℕ)) (starts front : List ℕ) (first : ℕ) (root : Option ℕ) (rest : P) (to : Writing) (item : Bor M × Bor N) (rest2 : P) → Stands s K V steps G L iter0 from0 g left taken waiting children starts root rest to → starts ≡ front ++ first ∷ [] → length waiting < first + s.E → steps rest (Some item) rest2 →
-      taken + 1 + ((s.E + 1) ^ g + min left (most s.E g)) ≤ (s.E + 1) ^ G + min L (most s.E G)
-  pushed_room g left taken waiting children starts front first root rest to item rest2 h e less gave =
-      let i = innermost g left taken waiting children starts front first root rest to h e in
-      let n = ap length i.waiting_is ∙ length-append (waiting_of i.fs) i.f.0 in
-      let o = done_pushed s K V steps G L iter0 from0 some i.f i.fs g left taken root rest to item rest2 (omega (arith, less, n, i.first_is)) i.done gave in
-      opened_room s K V steps G L iter0 from0 some ((i.f.0 ++ item ∷ [], i.f.1 ++ root ∷ []) ∷ i.fs) g left (taken + 1) rest2 to o
-
   pub goes_room : (g left taken n : ℕ) (waiting : List (Bor M × Bor N)) (children : List (Option ℕ)) (starts : List ℕ) (rest : P) (to : Writing) → Goes g left taken waiting children starts rest to → IsLeafOf s.E g left n → taken + n + 1 ≤ (s.E + 1) ^ G + min L (most s.E G)
   goes_room g left taken n waiting children starts rest to h is = omega (arith, opened_room s K V steps G L iter0 from0 some h.frames g left taken rest to h.opened, leaf_count s.E g left n is)
 

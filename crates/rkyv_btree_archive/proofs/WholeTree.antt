@@ -1,11 +1,11 @@
 -- The leaf that comes next, and the whole tree.
-use Rattle.std.proofs.Common.{◌≡◌, ℕ, ◌+◌, ◌-◌, ◌^◌, ◌<◌, ◌≤◌, min, List, [], ◌∷◌, ◌++◌, length, map, replicate, Bor, Option, Some, None, arith, refl, sym, ap, ◌∙◌, subst, inl, inr, alloc_error}
+use Rattle.std.proofs.Common.{◌≡◌, ℕ, ◌+◌, ◌-◌, ◌^◌, ◌<◌, ◌≤◌, min, List, [], ◌∷◌, length, map, Bor, Option, Some, None, arith, refl, sym, ap, ◌∙◌, subst, inl, inr, alloc_error}
 use Rattle.std.specs.Iterator.{Yields, Drains}
-use Rattle.std.proofs.lemmas.List.{length-append, length-map, length-replicate}
+use Rattle.std.proofs.lemmas.List.{length-map}
 use Rattle.std.proofs.Math.Nat.{pow-zero}
-use Rattle.rkyv_btree_format.specs.Layout.{NodeLayout, layout_of, leaf_size, inner_size}
+use Rattle.rkyv_btree_format.specs.Layout.{NodeLayout, layout_of, leaf_size}
 use Rattle.rkyv_btree_portable.specs.Kind.{Kind}
-use Rattle.rkyv_btree_shape.specs.Tree.{Tree, leaf, inner, Row, last, step, Child, absent, child, child_list, row_entries}
+use Rattle.rkyv_btree_shape.specs.Tree.{leaf, Child, absent, child, child_list}
 use Rattle.rkyv_btree_shape.specs.Logarithm.{ilog}
 use Rattle.rkyv_btree_shape.specs.Plan.{plan, child_plan, planned_alone}
 use Rattle.rkyv_btree_shape.proofs.Bounds.{pow_one, pow_positive}
@@ -14,19 +14,18 @@ use Rattle.rkyv_btree_shape.proofs.Filled.{count, same}
 use Rattle.rkyv_btree_shape.proofs.Planned.{planned}
 use Rattle.rkyv_btree_shape.proofs.Smallest.{there_is, plan_is}
 use Rattle.rkyv_btree_writer.specs.Archiving.{Archival, BeginsWith}
-use Rattle.rkyv_btree_writer.specs.Writing.{Writing, Write, position}
+use Rattle.rkyv_btree_writer.specs.Writing.{Writing}
 use Rattle.rkyv_btree_writer.specs.declared.fault.Fault.{Fault}
 use Rattle.rkyv_btree_writer.specs.declared.fault.Fault.TheVariants.{Length, LengthOverflow, PositionOverflow, OffsetOverflow, Writer, Memory, Entry}
 use Rattle.rkyv_btree_image.specs.Begun.{ChildBegun}
 use Rattle.rkyv_btree_image.specs.Entries.{now_of}
-use Rattle.rkyv_btree_image.specs.Image.{leaf_image, inner_image}
-use Rattle.rkyv_btree_image.specs.Kept.{NeverGrows, OnlyAppended}
+use Rattle.rkyv_btree_image.specs.Image.{leaf_image}
+use Rattle.rkyv_btree_image.specs.Kept.{NeverGrows}
 use Rattle.rkyv_btree_image.proofs.Begun.{untouched}
 use Rattle.rkyv_btree_image.proofs.Building.{some_claimed}
 use Rattle.rkyv_btree_image.proofs.Kept.{same_begins, went_begins}
-use Rattle.rkyv_btree_portable.specs.InPlace.{OwnBytes}
 use Rattle.rkyv_btree_image.specs.Serialising.{BeginClaimed, Miscounted, StoppedBuilding, BuildFault}
-use Rattle.rkyv_btree_image.specs.Written.{NodeWritten, NodeStopped, RowWritten, ChildWritten, ChildStopped}
+use Rattle.rkyv_btree_image.specs.Written.{NodeWritten, NodeStopped, ChildWritten, ChildStopped}
 use Rattle.rkyv_btree_image.proofs.Untold.{uncounted, unasked}
 use Rattle.rkyv_btree_image.proofs.TreesKept.{stops_begin, begun_went}
 use Rattle.rkyv_btree_archive.specs.mirror.Passing.{NextWritten, NextStopped, NextShort, NextFault}

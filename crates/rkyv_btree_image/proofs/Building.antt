@@ -1,5 +1,5 @@
 -- What building leaves, from what its parts leave.
-use Rattle.std.proofs.Common.{◌≡◌, ◌≢◌, ℕ, ◌+◌, ◌-◌, ◌<◌, ◌≤◌, ◌∙◌, Bool, IsTrue, List, [], ◌∷◌, ◌++◌, length, map, replicate, take, Bor, Option, unwrap_or, inl, inr, refl, sym, subst, ap, arith}
+use Rattle.std.proofs.Common.{◌≡◌, ◌≢◌, ℕ, ◌+◌, ◌-◌, ◌<◌, ◌≤◌, ◌∙◌, Bool, IsTrue, List, [], ◌∷◌, ◌++◌, length, map, replicate, take, Bor, Option, unwrap_or, refl, sym, subst, ap, arith}
 use Rattle.std.specs.Iterator.{Yields, Drains}
 use Rattle.std.proofs.lemmas.List.{length-append, length-map, length-replicate, append-nil, nil_from_length, take_at}
 use Rattle.rkyv_btree_writer.specs.Archiving.{Archival, IsArchived, Matches}
@@ -7,23 +7,21 @@ use Rattle.rkyv_btree_portable.specs.Bytes.{Holds}
 use Rattle.rkyv_btree_writer.specs.Padding.{padding}
 use Rattle.rkyv_btree_image.specs.Image.{root_bytes, root_reaches}
 use Rattle.rkyv_btree_portable.specs.Kind.{Kind, IsLawful}
-use Rattle.rkyv_btree_format.specs.Layout.{NodeLayout, layout_of, are_fitting}
+use Rattle.rkyv_btree_format.specs.Layout.{layout_of, are_fitting}
 use Rattle.rkyv_btree_shape.specs.Plan.{plan, planned_alone}
 use Rattle.rkyv_btree_portable.specs.Rounding.{round_up}
-use Rattle.rkyv_btree_image.specs.Serialising.{meaning_of, BeginClaimed, Built, Spelled, Miscounted, BuildFault, RootFault}
+use Rattle.rkyv_btree_image.specs.Serialising.{meaning_of, BeginClaimed, Built, Spelled, Miscounted, RootFault}
 use Rattle.rkyv_btree_format.specs.Spells.{Spells}
-use Rattle.rkyv_btree_shape.specs.Tree.{Tree, leaf, inner, Row, last, step, Child, absent, child, list}
+use Rattle.rkyv_btree_shape.specs.Tree.{list}
 use Rattle.rkyv_btree_writer.specs.Writing.{Writing, position, Write, Wrote, Refused, last_end}
 use Rattle.rkyv_btree_image.specs.Entries.{now_of}
-use Rattle.rkyv_btree_image.specs.Written.{ChildStopped, ChildWritten}
+use Rattle.rkyv_btree_image.specs.Written.{ChildWritten}
 use Rattle.rkyv_btree_format.proofs.Sizes.{room_of}
 use Rattle.rkyv_btree_writer.specs.declared.fault.Fault.{Fault}
 use Rattle.rkyv_btree_writer.specs.declared.fault.Fault.TheVariants.{Length, LengthOverflow, PositionOverflow, OffsetOverflow, Writer, Memory, Entry}
-use Rattle.rkyv_btree_image.proofs.Begun.{untouched}
 use Rattle.rkyv_btree_image.proofs.EntriesWritten.{meant, since}
 use Rattle.rkyv_btree_shape.proofs.Mapped.{map_tree, plan_mapped, list_mapped, height_mapped}
 use Rattle.rkyv_btree_shape.proofs.Smallest.{plan_is_left_complete, left_complete_is_smallest}
-use Rattle.rkyv_btree_image.proofs.Untold.{uncounted}
 use Rattle.rkyv_btree_image.proofs.TreesWritten.{tree_grown, tree_spelled}
 use Rattle.rkyv_btree_writer.proofs.WriteRuns.{stopped-behind, stopped-one}
 

@@ -1,6 +1,5 @@
 pub mod Kept
 pub mod Leaves
-pub mod Nodes
 pub mod PointerRuns
 pub mod NodesHeld
 pub mod Resolving

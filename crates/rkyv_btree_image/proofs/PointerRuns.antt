@@ -30,12 +30,6 @@ reach-append at (Some q ∷ xs) ys =
     and-assoc false b c = refl
 
 -- one pointer more
-pub pointers_more : (at i n : ℕ) (qs : List (Option ℕ)) (d q : Option ℕ) (old items new : List ℕ) → i < length qs → q ≡ get_or qs i d → n ≡ at + 4 * i → items ≡ old ++ pointers at (take i qs) → new ≡ items ++ pointers n (q ∷ []) → new ≡ old ++ pointers at (take (i + 1) qs)
-pointers_more at i n qs d q old items new h is place before after =
-    let k : pointers at (take (i + 1) qs) ≡ pointers at (take i qs) ++ pointers n (q ∷ []) =
-    ap (pointers at) (take_more qs i d h) ∙ (pointers-append at (take i qs) (get_or qs i d ∷ []) ∙ ap (λ m. pointers at (take i qs) ++ pointers m (get_or qs i d ∷ [])) (omega (arith, length-take-le i qs (omega arith))) ∙ ap (λ z. pointers at (take i qs) ++ pointers n (z ∷ [])) (sym is)) in
-    after ∙ (ap (λ z. z ++ pointers n (q ∷ [])) before ∙ (append_assoc old (pointers at (take i qs)) (pointers n (q ∷ [])) ∙ ap (λ z. old ++ z) (sym k)))
-
 pub reach_more : (at i n : ℕ) (qs : List (Option ℕ)) (d q : Option ℕ) → i < length qs → q ≡ get_or qs i d → n ≡ at + 4 * i → pointers_reach at (take (i + 1) qs) ≡ (pointers_reach at (take i qs) && pointers_reach n (q ∷ []))
 reach_more at i n qs d q h is place =
     ap (pointers_reach at) (take_more qs i d h) ∙ (reach-append at (take i qs) (get_or qs i d ∷ []) ∙ (ap (λ m. pointers_reach at (take i qs) && pointers_reach m (get_or qs i d ∷ [])) (omega (arith, length-take-le i qs (omega arith))) ∙ ap (λ z. pointers_reach at (take i qs) && pointers_reach n (z ∷ [])) (sym is)))

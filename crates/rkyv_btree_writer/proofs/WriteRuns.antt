@@ -14,7 +14,7 @@ pub appended-append : (xs ys : List Write) → appended (xs ++ ys) ≡ appended 
 appended-append [] ys = refl
 appended-append (x ∷ xs) ys = ap (λ z. x.bytes ++ z) (appended-append xs ys) ∙ sym (append_assoc x.bytes (appended xs) (appended ys))
 
-AllReach-both : (xs ys : List Write) → AllReach xs → AllReach ys → AllReach (xs ++ ys)
+pub AllReach-both : (xs ys : List Write) → AllReach xs → AllReach ys → AllReach (xs ++ ys)
 AllReach-both [] ys g h = h
 AllReach-both (x ∷ xs) ys g h = (g.0, AllReach-both xs ys g.1 h)
 

@@ -5,7 +5,7 @@ use Rattle.rkyv_btree_format.specs.Layout.{layout_of, len_at}
 use Rattle.rkyv_btree_image.specs.Image.{pointers_reach}
 use Rattle.rkyv_btree_format.proofs.Sizes.{room_of}
 use Rattle.rkyv_btree_archive.proofs.Pieces.{inner_put}
-use Rattle.rkyv_btree_archive.proofs.Numbers.{no_less, no_more, ends_before}
+use Rattle.rkyv_btree_archive.proofs.Numbers.{no_more, ends_before}
 use Rattle.rkyv_btree_archive.proofs.node.inner_into.Goals as goal
 
 pub place_entries-requires-clause-count : goal.place_entries-requires-clause-count

@@ -1,4 +1,4 @@
-use Rattle.std.proofs.Common.{◌+◌, ◌≤◌, ◌∙◌, ◌++◌, [], ◌∷◌, List, ℕ, length, map, inl, inr, refl, ap, sym, subst, vec_capacity}
+use Rattle.std.proofs.Common.{◌+◌, ◌≤◌, ◌∙◌, ◌++◌, [], ◌∷◌, List, ℕ, map, inl, inr, refl, ap, sym, subst, vec_capacity}
 use Rattle.std.proofs.lemmas.Result.{err_from_is_err_and}
 use Rattle.rkyv_btree_writer.specs.Padding.{padding}
 use Rattle.rkyv_btree_image.specs.Image.{inner_bytes, inner_write, inner_image}
@@ -11,7 +11,7 @@ use Rattle.rkyv_btree_writer.specs.declared.fault.Fault.{Fault}
 use Rattle.rkyv_btree_writer.specs.declared.fault.Fault.TheVariants.{OffsetOverflow}
 use Rattle.rkyv_btree_image.proofs.NodesWritten.{node_written, node_refused}
 use Rattle.rkyv_btree_archive.proofs.Pieces.{own_long, front_is}
-use Rattle.rkyv_btree_archive.proofs.Numbers.{no_less, no_less_twice, no_more}
+use Rattle.rkyv_btree_archive.proofs.Numbers.{no_less_twice, no_more}
 use Rattle.rkyv_btree_archive.proofs.writes.write_inner.Goals as goal
 
 pub returns-in_err-root-clause-err : goal.returns-in_err-root-clause-err
