@@ -23,7 +23,8 @@ module _ {M N R S : Type 0} (K : Archival M R) (V : Archival N S) where
   -- what the key begins to write; or all that it writes, and then what the value begins to write
   pub data EntryBegins (x : M × N) (from : ℕ) : List Write → Type 0 where
     in_key : {writes : List Write} → K.Begins x.0 from writes → EntryBegins x from writes
-    in_value : {first second : List Write} {r : R} → K.Writes x.0 from first r → V.Begins x.1 (from + length (appended first)) second → EntryBegins x from (first ++ second)
+    in_value : {first second : List Write} {r : R} → K.Writes x.0 from first r
+        → V.Begins x.1 (from + length (appended first)) second → EntryBegins x from (first ++ second)
 
   -- the key's own bytes, then the value's at its place, and zeros wherever nothing stands
   pub record EntryResolves (x : M × N) (r : EntryResolver R S) (at : ℕ) (own : List ℕ) : Type 0 where
@@ -45,5 +46,8 @@ module _ {M N R S : Type 0} (K : Archival M R) (V : Archival N S) where
     fields = λ x r at. K.fields (parts x).0 r.key at ++ V.fields (parts x).1 r.value (at + value_offset K.kind V.kind);
     lengths = λ x. K.lengths (parts x).0 ++ V.lengths (parts x).1;
     Grows = λ x. K.Grows (parts x).0 ⊎ V.Grows (parts x).1;
-    Refuses = λ x from fault. K.Refuses (parts x).0 from fault ⊎ ((first : List Write) × (r : R) × K.Writes (parts x).0 from first r × V.Refuses (parts x).1 (from + length (appended first)) fault);
+    Refuses =
+        λ x from fault. K.Refuses (parts x).0 from fault
+        ⊎ ((first : List Write) × (r : R) × K.Writes (parts x).0 from first r
+        × V.Refuses (parts x).1 (from + length (appended first)) fault);
   }

@@ -4,10 +4,12 @@ ghost use Rattle.rkyv_btree_image.specs.Determined.{IsDetermined};
 ghost use Rattle.rkyv_btree_image.specs.Kept.{OnlyAppended};
 ghost use Rattle.rkyv_btree_portable.specs.Kind.{IsLawful};
 ghost use Rattle.rkyv_btree_portable.specs.Plain.{plain_kind};
-ghost use Rattle.rkyv_btree_portable.specs.Scalars.{u8_kind, u16_kind, u32_kind, u64_kind, i8_kind, i16_kind, i32_kind, i64_kind, bool_kind, unit_kind, char_kind, non_zero_kind};
+ghost use Rattle.rkyv_btree_portable.specs.Scalars.{u8_kind, u16_kind, u32_kind, u64_kind, i8_kind, i16_kind, i32_kind, i64_kind};
+ghost use Rattle.rkyv_btree_portable.specs.Scalars.{bool_kind, unit_kind, char_kind, non_zero_kind};
 ghost use Rattle.rkyv_btree_writer.proofs.Archiving.{native_archived, native_causes};
 ghost use Rattle.rkyv_btree_writer.specs.Causes.{HasCauses};
-ghost use Rattle.rkyv_btree_writer.specs.Archiving.{Archival, BeginsWith, Matches, IsArchived, IsUnresolved, IsUnserialised, Serialises, itself, native_archival};
+ghost use Rattle.rkyv_btree_writer.specs.Archiving.{Archival, BeginsWith, Matches, IsArchived, IsUnresolved, IsUnserialised};
+ghost use Rattle.rkyv_btree_writer.specs.Archiving.{Serialises, itself, native_archival};
 
 use rkyv_btree_portable::check::{Portable, Scalar};
 use rkyv_btree_portable::numbers::{ArchivedU16, ArchivedU32, ArchivedU64};
@@ -63,7 +65,7 @@ pub trait Serialize<W: Writer, A>: Archive {
         ensures err { IfErr result (λ fault.
             IsUnserialised Self.archival self.now (W.state writer.old) fault
             (W.state writer.new)) }
-        // On success no write failed, and whatever refuses, what the writer held stays in front.
+        // On success no write has failed. After any error the contents begin with the old ones.
         ensures went { OnOk result (OnlyAppended (W.state writer.old) (W.state writer.new)) }
         ensures kept { OnErr result (BeginsWith (W.state writer.new) (W.state writer.old)) };
 }

@@ -1,15 +1,12 @@
 //! Building archived maps.
-ghost use Rattle.std.specs.Prelude.{◌≡◌, ℕ, ◌+◌, ◌-◌, ◌*◌, ◌^◌, ◌<◌, ◌≤◌, ◌↔◌, List, [], length, map, true, false, vec_capacity, alloc_error, IsOk, OnOk, OnErr, IfOk, IfErr, IsErrOf, IsTrue};
-ghost use Rattle.std.specs.Iterator.{Yields, Drains, IsFinite, UpTo, size};
+ghost use Rattle.std.specs.Prelude.{◌≡◌, ℕ, ◌+◌, ◌-◌, ◌*◌, ◌^◌, ◌<◌, ◌≤◌, ◌↔◌, length, map, true, alloc_error, IsOk, OnOk, OnErr, IfOk, IfErr, IsErrOf, IsTrue};
+ghost use Rattle.std.specs.Iterator.{UpTo};
 ghost use Rattle.rkyv_btree_writer.specs.Archiving.{BeginsWith};
 ghost use Rattle.rkyv_btree_image.specs.Archives.{SerialisedIsAccepted, EmptyIsAccepted, WrittenIsHeld};
 ghost use Rattle.rkyv_btree_image.specs.Alike.{TreesAreDetermined};
-ghost use Rattle.rkyv_btree_image.specs.Entries.{now_of};
-ghost use Rattle.rkyv_btree_image.specs.Written.{ChildWritten, ChildStopped};
 ghost use Rattle.rkyv_btree_image.specs.Image.{root_bytes, root_reaches, root_image};
 ghost use Rattle.rkyv_btree_format.specs.Layout.{layout_of, are_fitting};
 ghost use Rattle.rkyv_btree_shape.specs.Logarithm.{ilog};
-ghost use Rattle.rkyv_btree_shape.specs.Plan.{planned_alone};
 ghost use Rattle.rkyv_btree_portable.specs.Rounding.{round_up};
 ghost use Rattle.rkyv_btree_image.specs.OneTree.{BuildsOneTree};
 ghost use Rattle.rkyv_btree_archive.specs.mirror.Scratch.{IsFree, IsReserved};

@@ -1,7 +1,7 @@
 //! The bytes of nodes.
-ghost use Rattle.std.specs.Prelude.{◌≡◌, ◌+◌, ◌*◌, ◌≤◌, [], ◌∷◌, ◌++◌, length, map, drop, true, vec_len, vec_capacity, IsTrue, ℕ, List, OnOk, IfErr};
+ghost use Rattle.std.specs.Prelude.{◌≡◌, ◌+◌, ◌*◌, ◌≤◌, [], ◌∷◌, ◌++◌, length, map, drop, true, vec_capacity, IsTrue, ℕ, List, OnOk, IfErr};
 ghost use Rattle.std.specs.List.{flat_map, splice};
-ghost use Rattle.rkyv_btree_portable.specs.Bytes.{filled, zeros};
+ghost use Rattle.rkyv_btree_portable.specs.Bytes.{filled};
 ghost use Rattle.rkyv_btree_image.specs.Image.{entry_bytes, leaf_bytes, pointers, pointers_reach, inner_bytes};
 ghost use Rattle.rkyv_btree_format.specs.Layout.{layout_of, are_fitting, len_at, leaf_size, inner_size};
 ghost use Rattle.rkyv_btree_writer.specs.Archiving.{IsUnresolved};
@@ -334,7 +334,9 @@ where
         ((owns : List OwnBytes)
         × EntriesResolved (layout_of K.kind V.kind E) KU.archival VU.archival pos
         (map now_of entries.now) keys.old.items values.old.items owns
-        × (node.new ≡ leaf_bytes (layout_of K.kind V.kind E) owns ++ drop (leaf_size (layout_of K.kind V.kind E)) node.old)) }
+        × (node.new
+        ≡ leaf_bytes (layout_of K.kind V.kind E) owns
+        ++ drop (leaf_size (layout_of K.kind V.kind E)) node.old)) }
     ensures spent { OnOk result ((keys.new.items ≡ []) × (values.new.items ≡ [])) }
     ensures key_room { vec_capacity keys.old ≤ vec_capacity keys.new }
     ensures value_room { vec_capacity values.old ≤ vec_capacity values.new }
@@ -372,7 +374,9 @@ where
         ((owns : List OwnBytes)
         × EntriesResolved (layout_of K.kind V.kind E) KU.archival VU.archival pos
         (map now_of entries.now) keys.old.items values.old.items owns
-        × (node.new.items ≡ leaf_bytes (layout_of K.kind V.kind E) owns ++ drop (leaf_size (layout_of K.kind V.kind E)) node.old.items)) }
+        × (node.new.items
+        ≡ leaf_bytes (layout_of K.kind V.kind E) owns
+        ++ drop (leaf_size (layout_of K.kind V.kind E)) node.old.items)) }
     ensures len { length node.new.items ≡ length node.old.items }
     ensures spent { OnOk result ((keys.new.items ≡ []) × (values.new.items ≡ [])) }
     ensures key_room { vec_capacity keys.old ≤ vec_capacity keys.new }

@@ -123,9 +123,12 @@ impl<KU: Archive + Ord> Archive for BTreeSet<KU> {
 
     ghost lawful = { map_laws KU.archival.kind unit_kind 5 KU.lawful unit_laws };
 
-    ghost archived = { tree_archived 5 KU.archival unit_archival KU.lawful unit_laws KU.archived (native_archived unit_form unit_faithful) (λ set. with_units set.keys) };
+    ghost archived = { tree_archived 5 KU.archival unit_archival KU.lawful unit_laws KU.archived
+        (native_archived unit_form unit_faithful) (λ set. with_units set.keys) };
 
-    ghost causes = { tree_causes 5 KU.archival unit_archival KU.lawful unit_laws KU.archived (native_archived unit_form unit_faithful) (λ set. with_units set.keys) KU.causes (native_causes unit_form) };
+    ghost causes = { tree_causes 5 KU.archival unit_archival KU.lawful unit_laws KU.archived
+        (native_archived unit_form unit_faithful) (λ set. with_units set.keys) KU.causes
+        (native_causes unit_form) };
 }
 
 impl<W: Writer, A: Allocator + Copy, KU: Serialize<W, A> + Ord> Serialize<W, A> for BTreeSet<KU> {

@@ -1,4 +1,4 @@
-//! Text, archived by its bytes and, behind them, an offset to these and their number.
+//! Text, archived as its bytes, and after them an offset to these and their number.
 ghost use Rattle.std.specs.Prelude.{◌≡◌, ℕ, ◌+◌, ◌≤◌, ◌<◌, length, string_bytes, IfSome, IfNone, OnOk, IfErr, IsErrOf, ◌↔◌};
 ghost use Rattle.std.specs.declared.alloc.Global.{Global};
 ghost use Rattle.rkyv_btree_writer.specs.Archiving.{IsUnresolved, itself};
@@ -66,9 +66,9 @@ impl Archive for String {
 }
 
 impl<W: Writer, A: Drop> Serialize<W, A> for String {
-    /// Writes the text's bytes in one write, with no padding before them, and answers the position where they start. The
-    /// empty text makes no write. A text that would start or end past position 4294967295 is `PositionOverflow`, and the
-    /// writer is as it was.
+    /// Writes the text's bytes in one write, with no padding before them, and returns the position where they start. The empty
+    /// text makes no write. If a text would start or end past position 4294967295, the error is `PositionOverflow`, and the
+    /// writer is unchanged.
     fn serialize(&self, _alloc: A, writer: &mut W) -> Result<u32, Fault<W::Error>> {
         let start = writer.pos();
         if start > LAST_END {

@@ -45,7 +45,7 @@ impl<'r, KU: Archive, VU: Archive> Archive for EntryAdapter<'r, KU, VU> {
 
     ghost archival = { entry_archival KU.archival VU.archival both_now };
 
-    /// Resolves the key, and then the value. The bytes between and behind them become zero.
+    /// Resolves the key, and then the value. The bytes between and after them become zero.
     fn resolve(
         &self,
         resolver: EntryResolver<KU::Resolver, VU::Resolver>,
@@ -83,7 +83,7 @@ impl<'r, KU: Archive, VU: Archive> Archive for EntryAdapter<'r, KU, VU> {
 
 impl<'r, W: Writer, A: Copy, KU: Serialize<W, A>, VU: Serialize<W, A>> Serialize<W, A>
     for EntryAdapter<'r, KU, VU> {
-    /// Makes the key's writes, and then the value's. Where the value is refused, the key's are made.
+    /// Makes the key's writes, and then the value's. If the value fails, the key's writes remain.
     fn serialize(
         &self,
         alloc: A,

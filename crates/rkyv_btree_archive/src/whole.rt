@@ -37,8 +37,8 @@ fn own_bytes<T: Archive, W, A: Allocator>(
     }
 }
 
-/// Writes the own bytes of a serialised value behind zeros up to its alignment, and answers their position. After an
-/// error what was written stays.
+/// Writes zeros up to the alignment of a serialized value and then its own bytes, and returns their position. After an error
+/// what was written remains.
 pub fn write_value<T: Archive, W: Writer, A: Allocator>(
     alloc: A,
     value: &T,
@@ -63,8 +63,8 @@ pub fn write_value<T: Archive, W: Writer, A: Allocator>(
     Ok(pos as u32)
 }
 
-/// The archive of a value: what it writes from position 0 on, zeros up to its alignment, and its own bytes at the end.
-/// The caller owes that the type fits, which `fits` of its archived type tells.
+/// Returns the archive of a value: what it writes from position 0 on, zeros up to its alignment, and its own bytes at the end.
+/// The precondition is that the type fits, which `fits` of its archived type returns.
 pub fn to_archive<T: Serialize<VecWriter, Global>>(
     alloc: Global,
     value: &T,

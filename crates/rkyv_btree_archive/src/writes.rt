@@ -1,12 +1,10 @@
 //! The writes of whole nodes.
 ghost use Rattle.std.specs.Prelude.{ℕ, List, ◌≡◌, ◌+◌, ◌<◌, ◌≤◌, [], ◌∷◌, ◌++◌, length, map, vec_capacity, OnOk, IfOk, IfErr, IsTrue};
-ghost use Rattle.rkyv_btree_writer.specs.Padding.{padding};
 ghost use Rattle.rkyv_btree_image.specs.Image.{leaf_image, inner_image};
 ghost use Rattle.rkyv_btree_portable.specs.InPlace.{OwnBytes};
 ghost use Rattle.rkyv_btree_format.specs.Layout.{layout_of, are_fitting, leaf_size, inner_size};
-ghost use Rattle.rkyv_btree_portable.specs.Rounding.{round_up};
 ghost use Rattle.rkyv_btree_archive.specs.mirror.Scratch.{IsFree};
-ghost use Rattle.rkyv_btree_writer.specs.Writing.{Write, position, Appended, Wrote, Refused, Stopped, last_end};
+ghost use Rattle.rkyv_btree_writer.specs.Writing.{Write, position, last_end};
 ghost use Rattle.rkyv_btree_image.specs.Entries.{as_fault, now_of};
 ghost use Rattle.rkyv_btree_image.specs.Written.{IsPadded, NodeWritten, NodeStopped};
 

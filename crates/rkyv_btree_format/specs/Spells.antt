@@ -25,13 +25,19 @@ module _ (K V : Kind) (E : ℕ) (b : List ℕ) where
   -- it left; the first starts its window at lo, the last leaves lo2
   abbrev pub Entries : ℕ → ℕ → ℕ → ℕ → List (K.Value × V.Value) → Type 0
   Entries p i lo lo2 [] = lo2 ≡ lo
-  Entries p i lo lo2 (e ∷ es) = (mid : ℕ) × (next : ℕ) × K.Means b lo p (p + key_at (layout_of K V E) i) mid e.0 × V.Means b mid p (p + value_at (layout_of K V E) i) next e.1 × Entries p (i + 1) next lo2 es
+  Entries p i lo lo2 (e ∷ es) =
+      (mid : ℕ) × (next : ℕ) × K.Means b lo p (p + key_at (layout_of K V E) i) mid e.0
+      × V.Means b mid p (p + value_at (layout_of K V E) i) next e.1 × Entries p (i + 1) next lo2 es
 
   -- the node at p spells a tree in the window from lo to hi
   abbrev mutual
     pub Spells : ℕ → ℕ → ℕ → Tree (K.Value × V.Value) → Type 0
-    Spells lo hi p (leaf m) = IsNodeAt (layout_of K V E) b lo hi p 0 (leaf_size (layout_of K V E)) × (number_at b (p + len_at (layout_of K V E)) 4 ≡ length m) × (length m ≤ E) × (lo2 : ℕ) × Entries p 0 lo lo2 m
-    Spells lo hi p (inner row) = IsNodeAt (layout_of K V E) b lo hi p 1 (inner_size (layout_of K V E)) × (length (row_entries row) ≡ E) × (mid : ℕ) × SpellsRow p 0 lo mid row × (lo2 : ℕ) × Entries p 0 mid lo2 (row_entries row)
+    Spells lo hi p (leaf m) =
+        IsNodeAt (layout_of K V E) b lo hi p 0 (leaf_size (layout_of K V E))
+        × (number_at b (p + len_at (layout_of K V E)) 4 ≡ length m) × (length m ≤ E) × (lo2 : ℕ) × Entries p 0 lo lo2 m
+    Spells lo hi p (inner row) =
+        IsNodeAt (layout_of K V E) b lo hi p 1 (inner_size (layout_of K V E)) × (length (row_entries row) ≡ E) × (mid : ℕ)
+        × SpellsRow p 0 lo mid row × (lo2 : ℕ) × Entries p 0 mid lo2 (row_entries row)
 
     -- its pointers from number i on spell the children of a row: the first starts its window at lo, the last leaves mid
     pub SpellsRow : ℕ → ℕ → ℕ → ℕ → Row (K.Value × V.Value) → Type 0
@@ -41,7 +47,9 @@ module _ (K V : Kind) (E : ℕ) (b : List ℕ) where
     -- its pointer number i spells a child in the window from lo to p, and leaves next
     pub SpellsChild : ℕ → ℕ → ℕ → ℕ → Child (K.Value × V.Value) → Type 0
     SpellsChild p i lo next absent = (target_at b (p + pointer_at (layout_of K V E) i) ≡ None) × (next ≡ lo)
-    SpellsChild p i lo next (child t) = (q : ℕ) × (target_at b (p + pointer_at (layout_of K V E) i) ≡ Some (pos q)) × Spells lo p q t × (next ≡ q + root_size (layout_of K V E) t)
+    SpellsChild p i lo next (child t) =
+        (q : ℕ) × (target_at b (p + pointer_at (layout_of K V E) i) ≡ Some (pos q)) × Spells lo p q t
+        × (next ≡ q + root_size (layout_of K V E) t)
 
   -- the root at a place: a tree of at most 32 levels with so many entries as the length says
   pub record SpellsRoot (lo hi at lo2 : ℕ) (m : List (K.Value × V.Value)) : Type 0 where

@@ -1,6 +1,7 @@
 //! Sizes and offsets of nodes. Offsets count from the node's first byte, which is its kind.
 ghost use Rattle.std.specs.Prelude.{◌≡◌, ◌+◌, ◌-◌, ◌≤◌, ◌<◌, ◌^◌, IsTrue};
-ghost use Rattle.rkyv_btree_format.specs.Layout.{layout_of, are_fitting, keys_at, values_at, key_at, value_at, node_align, node_size, align, len_at, leaf_size, pointer_at, inner_size};
+ghost use Rattle.rkyv_btree_format.specs.Layout.{layout_of, are_fitting, keys_at, values_at, key_at, value_at, node_align};
+ghost use Rattle.rkyv_btree_format.specs.Layout.{node_size, align, len_at, leaf_size, pointer_at, inner_size};
 ghost use Rattle.rkyv_btree_portable.specs.Rounding.{round_up};
 
 use rkyv_btree_portable::check::Portable;

@@ -20,7 +20,9 @@ entry_meaning K V x = (K.meaning x.0, V.meaning x.1)
 -- from one position, lists that mean the same append the same bytes by every writer, and have the same root
 abbrev pub BuildsAlike : {M N R S : Type 0} → NodeLayout → Archival M R → Archival N S → Type 0
 BuildsAlike {M} {N} s K V =
-    (from to start end : Writing) (xs ys : List (M × N)) (root place : ℕ) → position from ≡ position start → map (entry_meaning K V) xs ≡ map (entry_meaning K V) ys → Built s K V from xs root to → Built s K V start ys place end → (root ≡ place) × AppendAlike from to start end
+    (from to start end : Writing) (xs ys : List (M × N)) (root place : ℕ) → position from ≡ position start
+    → map (entry_meaning K V) xs ≡ map (entry_meaning K V) ys → Built s K V from xs root to → Built s K V start ys place end
+    → (root ≡ place) × AppendAlike from to start end
 
 -- where what keys and values mean determines how they are archived, so it does for trees
 abbrev pub TreesAreDetermined : {M N R S : Type 0} → Kind → Kind → ℕ → Archival M R → Archival N S → Type 0

@@ -28,12 +28,15 @@ pub record HoldsArchive (b : List ℕ) (from to : Writing) (root at len : ℕ) :
 -- A writer from position 0 on appended a tree, and then the map over its root node: what it holds now is that archive.
 abbrev pub WrittenIsHeld : Type 0
 WrittenIsHeld =
-    (from mid to : Writing) (root len : ℕ) → from.base ≡ 0 → OnlyAppended from mid → Wrote mid (root_image (position mid) root len) to → position to ≤ last_end → HoldsArchive to.contents from mid root (round_up (position mid) 4) len
+    (from mid to : Writing) (root len : ℕ) → from.base ≡ 0 → OnlyAppended from mid
+    → Wrote mid (root_image (position mid) root len) to → position to ≤ last_end
+    → HoldsArchive to.contents from mid root (round_up (position mid) 4) len
 
 -- a buffer that holds a serialised tree, and behind it the map with its length, is a map of the tree's list there
 abbrev pub SerialisedIsAccepted : Kind → Kind → ℕ → Type 0
 SerialisedIsAccepted K V E =
-    (b : List ℕ) (from to : Writing) (m : List (K.Value × V.Value)) (root at : ℕ) (spelled : Spelled K V E from m root to) → 0 < length m → length m ≤ last_end → root_reaches at root (length m) ≡ true →
+    (b : List ℕ) (from to : Writing) (m : List (K.Value × V.Value)) (root at : ℕ) (spelled : Spelled K V E from m root to)
+    → 0 < length m → length m ≤ last_end → root_reaches at root (length m) ≡ true →
     Holds b (position from) spelled.appended → position to ≤ at → HoldsRoot b at root (length m) → (left : ℕ) × Accepted K V E b 0 at at left m
 
 -- a buffer that holds a map of length 0 is the empty map there

@@ -13,7 +13,8 @@ use Rattle.rkyv_btree_image.specs.Written.{NodeWritten, RowWritten, ChildWritten
 module _ {M N R S : Type 0} (s : NodeLayout) (K : Archival M R) (V : Archival N S) where
   -- the first of a node's entries were serialised, or the whole node was written
   pub data NodeBegun (image : ℕ → List OwnBytes → List Write) (size : ℕ) (from : Writing) (xs : List (M × N)) (to : Writing) : Type 0 where
-    between : (first others : List (M × N)) (keys : List R) (values : List S) → xs ≡ first ++ others → AreSerialised K V from first keys values to → NodeBegun image size from xs to
+    between : (first others : List (M × N)) (keys : List R) (values : List S) → xs ≡ first ++ others
+        → AreSerialised K V from first keys values to → NodeBegun image size from xs to
     whole : (root : ℕ) → NodeWritten s K V image size from xs root to → NodeBegun image size from xs to
 
   abbrev mutual
@@ -21,7 +22,8 @@ module _ {M N R S : Type 0} (s : NodeLayout) (K : Archival M R) (V : Archival N 
     TreeBegun from (leaf xs) to = NodeBegun (leaf_image s) (leaf_size s) from xs to
     TreeBegun from (inner row) to =
         RowBegun from row to
-        ⊎ ((roots : List (Option ℕ)) × (mid : Writing) × RowWritten s K V from row roots mid × NodeBegun (λ at owns. inner_image s at owns roots) (inner_size s) mid (row_entries row) to)
+        ⊎ ((roots : List (Option ℕ)) × (mid : Writing) × RowWritten s K V from row roots mid
+        × NodeBegun (λ at owns. inner_image s at owns roots) (inner_size s) mid (row_entries row) to)
 
     pub RowBegun : Writing → Row (M × N) → Writing → Type 0
     RowBegun from (last c) to = ChildBegun from c to

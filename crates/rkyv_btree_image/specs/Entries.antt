@@ -24,13 +24,16 @@ pub record IsSerialised {X R : Type 0} (T : Archival X R) (from : Writing) (x : 
 abbrev pub AreResolved : {X R : Type 0} → Archival X R → ℕ → List X → List R → List (List ℕ) → Type 0
 AreResolved T at [] rs owns = (rs ≡ []) × (owns ≡ [])
 AreResolved {X} {R} T at (x ∷ xs) rs owns =
-    (r : R) × (others : List R) × (own : List ℕ) × (rest : List (List ℕ)) × T.Resolves x r at own × AreResolved T (at + T.kind.size) xs others rest × (rs ≡ r ∷ others) × (owns ≡ own ∷ rest)
+    (r : R) × (others : List R) × (own : List ℕ) × (rest : List (List ℕ)) × T.Resolves x r at own
+    × AreResolved T (at + T.kind.size) xs others rest × (rs ≡ r ∷ others) × (owns ≡ own ∷ rest)
 
 -- the same up to a value that isn't resolved
 abbrev pub AreUnresolved : {X R : Type 0} → Archival X R → ℕ → List X → List R → ResolveFault → Type 0
 AreUnresolved T at [] rs fault = ⊥
 AreUnresolved {X} {R} T at (x ∷ xs) rs fault =
-    (r : R) × (others : List R) × (rs ≡ r ∷ others) × (IsUnresolved T x r at fault ⊎ ((own : List ℕ) × T.Resolves x r at own × AreUnresolved T (at + T.kind.size) xs others fault))
+    (r : R) × (others : List R) × (rs ≡ r ∷ others)
+    × (IsUnresolved T x r at fault
+    ⊎ ((own : List ℕ) × T.Resolves x r at own × AreUnresolved T (at + T.kind.size) xs others fault))
 
 -- the fault of serialising that a fault of resolving is
 abbrev pub as_fault : {E : Type 0} → ResolveFault → Fault E
@@ -46,7 +49,9 @@ module _ {M N R S : Type 0} (K : Archival M R) (V : Archival N S) where
   abbrev pub AreSerialised : Writing → List (M × N) → List R → List S → Writing → Type 0
   AreSerialised from [] rs ss to = (to ≡ from) × (rs ≡ []) × (ss ≡ [])
   AreSerialised from (x ∷ xs) rs ss to =
-      (r : R) × (r2 : S) × (others : List R) × (others2 : List S) × (mid : Writing) × (next : Writing) × IsSerialised K from x.0 r mid × IsSerialised V mid x.1 r2 next × AreSerialised next xs others others2 to × (rs ≡ r ∷ others) × (ss ≡ r2 ∷ others2)
+      (r : R) × (r2 : S) × (others : List R) × (others2 : List S) × (mid : Writing) × (next : Writing)
+      × IsSerialised K from x.0 r mid × IsSerialised V mid x.1 r2 next × AreSerialised next xs others others2 to
+      × (rs ≡ r ∷ others) × (ss ≡ r2 ∷ others2)
 
   -- the same up to a key or value that isn't serialised
   abbrev pub AreUnserialised : {E : Type 0} → Writing → List (M × N) → Fault E → Writing → Type 0
@@ -54,7 +59,8 @@ module _ {M N R S : Type 0} (K : Archival M R) (V : Archival N S) where
   AreUnserialised {E} from (x ∷ xs) fault to =
       IsUnserialised K x.0 from fault to
       ⊎ (((r : R) × (mid : Writing) × IsSerialised K from x.0 r mid × IsUnserialised V x.1 mid fault to)
-      ⊎ ((r : R) × (r2 : S) × (mid : Writing) × (next : Writing) × IsSerialised K from x.0 r mid × IsSerialised V mid x.1 r2 next × AreUnserialised next xs fault to))
+      ⊎ ((r : R) × (r2 : S) × (mid : Writing) × (next : Writing) × IsSerialised K from x.0 r mid
+      × IsSerialised V mid x.1 r2 next × AreUnserialised next xs fault to))
 
 module _ {M N R S : Type 0} (s : NodeLayout) (K : Archival M R) (V : Archival N S) where
   -- the own bytes of entries in the node at a place
@@ -64,10 +70,13 @@ module _ {M N R S : Type 0} (s : NodeLayout) (K : Archival M R) (V : Archival N 
 
   -- a key or value of theirs isn't resolved
   abbrev pub EntriesUnresolved : ℕ → List (M × N) → List R → List S → ResolveFault → Type 0
-  EntriesUnresolved root xs keys values fault = AreUnresolved K (root + key_at s 0) (map (λ x. x.0) xs) keys fault ⊎ AreUnresolved V (root + value_at s 0) (map (λ x. x.1) xs) values fault
+  EntriesUnresolved root xs keys values fault =
+      AreUnresolved K (root + key_at s 0) (map (λ x. x.0) xs) keys fault
+      ⊎ AreUnresolved V (root + value_at s 0) (map (λ x. x.1) xs) values fault
 
   -- they aren't, or a pointer of their inner node doesn't reach
   abbrev pub InnerUnfilled : ℕ → List (M × N) → List R → List S → List (Option ℕ) → ResolveFault → Type 0
   InnerUnfilled root xs keys values roots fault =
       EntriesUnresolved root xs keys values fault
-      ⊎ ((owns : List OwnBytes) × EntriesResolved root xs keys values owns × (fault ≡ resolving.OffsetOverflow) × (pointers_reach (root + len_at s) roots ≡ false))
+      ⊎ ((owns : List OwnBytes) × EntriesResolved root xs keys values owns × (fault ≡ resolving.OffsetOverflow)
+      × (pointers_reach (root + len_at s) roots ≡ false))

@@ -42,7 +42,9 @@ module _ {M N R S : Type 0} (K : Archival M R) (V : Archival N S) where
   abbrev pub EntriesImage : ℕ → List (M × N) → List Write → List R → List S → Type 0
   EntriesImage from [] writes keys values = (writes ≡ []) × (keys ≡ []) × (values ≡ [])
   EntriesImage from (x ∷ xs) writes keys values =
-      (own : List Write) × (rest : List Write) × (r : R) × (q : S) × (others : List R) × (others2 : List S) × EntryImage from x own r q × EntriesImage (end_of from own) xs rest others others2 × (writes ≡ own ++ rest) × (keys ≡ r ∷ others) × (values ≡ q ∷ others2)
+      (own : List Write) × (rest : List Write) × (r : R) × (q : S) × (others : List R) × (others2 : List S)
+      × EntryImage from x own r q × EntriesImage (end_of from own) xs rest others others2 × (writes ≡ own ++ rest)
+      × (keys ≡ r ∷ others) × (values ≡ q ∷ others2)
 
   -- the first entries are written, and then comes what is told of a key, or its writes and what is told of its value
   module _ (Key : M → ℕ → List Write → Type 0) (Value : N → ℕ → List Write → Type 0) where
@@ -50,8 +52,10 @@ module _ {M N R S : Type 0} (K : Archival M R) (V : Archival N S) where
     EntriesUpTo from [] writes = ⊥
     EntriesUpTo from (x ∷ xs) writes =
         Key x.0 from writes
-        ⊎ (((first : List Write) × (second : List Write) × (r : R) × K.Writes x.0 from first r × Value x.1 (end_of from first) second × (writes ≡ first ++ second))
-        ⊎ ((own : List Write) × (rest : List Write) × (r : R) × (q : S) × EntryImage from x own r q × EntriesUpTo (end_of from own) xs rest × (writes ≡ own ++ rest)))
+        ⊎ (((first : List Write) × (second : List Write) × (r : R) × K.Writes x.0 from first r
+        × Value x.1 (end_of from first) second × (writes ≡ first ++ second))
+        ⊎ ((own : List Write) × (rest : List Write) × (r : R) × (q : S) × EntryImage from x own r q
+        × EntriesUpTo (end_of from own) xs rest × (writes ≡ own ++ rest)))
 
   -- what entries begin to write
   abbrev pub EntriesBegin : ℕ → List (M × N) → List Write → Type 0
@@ -78,12 +82,16 @@ module _ {M N R S : Type 0} (s : NodeLayout) (K : Archival M R) (V : Archival N 
     pub TreeImage : ℕ → Tree (M × N) → List Write → ℕ → Type 0
     TreeImage from (leaf xs) writes root = NodeImage (leaf_image s) from xs writes root
     TreeImage from (inner row) writes root =
-        (before : List Write) × (node : List Write) × (roots : List (Option ℕ)) × RowImage from row before roots × NodeImage (λ at owns. inner_image s at owns roots) (end_of from before) (row_entries row) node root × (writes ≡ before ++ node)
+        (before : List Write) × (node : List Write) × (roots : List (Option ℕ)) × RowImage from row before roots
+        × NodeImage (λ at owns. inner_image s at owns roots) (end_of from before) (row_entries row) node root
+        × (writes ≡ before ++ node)
 
     pub RowImage : ℕ → Row (M × N) → List Write → List (Option ℕ) → Type 0
     RowImage from (last c) writes roots = (root : Option ℕ) × ChildImage from c writes root × (roots ≡ root ∷ [])
     RowImage from (step c x row) writes roots =
-        (first : List Write) × (rest : List Write) × (root : Option ℕ) × (others : List (Option ℕ)) × ChildImage from c first root × RowImage (end_of from first) row rest others × (writes ≡ first ++ rest) × (roots ≡ root ∷ others)
+        (first : List Write) × (rest : List Write) × (root : Option ℕ) × (others : List (Option ℕ))
+        × ChildImage from c first root × RowImage (end_of from first) row rest others × (writes ≡ first ++ rest)
+        × (roots ≡ root ∷ others)
 
     pub ChildImage : ℕ → Child (M × N) → List Write → Option ℕ → Type 0
     ChildImage from absent writes root = (writes ≡ []) × (root ≡ None)
@@ -97,12 +105,16 @@ module _ {M N R S : Type 0} (s : NodeLayout) (K : Archival M R) (V : Archival N 
       TreeUpTo from (leaf xs) writes = Node (leaf_image s) (leaf_size s) from xs writes
       TreeUpTo from (inner row) writes =
           RowUpTo from row writes
-          ⊎ ((before : List Write) × (node : List Write) × (roots : List (Option ℕ)) × RowImage from row before roots × Node (λ at owns. inner_image s at owns roots) (inner_size s) (end_of from before) (row_entries row) node × (writes ≡ before ++ node))
+          ⊎ ((before : List Write) × (node : List Write) × (roots : List (Option ℕ)) × RowImage from row before roots
+          × Node (λ at owns. inner_image s at owns roots) (inner_size s) (end_of from before) (row_entries row) node
+          × (writes ≡ before ++ node))
 
       pub RowUpTo : ℕ → Row (M × N) → List Write → Type 0
       RowUpTo from (last c) writes = ChildUpTo from c writes
       RowUpTo from (step c x row) writes =
-          ChildUpTo from c writes ⊎ ((first : List Write) × (rest : List Write) × (root : Option ℕ) × ChildImage from c first root × RowUpTo (end_of from first) row rest × (writes ≡ first ++ rest))
+          ChildUpTo from c writes
+          ⊎ ((first : List Write) × (rest : List Write) × (root : Option ℕ) × ChildImage from c first root
+          × RowUpTo (end_of from first) row rest × (writes ≡ first ++ rest))
 
       pub ChildUpTo : ℕ → Child (M × N) → List Write → Type 0
       ChildUpTo from absent writes = ⊥
@@ -113,7 +125,9 @@ module _ {M N R S : Type 0} (s : NodeLayout) (K : Archival M R) (V : Archival N 
   pub data NodeBegins (image : ℕ → List OwnBytes → List Write) (size : ℕ) (from : ℕ) (xs : List (M × N)) (writes : List Write) : Type 0 where
     of_entries : EntriesBegin K V from xs writes → NodeBegins image size from xs writes
     of_node : (root : ℕ) → NodeImage image from xs writes root → NodeBegins image size from xs writes
-    of_unresolved : (keys : List R) (values : List S) (before : List Write) (cause : ResolveFault) → EntriesImage K V from xs before keys values → EntriesUnresolved s K V (round_up (end_of from before) (align s)) xs keys values cause →
+    of_unresolved : (keys : List R) (values : List S) (before : List Write) (cause : ResolveFault)
+        → EntriesImage K V from xs before keys values
+        → EntriesUnresolved s K V (round_up (end_of from before) (align s)) xs keys values cause →
         writes ≡ before ++ (padding (align s) (end_of from before) ++ unresolved_write cause size ∷ []) → NodeBegins image size from xs writes
 
   -- what a child begins to write

@@ -18,11 +18,13 @@ use Rattle.rkyv_btree_writer.specs.declared.fault.Fault.{Fault}
 use Rattle.rkyv_btree_writer.specs.declared.fault.Fault.TheVariants.{Length, LengthOverflow, PositionOverflow, OffsetOverflow, Writer, Memory, Entry}
 
 -- what an item means
-abbrev pub meaning_of : {M N R S : Type 0} (K V : Kind) (KA : Archival M R) (VA : Archival N S) → Matches KA.kind K → Matches VA.kind V → Bor M × Bor N → K.Value × V.Value
+abbrev pub meaning_of : {M N R S : Type 0} (K V : Kind) (KA : Archival M R) (VA : Archival N S) → Matches KA.kind K
+    → Matches VA.kind V → Bor M × Bor N → K.Value × V.Value
 meaning_of K V KA VA key value x = (key.to (KA.meaning x.0.now), value.to (VA.meaning x.1.now))
 
 -- between two states the tree of these entries was written, whose node is at the root, or at position 0 if there is none
-pub record Built {M N R S : Type 0} (s : NodeLayout) (KA : Archival M R) (VA : Archival N S) (from : Writing) (xs : List (M × N)) (root : ℕ) (t : Writing) : Type 0 where
+pub record Built {M N R S : Type 0} (s : NodeLayout) (KA : Archival M R) (VA : Archival N S) (from : Writing)
+    (xs : List (M × N)) (root : ℕ) (t : Writing) : Type 0 where
   pub place : Option ℕ
   pub written : ChildWritten s KA VA from (planned_alone s.E xs) place t
   pub root_is : root ≡ unwrap_or place 0
@@ -36,7 +38,8 @@ pub record Spelled (K V : Kind) (E : ℕ) (from : Writing) (m : List (K.Value ×
   pub levels : height tree ≤ 32
   pub appended : List ℕ
   pub contents : t.contents ≡ from.contents ++ appended
-  pub spelled : (b : List ℕ) → length b ≤ 4294967295 → Holds b (position from) appended → position t ≤ length b → Spells K V E b (position from) (position t) root tree
+  pub spelled : (b : List ℕ) → length b ≤ 4294967295 → Holds b (position from) appended → position t ≤ length b
+      → Spells K V E b (position from) (position t) root tree
 
 -- items are the first of a list of as many entries as claimed
 pub record BeginClaimed {M N : Type 0} (items : List (Bor M × Bor N)) (claim : ℕ) (xs : List (M × N)) : Type 0 where
@@ -74,7 +77,8 @@ module _ {M N R S P : Type 0} (K V : Kind) (E : ℕ) (KA : Archival M R) (VA : A
     -- of none nothing is written; of too few a beginning of the tree of a list of as many entries as claimed, of which
     -- they are the first; of too many the tree of as many as claimed
     pub none : items ≡ [] → t ≡ from
-    pub few : 0 < length items → length items < claim → (xs : List (M × N)) × BeginClaimed items claim xs × ChildBegun (layout_of K V E) KA VA from (planned_alone E xs) t
+    pub few : 0 < length items → length items < claim → (xs : List (M × N)) × BeginClaimed items claim xs
+        × ChildBegun (layout_of K V E) KA VA from (planned_alone E xs) t
     pub many : claim < length items → (place : Option ℕ) × ChildWritten (layout_of K V E) KA VA from (planned_alone E (map now_of (take claim items))) place t
 
   -- each fault's cause, and what it leaves
@@ -87,7 +91,8 @@ module _ {M N R S P : Type 0} (K V : Kind) (E : ℕ) (KA : Archival M R) (VA : A
   BuildFault {X} iter claim from (Memory error) t = (t ≡ from) ⊎ StoppedBuilding {X = X} iter claim from (Memory error) t
   BuildFault {X} iter claim from (Entry fault) t = StoppedBuilding {X = X} iter claim from (Entry fault) t
 
-module _ {M N R S P Q : Type 0} (K V : Kind) (E : ℕ) (KA : Archival M R) (VA : Archival N S) (steps : P → Option (Bor M × Bor N) → P → Type 0) (iter : P) (claim : ℕ) (state : Q → Writing) (before after : Q) where
+module _ {M N R S P Q : Type 0} (K V : Kind) (E : ℕ) (KA : Archival M R) (VA : Archival N S)
+    (steps : P → Option (Bor M × Bor N) → P → Type 0) (iter : P) (claim : ℕ) (state : Q → Writing) (before after : Q) where
   -- between two states of a writer the tree was built, whose node is at the root
   abbrev pub BuildsTree : ℕ → Type 0
   BuildsTree root = Serialised K V E KA VA steps iter claim (state before) root (state after)

@@ -28,14 +28,16 @@ unit_entries keys = map (λ k. (k.now, tt)) keys
 abbrev pub entries_by : {M P : Type 0} → (P → Option (Bor M) → P → Type 0) → P → Option (Bor M × Bor (Unit {0})) → P → Type 0
 entries_by steps s entry t = steps s (option_map (λ e. e.0) entry) t
 
-module _ {M R P Q : Type 0} (K : Kind) (E : ℕ) (KA : Archival M R) (steps : P → Option (Bor M) → P → Type 0) (iter : P) (claim : ℕ) (state : Q → Writing) (before after : Q) where
+module _ {M R P Q : Type 0} (K : Kind) (E : ℕ) (KA : Archival M R) (steps : P → Option (Bor M) → P → Type 0) (iter : P)
+    (claim : ℕ) (state : Q → Writing) (before after : Q) where
   -- the iterator gave as many keys as claimed, and then no more; the tree of them, each with a (), was written
   pub record BuildsSet (root : ℕ) : Type 0 where
     pub keys : List (Bor M)
     pub all : Drains steps iter keys
     pub count : length keys ≡ claim
     pub built : Built (layout_of K unit_kind E) KA unit_archival (state before) (unit_entries keys) root (state after)
-    pub spelled : 0 < claim → (key : Matches KA.kind K) → Spelled K unit_kind E (state before) (map (λ k. (key.to (KA.meaning k.now), tt)) keys) root (state after)
+    pub spelled : 0 < claim → (key : Matches KA.kind K)
+        → Spelled K unit_kind E (state before) (map (λ k. (key.to (KA.meaning k.now), tt)) keys) root (state after)
 
   -- a fault stopped that of the map whose entries come by these keys
   abbrev pub FailsToBuildSet : {X : Type 0} → Fault X → Type 0

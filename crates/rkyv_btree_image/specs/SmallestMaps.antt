@@ -77,12 +77,18 @@ module _ {M N R S : Type 0} (K V : Kind) (E : ℕ) (KA : Archival M R) (VA : Arc
       (key : Matches KA.kind K) (value : Matches VA.kind V) (b : List ℕ) (at : ℕ) → HoldsArchive b from to root at (length entries) →
       (left : ℕ) × (a : Accepted K V E b 0 at at left (map (entry_value key value) entries)) × IsSmallestMap (map_at a)
 
-module _ {M N R S P Q : Type 0} (K V : Kind) (E : ℕ) (KA : Archival M R) (VA : Archival N S) (steps : P → Option (Bor M × Bor N) → P → Type 0) (iter : P) (claim : ℕ) (state : Q → Writing) (before after : Q) where
+module _ {M N R S P Q : Type 0} (K V : Kind) (E : ℕ) (KA : Archival M R) (VA : Archival N S)
+    (steps : P → Option (Bor M × Bor N) → P → Type 0) (iter : P) (claim : ℕ) (state : Q → Writing) (before after : Q) where
   -- the tree of an iterator's items was built, and their archive is a smallest one
   abbrev pub BuildsSmallest : ℕ → Type 0
-  BuildsSmallest root = (built : BuildsTree K V E KA VA steps iter claim state before after root) × IsSmallestArchive K V E KA VA (state before) (map now_of built.items) root (state after)
+  BuildsSmallest root =
+      (built : BuildsTree K V E KA VA steps iter claim state before after root)
+      × IsSmallestArchive K V E KA VA (state before) (map now_of built.items) root (state after)
 
-module _ {M R P Q : Type 0} (K : Kind) (E : ℕ) (KA : Archival M R) (steps : P → Option (Bor M) → P → Type 0) (iter : P) (claim : ℕ) (state : Q → Writing) (before after : Q) where
+module _ {M R P Q : Type 0} (K : Kind) (E : ℕ) (KA : Archival M R) (steps : P → Option (Bor M) → P → Type 0) (iter : P)
+    (claim : ℕ) (state : Q → Writing) (before after : Q) where
   -- and so of an iterator's items as the keys of a set
   abbrev pub BuildsSmallestSet : ℕ → Type 0
-  BuildsSmallestSet root = (built : BuildsSet K E KA steps iter claim state before after root) × IsSmallestArchive K unit_kind E KA unit_archival (state before) (unit_entries built.keys) root (state after)
+  BuildsSmallestSet root =
+      (built : BuildsSet K E KA steps iter claim state before after root)
+      × IsSmallestArchive K unit_kind E KA unit_archival (state before) (unit_entries built.keys) root (state after)

@@ -44,4 +44,6 @@ module _ {X R : Type 0} (T : Archival X R) (kind : Kind) where
 
   -- why a value has no archive: it isn't serialised, or its own bytes aren't written behind what it writes
   abbrev pub IsUnarchived : {E : Type 0} → X → Fault E → Type 0
-  IsUnarchived x fault = ((t : Writing) × IsUnserialised T x fresh fault t) ⊎ ((t : Writing) × (r : R) × Serialises T x fresh t r × IsUnplaced x r (round_up (position t) kind.align) fault)
+  IsUnarchived x fault =
+      ((t : Writing) × IsUnserialised T x fresh fault t)
+      ⊎ ((t : Writing) × (r : R) × Serialises T x fresh t r × IsUnplaced x r (round_up (position t) kind.align) fault)

@@ -41,7 +41,8 @@ module _ (K V : Kind) where
   pub data RefusesEntry (buf : List ℕ) (lo hi at : ℕ) : Refusal → Type 0 where
     misplaced_entry : {e : Refusal} → Misplaced buf entry_size entry_align at e → RefusesEntry buf lo hi at e
     bad_key : HasPlace buf entry_size entry_align at → MeansNothing K buf lo hi at → RefusesEntry buf lo hi at (BadEntry at)
-    bad_value : {between : ℕ} {k : K.Value} → HasPlace buf entry_size entry_align at → K.Means buf lo hi at between k → MeansNothing V buf between hi (at + value_offset) → RefusesEntry buf lo hi at (BadEntry (at + value_offset))
+    bad_value : {between : ℕ} {k : K.Value} → HasPlace buf entry_size entry_align at → K.Means buf lo hi at between k
+        → MeansNothing V buf between hi (at + value_offset) → RefusesEntry buf lo hi at (BadEntry (at + value_offset))
 
   abbrev pub entry_kind : Kind
   entry_kind = record {

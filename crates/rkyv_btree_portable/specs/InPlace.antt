@@ -13,7 +13,8 @@ value_of kind own = kind.read own 0
 -- own bytes that mean what they mean by themselves wherever they stand, and leave the window as it was
 pub record IsOwn (kind : Kind) (own : List ℕ) : Type 0 where
   pub size : length own ≡ kind.size
-  pub means : (b : List ℕ) (lo hi at : ℕ) → length b ≤ 4294967295 → lo ≤ hi → hi ≤ at → IsAligned kind.align at → at + kind.size ≤ length b → bytes_at b at kind.size ≡ own → kind.Means b lo hi at lo (value_of kind own)
+  pub means : (b : List ℕ) (lo hi at : ℕ) → length b ≤ 4294967295 → lo ≤ hi → hi ≤ at → IsAligned kind.align at
+      → at + kind.size ≤ length b → bytes_at b at kind.size ≡ own → kind.Means b lo hi at lo (value_of kind own)
 
 -- how the values of a native type lie in their own bytes: the archived type, the own bytes of a value, and what these
 -- mean where the value is one of the native type

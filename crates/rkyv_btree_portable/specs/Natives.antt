@@ -26,7 +26,8 @@ own_non_zero n = to_le_bytes w32 (if nat_lt (non_zero_u32_get n) (2 ^ 32) then n
 
 -- a number without a sign
 abbrev pub unsigned_form : Width → (ℕ → List (List ℕ)) → NativeForm ℕ
-unsigned_form width hash_input = record { plain = number (byte_len width) hash_input; own = to_le_bytes width; IsIn = λ n. n < 2 ^ (8 * byte_len width); meaning = λ n. n }
+unsigned_form width hash_input =
+    record { plain = number (byte_len width) hash_input; own = to_le_bytes width; IsIn = λ n. n < 2 ^ (8 * byte_len width); meaning = λ n. n }
 
 -- a number with a sign
 abbrev pub signed_form : Width → (ℤ → List (List ℕ)) → NativeForm ℤ

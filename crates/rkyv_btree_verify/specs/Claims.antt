@@ -33,7 +33,9 @@ module _ (K V : Kind) (E : ℕ) (b : List ℕ) where
   abbrev mutual
     pub claimed : (lo hi p : ℕ) (t : Tree (K.Value × V.Value)) → Spells K V E b lo hi p t → List Range
     claimed lo hi p (leaf m) h = entry_ranges p 0 lo h.3 m h.4 ++ (record { first = p; past = p + leaf_size (layout_of K V E) } ∷ [])
-    claimed lo hi p (inner row) h = row_claimed p 0 lo h.2 row h.3 ++ (entry_ranges p 0 h.2 h.4 (row_entries row) h.5 ++ (record { first = p; past = p + inner_size (layout_of K V E) } ∷ []))
+    claimed lo hi p (inner row) h =
+        row_claimed p 0 lo h.2 row h.3
+        ++ (entry_ranges p 0 h.2 h.4 (row_entries row) h.5 ++ (record { first = p; past = p + inner_size (layout_of K V E) } ∷ []))
 
     pub row_claimed : (p i lo mid : ℕ) (row : Row (K.Value × V.Value)) → SpellsRow K V E b p i lo mid row → List Range
     row_claimed p i lo mid (last c) h = child_claimed p i lo mid c h
@@ -45,8 +47,12 @@ module _ (K V : Kind) (E : ℕ) (b : List ℕ) where
 
 -- what each spelled tree takes is apart
 abbrev pub ClaimsAreApart : Kind → Kind → ℕ → Type 0
-ClaimsAreApart K V E = (b : List ℕ) (lo hi start : ℕ) (t : Tree (K.Value × V.Value)) (h : Spells K V E b lo hi start t) → PairwiseApart (claimed K V E b lo hi start t h)
+ClaimsAreApart K V E =
+    (b : List ℕ) (lo hi start : ℕ) (t : Tree (K.Value × V.Value)) (h : Spells K V E b lo hi start t)
+    → PairwiseApart (claimed K V E b lo hi start t h)
 
 -- so a buffer has no more nodes of a tree than leaves fit into it
 abbrev pub NodesAreFew : Kind → Kind → ℕ → Type 0
-NodesAreFew K V E = (b : List ℕ) (lo hi start : ℕ) (t : Tree (K.Value × V.Value)) → Spells K V E b lo hi start t → hi ≤ length b → nodes t * leaf_size (layout_of K V E) ≤ length b
+NodesAreFew K V E =
+    (b : List ℕ) (lo hi start : ℕ) (t : Tree (K.Value × V.Value)) → Spells K V E b lo hi start t → hi ≤ length b
+    → nodes t * leaf_size (layout_of K V E) ≤ length b

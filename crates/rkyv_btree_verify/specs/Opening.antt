@@ -17,4 +17,6 @@ module _ (K V : Kind) (E : ℕ) (b : List ℕ) (window : Window) (at : ℕ) wher
 
   -- where they are a map, a counter went on by the nodes of its tree
   abbrev pub CountsNodes : ℕ → ℕ → Type 0
-  CountsNodes before after = (left : ℕ) (m : List (K.Value × V.Value)) (a : Accepted K V E b window.lo window.hi at left m) → after ≡ before + accepted_nodes K V E b window.lo window.hi at left m a
+  CountsNodes before after =
+      (left : ℕ) (m : List (K.Value × V.Value)) (a : Accepted K V E b window.lo window.hi at left m)
+      → after ≡ before + accepted_nodes K V E b window.lo window.hi at left m a

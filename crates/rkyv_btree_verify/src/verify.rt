@@ -8,7 +8,10 @@ ghost use Rattle.rkyv_btree_verify.specs.Refusals.{NoMapIsRefused, OneRefusal, N
 ghost use Rattle.rkyv_btree_format.specs.Layout.{layout_of, are_fitting, leaf_size, inner_size};
 ghost use Rattle.rkyv_btree_verify.specs.mirror.Check.{node_place};
 ghost use Rattle.rkyv_btree_verify.specs.mirror.Counted.{Within};
-ghost use Rattle.rkyv_btree_verify.specs.mirror.Maps.{entry_answer, entries_answer, leaf_answer, node_answer, pointer_answer, pointers_answer, inner_answer, placed_answer, tree_answer, root_answer, map_answer, node_count, pointer_count, pointers_count, placed_count, tree_count, root_count, map_count};
+ghost use Rattle.rkyv_btree_verify.specs.mirror.Maps.{entry_answer, entries_answer, leaf_answer, node_answer, pointer_answer};
+ghost use Rattle.rkyv_btree_verify.specs.mirror.Maps.{pointers_answer, inner_answer, placed_answer, tree_answer, root_answer};
+ghost use Rattle.rkyv_btree_verify.specs.mirror.Maps.{map_answer, node_count, pointer_count, pointers_count, placed_count};
+ghost use Rattle.rkyv_btree_verify.specs.mirror.Maps.{tree_count, root_count, map_count};
 
 use rkyv_btree_format::layout;
 use rkyv_btree_portable::bytes::{num32, pointed_at, target};

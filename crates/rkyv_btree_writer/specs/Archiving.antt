@@ -47,8 +47,10 @@ pub record Archival (X R : Type 0) : Type 1 where
 -- behind that, means itself in the window of what was written, in every buffer that holds these bytes, where the type fits
 abbrev pub IsArchived : {X R : Type 0} → Archival X R → Type 0
 IsArchived {X} {R} T =
-    (x : X) (from at : ℕ) (writes : List Write) (r : R) (own : List ℕ) → T.IsIn x → T.Writes x from writes r → T.Resolves x r at own → (length own ≡ T.kind.size)
-    × (IsTrue T.kind.is_fitting → (b : List ℕ) → AllReach writes → length b ≤ 4294967295 → IsAligned T.kind.align at → from + length (appended writes) ≤ at → at + T.kind.size ≤ length b → Holds b from (appended writes) → Holds b at own →
+    (x : X) (from at : ℕ) (writes : List Write) (r : R) (own : List ℕ) → T.IsIn x → T.Writes x from writes r
+    → T.Resolves x r at own → (length own ≡ T.kind.size)
+    × (IsTrue T.kind.is_fitting → (b : List ℕ) → AllReach writes → length b ≤ 4294967295 → IsAligned T.kind.align at
+    → from + length (appended writes) ≤ at → at + T.kind.size ≤ length b → Holds b from (appended writes) → Holds b at own →
     (left : ℕ) × T.kind.Means b from (from + length (appended writes)) at left (T.meaning x))
 
 -- one of the lengths is past 32 bits

@@ -7,7 +7,9 @@ use Rattle.rkyv_btree_writer.specs.declared.fault.ResolveFault.{ResolveFault}
 use Rattle.rkyv_btree_writer.specs.declared.fault.ResolveFault.TheVariants as resolving
 
 abbrev pub count_text : IteratorLengthMismatch → List ℕ
-count_text m = codes "iterator claimed that it contained " ++ (decimal m.expected ++ (codes " elements, but yielded " ++ (decimal m.actual ++ codes " items during iteration")))
+count_text m =
+    codes "iterator claimed that it contained "
+    ++ (decimal m.expected ++ (codes " elements, but yielded " ++ (decimal m.actual ++ codes " items during iteration")))
 
 abbrev pub resolve_text : ResolveFault → List ℕ
 resolve_text resolving.LengthOverflow = codes "length is past 32 bits"

@@ -1,4 +1,4 @@
-//! Writers of bytes, places for archived values, relative pointers, and what serialising refuses.
+//! Writers of bytes, places for archived values, relative pointers, and the errors of serialization.
 #![tactic(auto)]
 
 pub mod fault;

@@ -18,11 +18,11 @@ pub trait Writer {
 
     ghost state: { Self → Writing };
 
-    /// The position of the next byte.
+    /// Returns the position of the next byte.
     fn pos(&self) -> u64
         ensures { result ≡ position (state self.now) };
 
-    /// Appends the bytes. An `Err` may have appended a beginning of them, and counts as a failure.
+    /// Appends the bytes. After an error some of the first of them may have been appended, and one more failure is counted.
     fn write(&mut self, bytes: &[u8]) -> Result<(), Self::Error>
         ensures ok { OnOk result (Appended (state self.old) bytes.now (state self.new)) }
         ensures err { OnErr result (Failed (state self.old) bytes.now (state self.new)) };
@@ -45,7 +45,7 @@ impl Model for VecWriter {
 }
 
 impl VecWriter {
-    /// An empty writer whose first byte has position 0.
+    /// Returns an empty writer whose first byte has position 0.
     pub fn new(alloc: Global) -> VecWriter
         ensures { result ≡ record { base = 0; contents = []; failures = 0 } }
     {
@@ -56,7 +56,7 @@ impl VecWriter {
         }
     }
 
-    /// An empty writer whose first byte has position `base`.
+    /// Returns an empty writer whose first byte has position `base`.
     pub fn with_base(alloc: Global, base: u64) -> VecWriter
         requires { base ≤ 9223372036854775807 }
         ensures { result ≡ record { base = base; contents = []; failures = 0 } }
@@ -68,7 +68,7 @@ impl VecWriter {
         }
     }
 
-    /// A writer that appends to these bytes, the first of which has position 0.
+    /// Returns a writer that appends to these bytes, the first of which has position 0.
     pub fn from_vec(bytes: Vec<u8>) -> VecWriter
         ensures { result ≡ record { base = 0; contents = bytes.items; failures = 0 } }
     {
@@ -79,14 +79,14 @@ impl VecWriter {
         }
     }
 
-    /// The bytes that it was made from, and behind them those that were written.
+    /// Returns the bytes that it was made from, and then those that were written.
     pub fn bytes(&self) -> &[u8]
         ensures { result.now ≡ self.now.contents }
     {
         self.bytes.as_slice()
     }
 
-    /// Those bytes, as a vector.
+    /// Returns those bytes as a vector.
     pub fn into_vec(self) -> Vec<u8>
         ensures { result.items ≡ self.contents }
     {
@@ -103,7 +103,7 @@ impl Writer for VecWriter {
         self.base + self.bytes.len() as u64
     }
 
-    /// An `Err` leaves the contents as they were.
+    /// Appends the bytes. After an error the contents are unchanged.
     fn write(&mut self, bytes: &[u8]) -> Result<(), AllocError>
         ensures ok { OnOk result (Appended self.old bytes.now self.new) }
         ensures err { OnErr result (Failed self.old bytes.now self.new) }
@@ -127,7 +127,7 @@ pub struct Place<'p, T> {
 }
 
 impl<'p, T: Portable> Place<'p, T> {
-    /// The place at a position, of as many bytes as the type has. The bytes become zero.
+    /// Returns the place at a position, of as many bytes as the type has. The bytes become zero.
     pub fn new(pos: u32, bytes: &'p mut [u8]) -> Place<'p, T>
         requires size { length bytes.old ≡ T.kind.size }
         requires end { pos + T.kind.size ≤ 4294967295 }
@@ -166,7 +166,7 @@ impl Portable for RelPtr {
 }
 
 impl RelPtr {
-    /// Writes the offset of `target` from the place. An `Err` leaves the place as it was.
+    /// Writes the offset of `target` from the place. After an error the place is unchanged.
     pub fn emplace(target: u32, out: Place<'_, RelPtr>) -> Result<(), ResolveFault>
         requires size { length out.bytes.now ≡ 4 }
         requires absent { target ≢ out.pos + 1 }

@@ -26,7 +26,7 @@ pub fn put<W: Writer>(writer: &mut W, bytes: &[u8]) -> Result<(), Fault<W::Error
     writer.write(bytes).map_err(Fault::Writer)
 }
 
-/// Writes zeros up to a multiple of an alignment, and answers that position.
+/// Writes zeros up to a multiple of an alignment, and returns that position.
 pub fn pad<W: Writer>(writer: &mut W, align: u32) -> Result<u64, Fault<W::Error>>
     requires positive { 0 < align }
     requires small { align ≤ 8 }

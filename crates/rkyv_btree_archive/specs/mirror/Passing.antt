@@ -20,7 +20,9 @@ module _ {M N R S : Type 0} (s : NodeLayout) (K : Archival M R) (V : Archival N 
   -- children are written one after another, each before its entry
   abbrev pub PairsWritten : Writing → List (Child (M × N) × (M × N)) → List (Option ℕ) → Writing → Type 0
   PairsWritten from [] roots to = (roots ≡ []) × (to ≡ from)
-  PairsWritten from (p ∷ ps) roots to = (root : Option ℕ) × (others : List (Option ℕ)) × (mid : Writing) × ChildWritten s K V from p.0 root mid × PairsWritten mid ps others to × (roots ≡ root ∷ others)
+  PairsWritten from (p ∷ ps) roots to =
+      (root : Option ℕ) × (others : List (Option ℕ)) × (mid : Writing)
+      × ChildWritten s K V from p.0 root mid × PairsWritten mid ps others to × (roots ≡ root ∷ others)
 
 module _ {M N R S P : Type 0} (s : NodeLayout) (K : Archival M R) (V : Archival N S) (steps : P → Option (Bor M × Bor N) → P → Type 0) where
   -- it was written of the items that an iterator gave
@@ -50,7 +52,8 @@ module _ {M N R S P : Type 0} (s : NodeLayout) (K : Archival M R) (V : Archival 
     pub taken : Yields steps iter items rest
     pub some : 0 < length items
     pub few : length items + 1 ≤ (s.E + 1) ^ g + min left (most s.E g)
-    pub stopped : (c : Child (M × N)) (later : List (M × N)) → IsNext s.E g left c → map now_of items ++ later ≡ child_list c → ChildStopped s K V from c fault to
+    pub stopped : (c : Child (M × N)) (later : List (M × N)) → IsNext s.E g left c
+        → map now_of items ++ later ≡ child_list c → ChildStopped s K V from c fault to
 
   -- its items came to an end, and its writing had begun, whatever its later entries would have been
   pub record NextShort (g left : ℕ) (iter : P) (from : Writing) (count : ℕ) (to : Writing) : Type 0 where
@@ -65,7 +68,8 @@ module _ {M N R S P : Type 0} (s : NodeLayout) (K : Archival M R) (V : Archival 
   abbrev pub NextFault : {X : Type 0} → ℕ → ℕ → ℕ → ℕ → P → Writing → Fault X → Writing → Type 0
   NextFault claim before g left iter from fault to =
       NextStopped g left iter from fault to
-      ⊎ ((m : IteratorLengthMismatch) × (count : ℕ) × (fault ≡ Length m) × (m.expected ≡ claim) × (m.actual ≡ before + count) × NextShort g left iter from count to)
+      ⊎ ((m : IteratorLengthMismatch) × (count : ℕ) × (fault ≡ Length m) × (m.expected ≡ claim)
+      × (m.actual ≡ before + count) × NextShort g left iter from count to)
 
 -- ---- the inner nodes that are open, the innermost first: the entries and the children of each that wait
 abbrev pub Frame : Type 0 → Type 0
@@ -84,7 +88,8 @@ abbrev pub starts_of : {X : Type 0} → List (Frame X) → List ℕ
 starts_of [] = []
 starts_of (f ∷ fs) = starts_of fs ++ length (waiting_of fs) ∷ []
 
-module _ {M N R S P : Type 0} (s : NodeLayout) (K : Archival M R) (V : Archival N S) (steps : P → Option (Bor M × Bor N) → P → Type 0) (G L : ℕ) (iter0 : P) (from0 : Writing) where
+module _ {M N R S P : Type 0} (s : NodeLayout) (K : Archival M R) (V : Archival N S)
+    (steps : P → Option (Bor M × Bor N) → P → Type 0) (G L : ℕ) (iter0 : P) (from0 : Writing) where
   -- A child with g levels above the last one comes next, of which so many entries are left; so many have come. Each open node
   -- was opened at states of the iterator and the writer. The whole tree has G levels above its last one, which has L entries.
   abbrev pub Opened : List (Frame (Bor M × Bor N)) → ℕ → ℕ → ℕ → P → Writing → Type 0

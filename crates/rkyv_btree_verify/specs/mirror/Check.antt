@@ -1,8 +1,10 @@
 -- What the check of a map answers, as a function of its bytes that mirrors the code: the contracts of the code's private
 -- functions cite it, and the laws of maps need that it decides the relations of `Spells`.
-use Rattle.std.specs.Prelude.{ℕ, zero, suc, ◌+◌, ◌%◌, ◌||◌, List, length, Option, Some, None, Result, Ok, Err, ℤ, pos, negsuc, slice_index, nat_eq, nat_lt, if◌then◌else◌}
+use Rattle.std.specs.Prelude.{ℕ, zero, suc, ◌+◌, ◌%◌, ◌||◌, List, length, Option, Some, None, Result, Ok, Err, ℤ, pos, negsuc}
+use Rattle.std.specs.Prelude.{slice_index, nat_eq, nat_lt, if◌then◌else◌}
 use Rattle.rkyv_btree_portable.specs.declared.refusal.Refusal.{Refusal}
-use Rattle.rkyv_btree_portable.specs.declared.refusal.Refusal.TheVariants.{OutOfRange, Misaligned, BadKind, InvalidLength, TooDeep, EntriesLengthMismatch, TooLong}
+use Rattle.rkyv_btree_portable.specs.declared.refusal.Refusal.TheVariants.{OutOfRange, Misaligned, BadKind, InvalidLength}
+use Rattle.rkyv_btree_portable.specs.declared.refusal.Refusal.TheVariants.{TooDeep, EntriesLengthMismatch, TooLong}
 use Rattle.rkyv_btree_verify.specs.declared.verify.Checked.{Checked}
 use Rattle.rkyv_btree_portable.specs.Bytes.{number_at, target_at, place_at}
 use Rattle.rkyv_btree_portable.specs.Kind.{Leaves}

@@ -1,6 +1,7 @@
 -- How many checks of nodes the check of a map begins, as functions that mirror the code: the contracts of the code's
 -- private functions cite them, and the proofs say of them what `verify_counted` promises.
-use Rattle.std.specs.Prelude.{ℕ, zero, suc, ◌+◌, ◌*◌, ◌^◌, ◌%◌, ◌≤◌, List, length, Option, Some, None, Result, Ok, Err, ℤ, slice_index, nat_eq, nat_lt, if◌then◌else◌}
+use Rattle.std.specs.Prelude.{ℕ, zero, suc, ◌+◌, ◌*◌, ◌^◌, ◌%◌, ◌≤◌, List, length, Option, Some, None, Result, Ok, Err, ℤ}
+use Rattle.std.specs.Prelude.{slice_index, nat_eq, nat_lt, if◌then◌else◌}
 use Rattle.rkyv_btree_portable.specs.declared.refusal.Refusal.{Refusal}
 use Rattle.rkyv_btree_verify.specs.declared.verify.Checked.{Checked}
 use Rattle.rkyv_btree_portable.specs.Bytes.{number_at, target_at, place_at}
@@ -28,7 +29,8 @@ module _ (s : NodeLayout) (keys values : Leaves) (b : List ℕ) where
 
     abbrev pub pointers_steps : ℕ → ℕ → ℕ → Checked → ℕ
     pointers_steps p zero i so_far = 0
-    pointers_steps p (suc n) i so_far = pointer_steps p i so_far + steps_after (check_pointer s keys values b node p i so_far) (λ next. pointers_steps p n (i + 1) next)
+    pointers_steps p (suc n) i so_far =
+        pointer_steps p i so_far + steps_after (check_pointer s keys values b node p i so_far) (λ next. pointers_steps p n (i + 1) next)
 
     unfoldable pub placed_steps : ℕ → ℕ → ℕ → ℕ
     placed_steps p lo hi =
@@ -38,7 +40,8 @@ module _ (s : NodeLayout) (keys values : Leaves) (b : List ℕ) where
   -- a node below which so many levels less one may stand
   abbrev pub node_steps : ℕ → ℤ → ℕ → ℕ → ℕ
   node_steps zero p lo hi = 1
-  node_steps (suc levels) p lo hi = 1 + steps_after (node_place s p lo hi) (λ start. placed_steps (check_node s keys values b levels) (node_steps levels) start lo hi)
+  node_steps (suc levels) p lo hi =
+      1 + steps_after (node_place s p lo hi) (λ start. placed_steps (check_node s keys values b levels) (node_steps levels) start lo hi)
 
   -- a tree of at most 32 levels
   unfoldable pub tree_steps : ℤ → ℕ → ℕ → ℕ

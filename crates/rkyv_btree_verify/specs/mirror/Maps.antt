@@ -4,7 +4,8 @@ use Rattle.rkyv_btree_portable.specs.Kind.{Kind}
 use Rattle.rkyv_btree_portable.specs.declared.refusal.Refusal.{Refusal}
 use Rattle.rkyv_btree_format.specs.Layout.{layout_of}
 use Rattle.rkyv_btree_verify.specs.declared.verify.Checked.{Checked}
-use Rattle.rkyv_btree_verify.specs.mirror.Check.{check_entry, check_entries, check_leaf, check_pointer, check_pointers, check_inner, check_placed, check_node, check_tree, check_root, check_map}
+use Rattle.rkyv_btree_verify.specs.mirror.Check.{check_entry, check_entries, check_leaf, check_pointer, check_pointers}
+use Rattle.rkyv_btree_verify.specs.mirror.Check.{check_inner, check_placed, check_node, check_tree, check_root, check_map}
 use Rattle.rkyv_btree_verify.specs.mirror.Counted.{pointer_steps, pointers_steps, placed_steps, node_steps, tree_steps, root_steps, map_steps}
 
 module _ (K V : Kind) (E : ℕ) (b : List ℕ) where
@@ -50,7 +51,8 @@ module _ (K V : Kind) (E : ℕ) (b : List ℕ) where
   pointer_count levels = pointer_steps (layout_of K V E) K.leaves V.leaves b (node_answer levels) (node_count levels)
 
   abbrev pub pointers_count : ℕ → ℕ → ℕ → ℕ
-  pointers_count levels p lo = pointers_steps (layout_of K V E) K.leaves V.leaves b (node_answer levels) (node_count levels) p (E + 1) 0 (record { lo = lo; entries = 0 })
+  pointers_count levels p lo =
+      pointers_steps (layout_of K V E) K.leaves V.leaves b (node_answer levels) (node_count levels) p (E + 1) 0 (record { lo = lo; entries = 0 })
 
   abbrev pub placed_count : ℕ → ℕ → ℕ → ℕ → ℕ
   placed_count levels = placed_steps (layout_of K V E) K.leaves V.leaves b (node_answer levels) (node_count levels)
