@@ -1,6 +1,7 @@
 //! One list built by both builders.
-ghost use Rattle.std.specs.Prelude.{◌≡◌, IfOk, OnOk, IsTrue};
+ghost use Rattle.std.specs.Prelude.{◌≡◌, length, IfOk, OnOk, IfErr, IsTrue};
 ghost use Rattle.std.specs.Iterator.{YieldsFirstBy, item_count};
+ghost use Rattle.bench_recursion.specs.Both.{EitherFails};
 ghost use Rattle.rkyv_btree_format.specs.Layout.{are_fitting};
 ghost use Rattle.rkyv_btree_image.specs.Alike.{AppendAlike};
 ghost use Rattle.rkyv_btree_image.specs.Determined.{IsDetermined};
@@ -40,15 +41,15 @@ impl<'x, KU, VU> Iterator for Entries<'x, KU, VU> {
 ///
 /// Both have one position, and both writers got the same bytes, where what keys and values mean determines with positions
 /// how they are archived.
-pub fn build_by_both<KU, VU, K, V, W, A, const E: usize>(
+pub fn build_by_both<'x, KU, VU, K, V, W, A, const E: usize>(
     alloc: A,
-    entries: &[(KU, VU)],
+    entries: &'x [(KU, VU)],
     one: &mut W,
     other: &mut W,
 ) -> Result<(BTreeMapResolver, u32), Fault<W::Error>>
 where
-    KU: Archive<Archived = K> + Serialize<W, A>,
-    VU: Archive<Archived = V> + Serialize<W, A>,
+    KU: Archive<Archived = K> + Serialize<W, A> + 'x,
+    VU: Archive<Archived = V> + Serialize<W, A> + 'x,
     K: Portable,
     V: Portable,
     W: Writer,
@@ -60,6 +61,11 @@ where
     ensures bytes { IsDetermined KU.archival → IsDetermined VU.archival →
         OnOk result (AppendAlike (W.state one.old) (W.state one.new) (W.state other.old)
         (W.state other.new)) }
+    // The library's builder failed and the other writer is unchanged, or it built the tree and the second builder failed.
+    ensures err { IfErr result
+        (EitherFails K.kind V.kind E KU.archival VU.archival
+        ⟦<Entries<'x, KU, VU> as Iterator>⟧.next_gives (record { rest = entries.entry })
+        (length entries.now) W.state one.old one.new other.old other.new) }
 {
     trees_are_determined::<KU, VU, E>();
     let items = Entries { rest: entries };

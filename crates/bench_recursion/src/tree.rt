@@ -1,5 +1,6 @@
 //! Writing a tree by plain recursion over the sizes of its subtrees.
-ghost use Rattle.std.specs.Prelude.{◌≡◌, ◌+◌, ◌*◌, ◌-◌, ◌^◌, ◌≤◌, ◌<◌, length, map, min, vec_len, vec_capacity, OnOk, IfOk, IfErr, OnSome, IfSome, IfNone, IsTrue};
+ghost use Rattle.std.specs.Prelude.{◌≡◌, ◌+◌, ◌*◌, ◌-◌, ◌^◌, ◌≤◌, ◌<◌, length, map, min, vec_len, vec_capacity, OnOk, IfOk};
+ghost use Rattle.std.specs.Prelude.{IfErr, OnSome, IfSome, IfNone, IsTrue};
 ghost use Rattle.rkyv_btree_archive.specs.mirror.Scratch.{IsFree};
 ghost use Rattle.rkyv_btree_format.specs.Layout.{layout_of, are_fitting};
 ghost use Rattle.rkyv_btree_image.specs.Entries.{now_of};

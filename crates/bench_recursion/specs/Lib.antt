@@ -1,0 +1,2 @@
+-- What building by both builders says.
+pub mod Both
