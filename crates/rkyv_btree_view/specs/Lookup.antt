@@ -64,5 +64,6 @@ pub record Only {Y : Type 0} (answer : Y → Ordering) (m : List Y) (found : Opt
 -- in a map whose keys strictly increase a look-up finds that entry, by each comparison that goes with the order of keys
 abbrev pub IncreasingIsFound : Kind → Kind → ℕ → Type 0
 IncreasingIsFound K V E =
-    (b : List ℕ) (at : ℕ) (answer : K.Value → Ordering) (found : Option (K.Value × V.Value)) → IsCut K.order answer → IsStrictlySortedBy K.order (map (λ e. e.0) (read_map K V E b at))
+    (b : List ℕ) (at : ℕ) (answer : K.Value → Ordering) (found : Option (K.Value × V.Value)) → IsCut K.order answer
+    → IsStrictlySortedBy K.order (map (λ e. e.0) (read_map K V E b at))
     → Answers (λ e. answer e.0) (entry_at K V E b) (map_tree (layout_of K V E) b at) found → Only (λ e. answer e.0) (read_map K V E b at) found

@@ -5,7 +5,8 @@ use Rattle.std.proofs.Common.{refl}
 use Rattle.rkyv_btree_base.specs.Kind.{Kind}
 
 -- what is read of a kind is read as a native value, and compared and hashed as it
-pub record ReadAs {N : Type 0} (kind : Kind) (read_native : List ℕ → ℕ → N) (native_same : N → N → Bool) (native_order : N → N → Ordering) (native_input : N → List (List ℕ)) : Type 0 where
+pub record ReadAs {N : Type 0} (kind : Kind) (read_native : List ℕ → ℕ → N) (native_same : N → N → Bool)
+    (native_order : N → N → Ordering) (native_input : N → List (List ℕ)) : Type 0 where
   pub native : kind.Value → N
   pub reads : (b : List ℕ) (at : ℕ) → read_native b at ≡ native (kind.read b at)
   pub same : (x y : kind.Value) → kind.same x y ≡ native_same (native x) (native y)

@@ -10,10 +10,13 @@ use Rattle.rkyv_btree_walk.specs.mirror.Range.{read_range}
 use Rattle.rkyv_btree_view.specs.declared.range.Range.{Range}
 
 -- the entries that a range has left, in order
-abbrev pub range_left : {M K V : Type 0} {g : ArchivedMap.Ghosts M K V} {m : Portable.Ghosts M} {k : Portable.Ghosts K} {v : Portable.Ghosts V} → Range M K V g m k v → List (k.kind.Value × v.kind.Value)
+abbrev pub range_left : {M K V : Type 0} {g : ArchivedMap.Ghosts M K V} {m : Portable.Ghosts M} {k : Portable.Ghosts K}
+    {v : Portable.Ghosts V} → Range M K V g m k v → List (k.kind.Value × v.kind.Value)
 range_left {g} {k} {v} s = read_range k.kind v.kind g.E s.buf.now s.stop s.part s.path.items
 
 -- what holds of two bounds of native values, which are compared with what stands at a position of a buffer
-abbrev pub ByNativeBounds : {N : Type 0} (K : Kind) → (N → List ℕ → ℕ → Ordering) → Bound N → Bound N → (Bound (K.Value → Ordering) → Bound (K.Value → Ordering) → Type 0) → Type 0
+abbrev pub ByNativeBounds : {N : Type 0} (K : Kind) → (N → List ℕ → ℕ → Ordering) → Bound N → Bound N
+    → (Bound (K.Value → Ordering) → Bound (K.Value → Ordering) → Type 0) → Type 0
 ByNativeBounds {N} K compared_at low high Holds =
-    (compared : N → K.Value → Ordering) → ((n : N) (b : List ℕ) (at : ℕ) → compared_at n b at ≡ compared n (K.read b at)) → Holds (bound_map compared low) (bound_map compared high)
+    (compared : N → K.Value → Ordering) → ((n : N) (b : List ℕ) (at : ℕ) → compared_at n b at ≡ compared n (K.read b at))
+    → Holds (bound_map compared low) (bound_map compared high)

@@ -19,12 +19,16 @@ module _ (K V : Kind) {T U : Type 0} (same_key_at : T → List ℕ → ℕ → B
   -- what holds of the test of an entry with a native one, whatever functions of values say what tests at positions give
   abbrev pub ByTests : ((K.Value × V.Value → T × U → Bool) → Type 0) → Type 0
   ByTests Holds =
-      (same_key : K.Value → T → Bool) (same_value : V.Value → U → Bool) → ((n : T) (b : List ℕ) (at : ℕ) → same_key_at n b at ≡ same_key (K.read b at) n) → ((n : U) (b : List ℕ) (at : ℕ) → same_value_at n b at ≡ same_value (V.read b at) n)
+      (same_key : K.Value → T → Bool) (same_value : V.Value → U → Bool)
+      → ((n : T) (b : List ℕ) (at : ℕ) → same_key_at n b at ≡ same_key (K.read b at) n)
+      → ((n : U) (b : List ℕ) (at : ℕ) → same_value_at n b at ≡ same_value (V.read b at) n)
       → Holds (λ e n. same_key e.0 n.0 && same_value e.1 n.1)
 
 -- what holds of the test of a key with a native one, whatever function of keys says what the test at positions gives
 abbrev pub ByKeyTests : (K : Kind) {T : Type 0} → (T → List ℕ → ℕ → Bool) → ((K.Value → T → Bool) → Type 0) → Type 0
-ByKeyTests K {T} same_key_at Holds = (same_key : K.Value → T → Bool) → ((n : T) (b : List ℕ) (at : ℕ) → same_key_at n b at ≡ same_key (K.read b at) n) → Holds same_key
+ByKeyTests K {T} same_key_at Holds =
+    (same_key : K.Value → T → Bool) → ((n : T) (b : List ℕ) (at : ℕ) → same_key_at n b at ≡ same_key (K.read b at) n)
+    → Holds same_key
 
 -- whether the entries of the map at a position are as many as native ones, and the same one by one
 abbrev pub map_same_at : {T U : Type 0} (K V : Kind) → ℕ → (T → List ℕ → ℕ → Bool) → (U → List ℕ → ℕ → Bool) → List (T × U) → List ℕ → ℕ → Bool

@@ -1,5 +1,6 @@
 //! Comparisons of views: those of what is read, wherever it stands.
-ghost use Rattle.std.specs.Cmp.{IsEquivalence, IsTotalOrder, on_per, on_equiv, on_po, on_total, and_equiv, then_total, both_tied, nat_eq_equiv, nat_cmp_total, partial_equiv_from_equiv};
+ghost use Rattle.std.specs.Cmp.{IsEquivalence, IsTotalOrder, on_per, on_equiv, on_po, on_total, and_equiv, then_total, both_tied};
+ghost use Rattle.std.specs.Cmp.{nat_eq_equiv, nat_cmp_total, partial_equiv_from_equiv};
 ghost use Rattle.std.specs.Cmp.Lexicographic.{nat_list_eq_equiv, nat_list_cmp_total, texts_ties};
 ghost use Rattle.std.specs.List.{fold};
 ghost use Rattle.std.specs.Ordering.{is_eq};

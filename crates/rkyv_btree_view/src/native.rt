@@ -2,7 +2,8 @@
 ghost use Rattle.std.specs.Prelude.{◌≡◌, ◌+◌, ◌≤◌, ℕ, List, length};
 ghost use Rattle.std.specs.Int.NonZero.{non_zero_u32_get};
 ghost use Rattle.rkyv_btree_base.specs.Bytes.{from_le, bytes_at};
-ghost use Rattle.rkyv_btree_base.specs.Scalars.{u8_kind, i8_kind, bool_kind, unit_kind, char_kind, non_zero_kind, u16_kind, i16_kind, u32_kind, i32_kind, u64_kind, i64_kind};
+ghost use Rattle.rkyv_btree_base.specs.Scalars.{u8_kind, i8_kind, bool_kind, unit_kind, char_kind, non_zero_kind, u16_kind};
+ghost use Rattle.rkyv_btree_base.specs.Scalars.{i16_kind, u32_kind, i32_kind, u64_kind, i64_kind};
 ghost use Rattle.rkyv_btree_view.specs.Native.{ReadAs, as_itself};
 
 use crate::view::View;

@@ -68,14 +68,6 @@ module _ (K V : Kind) (E : ℕ) (b : List ℕ) (root : Option ℕ) (n : ℕ) (ro
       let e : r.0 ≡ m = omega (arith, r.1) in
       (rw e at r.2, path.1, path.2, path_stands (suc d) m fs (omega arith) path.3)
 
-  -- and entries
-  pub run_stands : (p i m : ℕ) → RunBelow (layout_of K V E) b root p i m → RunStands K V E b p i m
-  run_stands p i m run j low high =
-      let r = run (omega arith) in
-      let o = below_stands r.0 p r.1 in
-      let node = tree_node K V E b (suc o.0) p o.2 in
-      (node.entries j (omega (arith, r.2)), node.leaf_inside, omega (arith, r.2, node.count))
-
 -- below the root of a map that stands
 module _ (K V : Kind) (E : ℕ) (k : IsLawful K) (v : IsLawful V) (b : List ℕ) (at : ℕ) (h : IsTrue (stands (map_kind K V E) b at)) where
   -- there is a tree of 32 levels, if there is a root
@@ -97,11 +89,3 @@ module _ (K V : Kind) (E : ℕ) (k : IsLawful K) (v : IsLawful V) (b : List ℕ)
     -- the path of a walk is one of nodes that stand
     pub walk_path : IsPath K V E b 32 fs
     walk_path = path_stands K V E b (root_place b at) 32 place_stands 0 32 fs refl walk.1
-
-    -- and the entries of its leaf stand
-    pub walk_run : RunStands K V E b p i n
-    walk_run = run_stands K V E b (root_place b at) 32 place_stands p i n walk.0
-
-  -- and so does the entry that a step takes
-  pub step_stands : (e : Step) (fs : List (ℕ × ℕ)) → StepBelow (layout_of K V E) b (root_place b at) (Some e) fs → StepStands K V E b e
-  step_stands e fs step = run_stands K V E b (root_place b at) 32 place_stands e.node e.index (e.index + 1) step.0

@@ -157,10 +157,6 @@ module _ (s : NodeLayout) (b c : List ℕ) (here there : Option ℕ) (n : ℕ) (
       let e : t.0 ≡ q = sym {b = t.0} (same_place s b c m q t.0 t.2 some) in
       ((p, i, up.0, below.3, rw e at t.1), rw e at t.2)
 
-  -- and as much is left of the node
-  pub node_rest_kept : (d m q i : ℕ) → d + suc m ≡ n → IsBelow s b here d q → 0 < entry_count s b q → node_rest s b m q i ≡ node_rest s c m q i
-  node_rest_kept d m q i levels below some = node_kept s b c m q (below_kept d m q levels below some).1 i
-
   -- of a path as much is left
   pub path_rest_kept : (d m : ℕ) (fs : List (ℕ × ℕ)) → d + m ≡ n → PathBelow s b here d fs → path_rest s b m fs ≡ path_rest s c m fs
   path_rest_kept d m [] levels path = refl
@@ -244,13 +240,3 @@ module _ (K V : Kind) (E : ℕ) (k : IsLawful K) (v : IsLawful V) (b c : List �
 
     pub range_rest_kept : (stop : Option (ℕ × ℕ)) → range_rest (layout_of K V E) b stop p i n fs ≡ range_rest (layout_of K V E) c stop p i n fs
     range_rest_kept stop = rw (run_same (layout_of K V E) b c p (n - i) i, map_path_rest_kept fs walk.1) refl
-
-  -- the root stands where it stood, if there is one
-  pub root_place_kept : (q : ℕ) → root_place b at ≡ Some q → root_place c at ≡ Some q
-  root_place_kept q is =
-      let under = map_under (layout_of K V E) b at in
-      let tree : map_tree (layout_of K V E) b at ≡ tree_at (layout_of K V E) b 32 q = rw is at under in
-      let entries : length (list (map_tree (layout_of K V E) b at)) ≡ number_at b (at + 4) 4 = sym (length-map (list (map_tree (layout_of K V E) b at)) (entry_at K V E b)) ∙ map_length K V E k v b at h in
-      let some = placed b at q is in
-      let few : 0 < length (list (tree_at (layout_of K V E) b 32 q)) = rw (← tree) (omega arith) in
-      (root_kept (layout_of K V E) b c (root_place b at) (root_place c at) 32 some_entries alike_under 31 q (root_place c at) (rw is at alike_under) (listed (layout_of K V E) b some_entries 31 q few)).0

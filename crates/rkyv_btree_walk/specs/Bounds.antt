@@ -37,6 +37,7 @@ module _ {A : Type 0} where
     IsWithin low high all range = OrderedFor low all → OrderedFor high all → range ≡ filter (λ e. is_from low e.0 && is_to high e.0) all
 
 -- what holds of two bounds, by a comparison that is some function of a query and of what it is compared with
-abbrev pub ByBounds : {Q W A : Type 0} → (Bor Q → W → Ordering → Type 0) → (W → A) → Bound (Bor Q) → Bound (Bor Q) → (Bound (A → Ordering) → Bound (A → Ordering) → Type 0) → Type 0
+abbrev pub ByBounds : {Q W A : Type 0} → (Bor Q → W → Ordering → Type 0) → (W → A) → Bound (Bor Q) → Bound (Bor Q)
+    → (Bound (A → Ordering) → Bound (A → Ordering) → Type 0) → Type 0
 ByBounds {Q} {A} post shows low high Holds =
     (compared : Q → A → Ordering) → ComparesBy post shows compared → Holds (bound_map (λ q. compared q.now) low) (bound_map (λ q. compared q.now) high)

@@ -14,7 +14,9 @@ ghost use Rattle.rkyv_btree_walk.specs.Search.{ComparesBy, shown};
 ghost use Rattle.rkyv_btree_walk.specs.mirror.Below.{root_place, PartBelow, PathStaysBelow, StepStaysBelow};
 ghost use Rattle.rkyv_btree_walk.specs.mirror.Node.{natural, RunStands, TreeCanBeRead};
 ghost use Rattle.rkyv_btree_walk.specs.mirror.Path.{path_rest, IsPath, LeafStands, StepStands};
-ghost use Rattle.rkyv_btree_walk.specs.mirror.Range.{from_at, past_at, IsKept, IsEnd, IsFound, IsMiddle, first_of, first_passes, is_stop as stops_at, take_before, range_rest, tree_list, part_rest, part_range, read_range, PartStands, StepsBefore};
+ghost use Rattle.rkyv_btree_walk.specs.mirror.Range.{from_at, past_at, IsKept, IsEnd, IsFound, IsMiddle, first_of, first_passes};
+ghost use Rattle.rkyv_btree_walk.specs.mirror.Range.{is_stop as stops_at, take_before, range_rest, tree_list, part_rest};
+ghost use Rattle.rkyv_btree_walk.specs.mirror.Range.{part_range, read_range, PartStands, StepsBefore};
 
 use crate::map::{ArchivedMap, map_len};
 use crate::node::{key_pos, root};

@@ -8,7 +8,8 @@ ghost use Rattle.rkyv_btree_walk.specs.Search.{ComparesBy, shown};
 ghost use Rattle.rkyv_btree_walk.specs.mirror.Below.{PartBelow};
 ghost use Rattle.rkyv_btree_walk.specs.mirror.Node.{is_leaf as is_leaf_at, NodeStands, RunStands, RunCanBeRead, TreeStands, TreeCanBeRead};
 ghost use Rattle.rkyv_btree_walk.specs.mirror.Path.{tree_rest, IsPath};
-ghost use Rattle.rkyv_btree_walk.specs.mirror.Range.{is_reached, reached_at, IsFirst, Climbs, IsKept, IsEnd, IsFound, IsFoundOr, tree_list, part_rest, PartStands};
+ghost use Rattle.rkyv_btree_walk.specs.mirror.Range.{is_reached, reached_at, IsFirst, Climbs, IsKept, IsEnd, IsFound, IsFoundOr};
+ghost use Rattle.rkyv_btree_walk.specs.mirror.Range.{tree_list, part_rest, PartStands};
 
 use crate::map::ArchivedMap;
 use crate::node::{child, is_leaf, key_pos, leaf_count};

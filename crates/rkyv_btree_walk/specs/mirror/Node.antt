@@ -1,6 +1,7 @@
 -- What a walk needs of the nodes that it meets. These are facts that functions of this room hand on, and mirror how the
 -- code reads a node; no promise to a caller cites them.
-use Rattle.std.specs.Prelude.{◌≡◌, ℕ, zero, suc, ◌+◌, ◌≤◌, ◌<◌, IsTrue, List, length, Option, Some, None, Bool, false, ℤ, pos, negsuc, slice_index, nat_eq, if◌then◌else◌}
+use Rattle.std.specs.Prelude.{◌≡◌, ℕ, zero, suc, ◌+◌, ◌≤◌, ◌<◌, IsTrue, List, length, Option, Some, None, Bool, false, ℤ, pos}
+use Rattle.std.specs.Prelude.{negsuc, slice_index, nat_eq, if◌then◌else◌}
 use Rattle.rkyv_btree_base.specs.Bytes.{number_at, target_at}
 use Rattle.rkyv_btree_base.specs.Kind.{Kind}
 use Rattle.rkyv_btree_base.specs.Layout.{NodeLayout, are_fitting, layout_of, key_at, value_at, len_at, leaf_size, inner_size, pointer_at}
