@@ -1,7 +1,6 @@
 -- Cursors along a map whose values are written: the entry that is lent stands in the map, and a write leaves as much.
 use Rattle.std.proofs.Common.{◌≡◌, ℕ, zero, suc, ◌⊎◌, inl, inr, false, List, [], ◌∷◌, ◌++◌, length, refl, sym, ap, ◌∙◌, append_assoc, Option, Some, None, IsTrue, slice_get}
 use Rattle.std.specs.Option.{option_map}
-use Rattle.std.specs.Prelude.{Bool, is_some}
 use Rattle.std.proofs.lemmas.Bool.{cases_Bool}
 use mathlib.Core.HLevel.{⊥_prop}
 use mathlib.Core.Logic.{∥∥₁_elim, ∥∥₁_map}
@@ -15,7 +14,6 @@ use Rattle.rkyv_btree_walk.proofs.BelowKept.{walk_kept, walk_rest_kept, range_re
 use Rattle.rkyv_btree_walk.proofs.Props.{places_had}
 use Rattle.rkyv_btree_walk.proofs.Ranges.{stop_same, stop_at}
 use Rattle.rkyv_btree_seal.specs.Along.{walk_left, range_left, IsWalk, IsRangeWalk, IsAmong, Takes, lent_list}
-use Rattle.rkyv_btree_seal.specs.Cursor.{Lends}
 use Rattle.rkyv_btree_seal.specs.Places.{place_of}
 use Rattle.rkyv_btree_seal.specs.Put.{entry_places}
 use Rattle.rkyv_btree_seal.specs.declared.place.EntryPlace.{EntryPlace}
@@ -61,11 +59,6 @@ module _ {X : Type 0} where
 pub among_takes : (all old new : List (ℕ × ℕ)) (lent : Option (ℕ × ℕ)) (taken : Option EntryPlace) → Takes old new taken → IsAmong all lent old → IsAmong all (option_map place_of taken) new
 among_takes all old new lent None h among = among_end all old new lent h.0 h.1 among
 among_takes all old new lent (Some p) h among = among_next all old new lent (place_of p) h among
-
--- and lends the first that was left
-pub takes_lends : (old new : List (ℕ × ℕ)) (taken : Option EntryPlace) (answer : Bool) → answer ≡ is_some taken → Takes old new taken → Lends old new (option_map place_of taken) answer
-takes_lends old new None answer is h = rw is (h.0, h.1, refl)
-takes_lends old new (Some p) answer is h = rw is (place_of p, h, refl)
 
 -- what is lent is an entry of the list
 pub lent_is_entry : (all left : List (ℕ × ℕ)) (e : ℕ × ℕ) → ∥ IsAmong all (Some e) left ∥₁ → IsListed e all

@@ -45,9 +45,6 @@ module _ {X Y T F : Type 0} (K V : Kind) (E : ℕ) (at : ℕ) (step : F → Lent
     pub rest : drop (length done) (read_map K V E b at) ≡ drop (length done) (read_map K V E b₀ at)
     pub back : (c : List ℕ) (r : Option T) (last : F) → Visits K V E at step es f b c r last → Visits K V E at step (entry_places K V E b₀ at) f₀ b₀ c r last
 
-  pub so_far_start : (es : List (ℕ × ℕ)) → es ≡ entry_places K V E b₀ at → SoFar es b₀ f₀
-  so_far_start es is = record { done = []; split = sym is; tree = refl; rest = refl; back = λ c r last v. rw is at v }
-
   -- the end of the list
   pub so_far_end : (es : List (ℕ × ℕ)) (b : List ℕ) (f : F) → es ≡ [] → SoFar es b f → Visits K V E at step (entry_places K V E b₀ at) f₀ b₀ b None f
   so_far_end es b f is s = s.back b None f (rw is (refl, refl, refl))

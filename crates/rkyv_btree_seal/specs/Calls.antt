@@ -28,7 +28,8 @@ module _ {X Y R : Type 0} (K V : Kind) (E : ℕ) (b : List ℕ) (at : ℕ) where
     pub puts : PutsEntry K V E b at e called.after.now.buf.now c
 
   -- a search for an entry, and such a call there, if it is there
-  pub record CallsFound (answer : K.Value → Ordering) (c : List ℕ) (call : LentKey X → MutBor (Seal Y) → R → MutBor (Seal Y) → Type 0) (result : Option R) : Type 0 where
+  pub record CallsFound (answer : K.Value → Ordering) (c : List ℕ)
+      (call : LentKey X → MutBor (Seal Y) → R → MutBor (Seal Y) → Type 0) (result : Option R) : Type 0 where
     pub found : Option (ℕ × ℕ)
     pub finds : FindsPlace K V E b at answer found
     pub calls : MatchOption found ((result ≡ None) × (c ≡ b)) (λ e. (r : R) × (result ≡ Some r) × CallsEntry c call e r)

@@ -28,7 +28,8 @@ pub record KeepsSeal {X : Type 0} (kind : Kind) (before after : Seal X) : Type 0
   pub own : IsOwn kind after.buf.now
 
 -- a call of a closure at a key and a value has answered r, and left c of the buffer: the value's own bytes alone are written
-pub record CallsAt {X Y R : Type 0} (K V : Kind) (b : List ℕ) (key value : ℕ) (c : List ℕ) (call : LentKey X → MutBor (Seal Y) → R → MutBor (Seal Y) → Type 0) (r : R) : Type 0 where
+pub record CallsAt {X Y R : Type 0} (K V : Kind) (b : List ℕ) (key value : ℕ) (c : List ℕ)
+    (call : LentKey X → MutBor (Seal Y) → R → MutBor (Seal Y) → Type 0) (r : R) : Type 0 where
   pub lent : LentKey X
   pub before : MutBor (Seal Y)
   pub after : MutBor (Seal Y)
@@ -39,6 +40,8 @@ pub record CallsAt {X Y R : Type 0} (K V : Kind) (b : List ℕ) (key value : ℕ
   pub bytes : c ≡ put_bytes b value after.now.buf.now
 
 -- at a key and a value a closure may be called, and leaves some value in the seal
-pub record MayCall {X Y R : Type 0} (K V : Kind) (a : K.Value) (x : V.Value) (pre : LentKey X → MutBor (Seal Y) → Type 0) (call : LentKey X → MutBor (Seal Y) → R → MutBor (Seal Y) → Type 0) : Type 0 where
+pub record MayCall {X Y R : Type 0} (K V : Kind) (a : K.Value) (x : V.Value) (pre : LentKey X → MutBor (Seal Y) → Type 0)
+    (call : LentKey X → MutBor (Seal Y) → R → MutBor (Seal Y) → Type 0) : Type 0 where
   pub callable : (key : LentKey X) (seal : MutBor (Seal Y)) → ShowsKey K key a → HoldsValue V seal.now x → pre key seal
-  pub keeps : (key : LentKey X) (seal after : MutBor (Seal Y)) (r : R) → ShowsKey K key a → HoldsValue V seal.now x → call key seal r after → KeepsSeal V seal.now after.now
+  pub keeps : (key : LentKey X) (seal after : MutBor (Seal Y)) (r : R) → ShowsKey K key a → HoldsValue V seal.now x
+      → call key seal r after → KeepsSeal V seal.now after.now

@@ -27,7 +27,9 @@ module _ (K V : Kind) (E : ℕ) (b : List ℕ) (at : ℕ) where
 
   -- what stands at an entry's places is its key and its value
   abbrev pub ShowsEntry : ℕ × ℕ → Type 0
-  ShowsEntry e = (i : ℕ) → IsNumber i e → slice_get (read_map K V E b at) i ≡ Some (K.read b (key_place K V E e), value_of V (bytes_at b (value_place K V E e) V.size))
+  ShowsEntry e =
+      (i : ℕ) → IsNumber i e
+      → slice_get (read_map K V E b at) i ≡ Some (K.read b (key_place K V E e), value_of V (bytes_at b (value_place K V E e) V.size))
 
   -- a search has found the entry that it asks and finds equal: an entry of the map that is equal, and under an ordered
   -- comparison one if there is one
@@ -42,7 +44,8 @@ module _ (K V : Kind) (E : ℕ) (b : List ℕ) (at : ℕ) where
     pub entry : IsEntry e
     pub bytes : c ≡ put_bytes b (value_place K V E e) own
     pub list : (i : ℕ) → IsNumber i e → read_map K V E c at ≡ put_value (read_map K V E b at) i (value_of V own)
-    pub accepted : (i lo hi left : ℕ) (m : List (K.Value × V.Value)) → IsNumber i e → Accepted K V E b lo hi at left m → Accepted K V E c lo hi at left (put_value m i (value_of V own))
+    pub accepted : (i lo hi left : ℕ) (m : List (K.Value × V.Value)) → IsNumber i e → Accepted K V E b lo hi at left m
+        → Accepted K V E c lo hi at left (put_value m i (value_of V own))
     pub tree : map_tree (layout_of K V E) c at ≡ map_tree (layout_of K V E) b at
 
   -- a search for an entry, and such a write over its value, if it is there

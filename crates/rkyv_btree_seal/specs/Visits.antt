@@ -13,7 +13,8 @@ abbrev pub Goes : {T : Type 0} → ControlFlow T (Unit {0}) → Option T → Typ
 Goes (Break t) r ends rest = (r ≡ Some t) × ends
 Goes (Continue u) r ends rest = rest
 
-module _ {X Y T F : Type 0} (K V : Kind) (E : ℕ) (at : ℕ) (step : F → LentKey X → MutBor (Seal Y) → ControlFlow T (Unit {0}) → MutBor (Seal Y) → F → Type 0) where
+module _ {X Y T F : Type 0} (K V : Kind) (E : ℕ) (at : ℕ)
+    (step : F → LentKey X → MutBor (Seal Y) → ControlFlow T (Unit {0}) → MutBor (Seal Y) → F → Type 0) where
   -- f is called at these entries of the map in b, one after the other, up to the first call that breaks, whose value is r:
   -- this leaves the buffer c, and f as last
   abbrev pub Visits : List (ℕ × ℕ) → F → List ℕ → List ℕ → Option T → F → Type 0
