@@ -49,7 +49,9 @@ module _ (K V : Kind) (E : ℕ) {A B : Type 0} (key : List ℕ → ℕ → Resul
   -- by what the map's list has: whatever functions say what keys and what values give by what they mean
   abbrev pub IsGivenByEntries : (A → A → Ordering) → Type 0
   IsGivenByEntries order =
-      (of_key : K.Value → Result A EntryFault) (of_value : V.Value → Result B EntryFault) → ((b : List ℕ) (at : ℕ) → key b at ≡ of_key (K.read b at)) → ((b : List ℕ) (at : ℕ) → value b at ≡ of_value (V.read b at))
+      (of_key : K.Value → Result A EntryFault) (of_value : V.Value → Result B EntryFault)
+      → ((b : List ℕ) (at : ℕ) → key b at ≡ of_key (K.read b at))
+      → ((b : List ℕ) (at : ℕ) → value b at ≡ of_value (V.read b at))
       → (b : List ℕ) (at : ℕ) → native_map order b at ≡ map_given order (map (λ e. both (of_key e.0) (of_value e.1)) (read_map K V E b at))
 
 -- the map in which last values count: its keys ascend; of equal keys it has the first, and the value of the last

@@ -27,7 +27,7 @@ use std::num::NonZeroU32;
 pub enum DeserializeFault {
     /// An allocation failed.
     Memory(AllocError),
-    /// The entry refused itself.
+    /// An entry's own error.
     Entry(EntryFault),
 }
 
@@ -46,27 +46,28 @@ impl Error for DeserializeFault {}
 
 /// An archived type of whose values native ones of type `T` are made.
 pub trait Deserialize<T: PartialEq>: Portable {
-    /// The type of what contracts tell of a native value: of a text its bytes, of a number the number.
+    /// The type of what contracts say of a native value: of a text its bytes, of a number the number.
     ghost Told: { Type 0 };
 
-    /// What they tell of a native value.
+    /// What contracts say of a native value.
     ghost told: { T → Told };
 
-    /// How what they tell is ordered: as the native values are, where these are keys.
+    /// The order of what contracts say: that of the native values, if these are keys.
     ghost told_order: { Told → Told → Ordering };
 
-    /// What the bytes at a position of a buffer give: what is told of the native value, or the entry's own fault.
+    /// The result of deserializing the bytes at a position of a buffer: the `told` of the native value, or the entry's own
+    /// error.
     ghost native: { List ℕ → ℕ → Result Told EntryFault };
 
-    /// Makes the native value of what the view reads, in memory of `alloc` where it takes any.
+    /// Makes the native value of what the view reads. It takes memory from `alloc`.
     fn deserialize(alloc: Global, view: &View<'_, Self>) -> Result<T, DeserializeFault>
         ensures ok { IfOk result (λ value. native view.now.buf.now view.now.pos ≡ Ok (told value)) }
         ensures refused { IfErr result (IsRefused (native view.now.buf.now view.now.pos)) };
 
-    // What a value gives hangs on what its bytes mean alone, wherever it stands.
+    // The native value depends on the meaning of the bytes alone, at any position.
     ghost by_meaning: { IsByMeaning Self.kind native };
 
-    // Values of which the same is told are equal, so nothing that `==` sees is left untold.
+    // Values with the same `told` are equal. So `told` says all that `==` sees.
     ghost told_whole: { (x y : T) → told x ≡ told y → T.eq x y ≡ true };
 }
 
@@ -79,7 +80,7 @@ impl<T: DeserializeNative> Deserialize<T::Native> for T {
 
     ghost native = { λ b p. Ok (T.read_native b p) };
 
-    /// The native value. There is no error.
+    /// Returns the native value. It never fails.
     fn deserialize(_alloc: Global, view: &View<'_, T>) -> Result<T::Native, DeserializeFault>
         ensures { result ≡ Ok (T.read_native view.now.buf.now view.now.pos) }
     {
@@ -104,7 +105,7 @@ impl Deserialize<NonZeroU32> for ArchivedNonZeroU32 {
 
     ghost native = { λ b p. Ok (non_zero_kind.read b p) };
 
-    /// The number. There is no error.
+    /// Returns the number. It never fails.
     fn deserialize(
         _alloc: Global,
         view: &View<'_, ArchivedNonZeroU32>,
@@ -130,7 +131,7 @@ impl Deserialize<String> for ArchivedText {
 
     ghost native = { λ b p. Ok (text_kind.read b p) };
 
-    /// A copy of the text. The only error is a refused growth.
+    /// Returns a copy of the text. The only error is one of memory.
     fn deserialize(
         alloc: Global,
         view: &View<'_, ArchivedText>,
