@@ -1,5 +1,5 @@
 -- Lines and their ends.
-use Rattle.std.proofs.Common.{◌≡◌, ◌≢◌, ℕ, suc, ◌+◌, ◌≤◌, ◌<◌, List, [], ◌∷◌, ◌++◌, length, refl, sym, ap, subst, ◌∙◌, arith, rules, append_assoc, append-nil, length-append, if◌then◌else◌, inl, inr, ◌==◌, Bool, true, false}
+use Rattle.std.proofs.Common.{◌≡◌, ◌≢◌, ℕ, suc, ◌+◌, ◌≤◌, List, [], ◌∷◌, ◌++◌, length, refl, sym, ap, subst, ◌∙◌, arith, rules, append_assoc, append-nil, if◌then◌else◌, inl, inr, ◌==◌, Bool, true, false}
 use Rattle.std.proofs.lemmas.Grind.{common_steps}
 use Rattle.btreearc_lines.specs.Grammar.{LineEnds, AreDigits, IsEntry, begun, lines, AreEntries, IsLines, BadLine}
 use Rattle.btreearc_lines.specs.Reading.{GoodFront, NoDigitFirst, NumberFirst, EntryFirst}
@@ -73,17 +73,6 @@ entry-lines bytes x rest e =
       record { key = e.key.digits; value = e.value.digits; spelled = refl; key_is = e.key.is; value_is = e.value.is },
       ap lines (spelled bytes x rest e) ∙ line-first found e.end rest no_feed some e.ends,
     )
-
-ends-length : (end rest : List ℕ) → LineEnds end rest → length rest ≤ length end
-ends-length end rest (inl e) = let h : length end ≡ suc (length rest) = ap length e in omega arith
-ends-length end rest (inr e) = let h : length rest ≡ 0 = ap length e.1 in omega arith
-
-pub shorter : (bytes : List ℕ) (x : ℕ × ℕ) (rest : List ℕ) → EntryFirst bytes x rest → length rest < length bytes
-shorter bytes x rest e =
-    let a : length bytes ≡ length e.key.digits + length e.space = ap length e.key.spelled ∙ length-append e.key.digits e.space in
-    let b : length e.space ≡ suc (length e.after_space) = ap length e.one_space in
-    let d : length e.after_space ≡ length e.value.digits + length e.end = ap length e.value.spelled ∙ length-append e.value.digits e.end in
-    omega (arith, a, b, d, ends-length e.end rest e.ends)
 
 -- The first line of a list, and its end.
 pub record LineFirst (bytes line : List ℕ) : Type 0 where
