@@ -27,7 +27,7 @@ use Rattle.rkyv_btree_base.specs.Writing.{Writing, position, Write, AllReach, Wr
 use Rattle.rkyv_btree_base.specs.Fault.{Fault}
 use Rattle.rkyv_btree_base.specs.Fault.TheVariants.{Length, LengthOverflow, PositionOverflow, OffsetOverflow, Writer, Memory, Entry}
 use Rattle.rkyv_btree_base.proofs.Accepting.{accepted_archive, archive_length}
-use Rattle.rkyv_btree_base.proofs.WriteRuns.{appended-append, stopped_past, stopped_stray}
+use Rattle.rkyv_btree_base.proofs.WriteRuns.{AllReach-both, appended-append, stopped_past, stopped_stray}
 use Rattle.btreearc_commands.specs.Archive.{own, five, tree_writes, root_writes, archive_of, HasArchive, IsUnbuilt}
 use Rattle.btreearc_lines.specs.Grammar.{IsLines}
 use Rattle.btreearc_commands.specs.Opening.{IsArchive, root_of}
@@ -90,16 +90,12 @@ archive_written entries root s t built wrote =
     wrote.done.contents ∙ (ap (λ z. z ++ appended (root_image (position s) root (length entries))) tree
     ∙ (ap (λ ws. appended (tree_writes entries) ++ appended ws) (roots_are entries root s built) ∙ sym (appended-append (tree_writes entries) (root_writes entries))))
 
-reach_both : (xs ys : List Write) → AllReach xs → AllReach ys → AllReach (xs ++ ys)
-reach_both [] ys h k = k
-reach_both (x ∷ xs) ys h k = (h.0, reach_both xs ys h.1 k)
-
 -- so the entries have one
 pub has_archive : (entries : List (ℕ × ℕ)) (root : ℕ) (s t : Writing) → TreeIs entries root s → length entries ≤ last_end → Wrote s (root_image (position s) root (length entries)) t → position t ≤ last_end → HasArchive entries
 has_archive entries root s t built few wrote end = record {
   count = few;
   end = omega (arith, ap length (archive_written entries root s t built wrote), wrote.done.base, built.wrote.done.base);
-  reach = reach_both (tree_writes entries) (root_writes entries) built.wrote.reach (subst AllReach (roots_are entries root s built) wrote.reach);
+  reach = AllReach-both (tree_writes entries) (root_writes entries) built.wrote.reach (subst AllReach (roots_are entries root s built) wrote.reach);
 }
 
 alone_shape : {A : Type 0} (xs : List A) → ChildHasShape 5 (planned_alone 5 xs)
@@ -131,17 +127,6 @@ module _ (xs ys : List (ℕ × ℕ)) (same : length xs ≡ length ys) where
       subst (λ (c : Child OwnBytes). AreAlike (child_image five 0 c) (tree_writes ys)) (sym front)
       (subst (λ (c : Child OwnBytes). AreAlike (child_image five 0 (map_child (λ z. own z.0) (planned_alone 5 p.0))) (child_image five 0 c)) (sym back)
       (child_alike u32_kind u32_kind 5 u32_laws u32_laws numbers_fit (λ z. own z.0) (λ z. own z.1) (λ z. own_is z.0) (λ z. own_is z.1) 0 (planned_alone 5 p.0) (alone_shape p.0)))
-
-  roots_alike : root_writes xs ≡ root_writes ys
-  roots_alike =
-      let p = paired xs ys same in
-      let ends = alike_length (tree_writes xs) (tree_writes ys) trees_alike in
-      let root : child_root five 0 (planned_alone 5 (map own xs)) ≡ child_root five 0 (planned_alone 5 (map own ys)) =
-      ap (child_root five 0) (planned_by (λ z. z.0) p.0 xs p.1)
-      ∙ (same_child_root u32_kind u32_kind 5 u32_laws u32_laws numbers_fit (λ z. own z.0) (λ z. own z.1) (λ z. own_is z.0) (λ z. own_is z.1) 0 (planned_alone 5 p.0) ∙ ap (child_root five 0) (sym (planned_by (λ z. z.1) p.0 ys p.2))) in
-      ap (λ n. root_image n (unwrap_or (child_root five 0 (planned_alone 5 (map own xs))) 0) (length xs)) ends
-      ∙ (ap (λ r. root_image (length (appended (tree_writes ys))) (unwrap_or r 0) (length xs)) root
-      ∙ ap (λ n. root_image (length (appended (tree_writes ys))) (unwrap_or (child_root five 0 (planned_alone 5 (map own ys))) 0) n) same)
 
 module _ {S : Type 0} (rest : S → List (ℕ × ℕ)) (entries : List (ℕ × ℕ)) where
   -- writing the tree of as many entries was stopped

@@ -25,7 +25,8 @@ abbrev pub tree_writes : List (ℕ × ℕ) → List Write
 tree_writes entries = child_image five 0 (planned_alone 5 (map own entries))
 
 abbrev pub root_writes : List (ℕ × ℕ) → List Write
-root_writes entries = root_image (length (appended (tree_writes entries))) (unwrap_or (child_root five 0 (planned_alone 5 (map own entries))) 0) (length entries)
+root_writes entries =
+    root_image (length (appended (tree_writes entries))) (unwrap_or (child_root five 0 (planned_alone 5 (map own entries))) 0) (length entries)
 
 abbrev pub archive_of : List (ℕ × ℕ) → List ℕ
 archive_of entries = appended (tree_writes entries ++ root_writes entries)

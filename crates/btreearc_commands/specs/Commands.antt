@@ -1,5 +1,6 @@
 -- What each command does with known input, and when it fails.
-use Rattle.std.specs.Prelude.{◌≡◌, ℕ, List, [], ◌∷◌, ◌++◌, ◌&&◌, ◌↔◌, Contains, nat_le, length, map, filter, Option, Some, None, IfSome, MatchOption, Result, Ok, Err, codes, decimal}
+use Rattle.std.specs.Prelude.{◌≡◌, ℕ, List, [], ◌∷◌, ◌++◌, ◌&&◌, ◌↔◌, Contains, nat_le, length, map, filter, Option, Some, None}
+use Rattle.std.specs.Prelude.{IfSome, MatchOption, Result, Ok, Err, codes, decimal}
 use Rattle.std.specs.Io.KnownBytes.{Appends}
 use Rattle.std.specs.Ordering.{nat_cmp}
 use Rattle.rkyv_btree.specs.Bounds.{IsRun}
@@ -15,7 +16,9 @@ use Rattle.btreearc_lines.specs.declared.fault.ProgramFault.TheVariants.{Line, R
 -- the fault and has written nothing, except where a write failed
 abbrev pub Builds : Option (List ℕ) → Option (List ℕ) → Option (List ℕ) → Result ℕ ProgramFault → Type 0
 Builds input old new (Ok status) =
-    (status ≡ 0) × IfSome input (λ bytes. (entries : List (ℕ × ℕ)) × IsLines bytes entries × HasArchive entries × IsArchive (archive_of entries) entries × Appends old new (archive_of entries))
+    (status ≡ 0)
+    × IfSome input (λ bytes. (entries : List (ℕ × ℕ)) × IsLines bytes entries × HasArchive entries
+    × IsArchive (archive_of entries) entries × Appends old new (archive_of entries))
 Builds input old new (Err (Line n)) = IfSome input (λ bytes. BadLine bytes n) × (new ≡ old)
 Builds input old new (Err (NotBuilt fault)) = IfSome input (λ bytes. (entries : List (ℕ × ℕ)) × IsLines bytes entries × IsUnbuilt entries fault) × (new ≡ old)
 Builds input old new (Err InputFailed) = new ≡ old
