@@ -16,7 +16,7 @@ use rkyv_btree::base::text::ArchivedText;
 use rkyv_btree::base::whole::to_archive;
 use rkyv_btree::deserialize::DeserializeFault;
 use rkyv_btree::entry_type::EntryType;
-use rkyv_btree::lookup::{increasing_keys_are_found, what_is_found_is_equal};
+use rkyv_btree::std_maps::{archives_are_same_as_std, look_ups_find_as_std};
 use rkyv_btree::view::View;
 use rkyv_btree::whole::open;
 use std::alloc::{AllocError, Global};
@@ -30,9 +30,8 @@ pub fn looked_up(
 ) -> Result<Option<u32>, Fault<AllocError>>
     ensures { IfOk result (λ value. value ≡ get nat_cmp map.now key) }
 {
-    what_is_found_is_equal::<ArchivedU32, ArchivedU32, 5>();
-    increasing_keys_are_found::<ArchivedU32, ArchivedU32, 5>();
-    // That the keys ascend is told by the length of every map.
+    look_ups_find_as_std::<u32, u32, ArchivedU32, ArchivedU32, 5>();
+    // The contract of `len` says that the keys of the map increase.
     let _len = map.len();
     let archive = to_archive(alloc, map)?;
     match open::<Numbers>(archive.as_slice()) {
@@ -51,6 +50,7 @@ pub fn is_equal_to_itself(
 ) -> Result<bool, Fault<AllocError>>
     ensures { IfOk result (λ same. IsTrue same) }
 {
+    archives_are_same_as_std::<String, u32, ArchivedText, ArchivedU32, 5>();
     let archive = to_archive(alloc, map)?;
     match open::<ArchivedBTreeMap<ArchivedText, ArchivedU32, 5>>(archive.as_slice()) {
         Ok(view) => Ok(view.eq_map(map)),

@@ -6,7 +6,7 @@ use rkyv_btree::prelude::*;
 use std::collections::BTreeMap;
 use std::ops::Bound;
 
-type Prices = ArchivedBTreeMap<ArchivedText, ArchivedU32, 5>;
+type Prices = Archived<BTreeMap<String, u32>>;
 
 fn main(rt: HostRuntime) -> Result<()> {
     let alloc = rt.alloc();

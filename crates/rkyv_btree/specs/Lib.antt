@@ -3,6 +3,7 @@ pub use Rattle.rkyv_btree_convert.specs.Deserializing
 pub use Rattle.rkyv_btree_convert.specs.Maps
 pub use Rattle.rkyv_btree_convert.specs.RoundTrip
 pub use Rattle.rkyv_btree_convert.specs.Sets
+pub use Rattle.rkyv_btree_convert.specs.StdMaps
 pub use Rattle.rkyv_btree_convert.specs.Whole
 pub use Rattle.rkyv_btree_convert.specs.declared.deserialize.DeserializeFault
 pub use Rattle.rkyv_btree_convert.specs.declared.whole.ArchiveFault

@@ -46,7 +46,14 @@ pub mod keys {
 
 /// What is known of look-ups.
 pub mod lookup {
-    pub use rkyv_btree_view::lookup::{increasing_keys_are_found, what_is_found_is_equal};
+    pub use rkyv_btree_view::lookup::{
+        increasing_keys_are_found, searched_trees_are_spelled, what_is_found_is_equal,
+    };
+}
+
+/// What is known of archives of std's maps.
+pub mod std_maps {
+    pub use rkyv_btree_convert::std_maps::{archives_are_same_as_std, look_ups_find_as_std};
 }
 
 /// Archived maps, read in place, and with their values written there.
@@ -112,7 +119,7 @@ pub mod whole {
 
 /// What most programs name.
 pub mod prelude {
-    pub use rkyv_btree_base::archive::{Archive, Serialize};
+    pub use rkyv_btree_base::archive::{Archive, Archived, Serialize};
     pub use rkyv_btree_base::check::{CheckBytes, Portable};
     pub use rkyv_btree_base::fault::Fault;
     pub use rkyv_btree_base::io_writer::IoWriter;

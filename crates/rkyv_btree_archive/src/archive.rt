@@ -55,6 +55,9 @@ pub trait Archive {
     ghost causes: { HasCauses archival };
 }
 
+/// The archived type of `T`: `Archived<BTreeMap<String, u32>>` is what `to_archive` writes of such a map.
+pub type Archived<T> = <T as Archive>::Archived;
+
 /// A value that a writer takes, with what its own bytes lead to.
 pub trait Serialize<W: Writer, A>: Archive {
     /// Makes the writes that come before its own bytes. After an error the writer's contents begin with the old ones.

@@ -1,8 +1,8 @@
 //! Std's maps and sets, archived as trees with five entries in a node.
-ghost use Rattle.std.specs.Prelude.{◌≡◌, ◌<◌, length, IsTrue, OnOk, OnErr, IfOk, IfErr};
+ghost use Rattle.std.specs.Prelude.{◌≡◌, ◌<◌, length, alloc_error, IsTrue, IsErrOf, OnOk, OnErr, IfOk, IfErr};
 ghost use Rattle.rkyv_btree_format.specs.Layout.{layout_of, are_fitting};
 ghost use Rattle.rkyv_btree_image.specs.Determined.{IsDetermined};
-ghost use Rattle.rkyv_btree_image.specs.Kept.{OnlyAppended};
+ghost use Rattle.rkyv_btree_image.specs.Kept.{NeverGrows, OnlyAppended};
 ghost use Rattle.rkyv_btree_image.specs.OneTree.{OneTreeWritten};
 ghost use Rattle.rkyv_btree_image.specs.Sets.{unit_archival, with_units};
 ghost use Rattle.rkyv_btree_image.specs.SmallestMaps.{IsSmallestArchive};
@@ -48,6 +48,7 @@ impl<KU: Archive + Ord, VU: Archive> Archive for BTreeMap<KU, VU> {
         ensures err { IfErr result
             (IsUnresolved (tree_archival 5 KU.archival VU.archival (λ map. map.entries))
             self.now resolver out.entry.pos) }
+        ensures kept { OnErr result (out.exit.1.0.now ≡ out.entry.bytes.now) }
     {
         let entries = self.len();
         let Place { pos, bytes, of: _ } = out;
@@ -85,6 +86,9 @@ impl<W: Writer, A: Allocator + Copy, KU: Serialize<W, A> + Ord, VU: Serialize<W,
             (W.state writer.old) fault (W.state writer.new)) }
         ensures went { OnOk result (OnlyAppended (W.state writer.old) (W.state writer.new)) }
         ensures kept { OnErr result (BeginsWith (W.state writer.new) (W.state writer.old)) }
+        // Where no entry asks for memory, a failed allocation leaves the writer as it was.
+        ensures memory { NeverGrows KU.archival → NeverGrows VU.archival →
+            IsErrOf result (Fault.Memory alloc_error) → W.state writer.new ≡ W.state writer.old }
     {
         ArchivedBTreeMap::<
             KU::Archived,
@@ -113,6 +117,7 @@ impl<KU: Archive + Ord> Archive for BTreeSet<KU> {
         ensures err { IfErr result
             (IsUnresolved (tree_archival 5 KU.archival unit_archival (λ set. with_units set.keys))
             self.now resolver out.entry.pos) }
+        ensures kept { OnErr result (out.exit.1.0.now ≡ out.entry.bytes.now) }
     {
         let keys = self.len();
         let Place { pos, bytes, of: _ } = out;
@@ -152,6 +157,9 @@ impl<W: Writer, A: Allocator + Copy, KU: Serialize<W, A> + Ord> Serialize<W, A> 
             self.now (W.state writer.old) fault (W.state writer.new)) }
         ensures went { OnOk result (OnlyAppended (W.state writer.old) (W.state writer.new)) }
         ensures kept { OnErr result (BeginsWith (W.state writer.new) (W.state writer.old)) }
+        // Where no entry asks for memory, a failed allocation leaves the writer as it was.
+        ensures memory { NeverGrows KU.archival →
+            IsErrOf result (Fault.Memory alloc_error) → W.state writer.new ≡ W.state writer.old }
     {
         ArchivedBTreeSet::<KU::Archived, DEFAULT_ENTRIES_PER_NODE>::serialize_from_ordered_iter(
             alloc,

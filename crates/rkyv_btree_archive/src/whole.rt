@@ -1,9 +1,9 @@
 //! Whole archives: the bytes of one value from position 0 on, its own at their end.
 ghost use Rattle.std.specs.Prelude.{◌≡◌, ◌+◌, ◌≤◌, length, IsTrue, IfOk, IfErr};
-ghost use Rattle.rkyv_btree_image.specs.Whole.{IsArchiveOf, IsPlaced, IsUnplaced, IsUnarchived};
+ghost use Rattle.rkyv_btree_image.specs.Whole.{IsArchiveOf, IsPlaced, IsUnplaced, IsUnwritten, LeftUnplaced, IsUnarchived};
 ghost use Rattle.rkyv_btree_portable.specs.Rounding.{round_up};
 ghost use Rattle.rkyv_btree_writer.specs.Archiving.{Matches};
-ghost use Rattle.rkyv_btree_writer.specs.Writing.{position};
+ghost use Rattle.rkyv_btree_writer.specs.Writing.{Writing, position};
 
 use crate::archive::{Archive, Serialize, resolve_into};
 use crate::writes::fault_of;
@@ -26,6 +26,8 @@ fn own_bytes<T: Archive, W, A: Allocator>(
     ensures size { IfOk result (λ own. length own.items ≡ T.Archived.kind.size) }
     ensures err { IfErr result
         (IsUnplaced T.archival T.Archived.kind value.now resolver pos) }
+    ensures unwritten { IfErr result (λ fault. (s : Writing) →
+        IsUnwritten T.archival T.Archived.kind value.now resolver s fault s) }
 {
     let mut own = Vec::new(alloc);
     if own.resize(T::Archived::size() as usize, 0).is_err() {
@@ -37,8 +39,8 @@ fn own_bytes<T: Archive, W, A: Allocator>(
     }
 }
 
-/// Writes zeros up to the alignment of a serialized value and then its own bytes, and returns their position. After an error
-/// what was written remains.
+/// Writes zeros up to the alignment of a serialized value, and then its own bytes. Returns their position. After an error
+/// the writer holds a beginning of these bytes.
 pub fn write_value<T: Archive, W: Writer, A: Allocator>(
     alloc: A,
     value: &T,
@@ -52,6 +54,10 @@ pub fn write_value<T: Archive, W: Writer, A: Allocator>(
     ensures err { IfErr result
         (IsUnplaced T.archival T.Archived.kind value.now resolver
         (round_up (position (W.state writer.old)) T.Archived.kind.align)) }
+    // After an error nothing has changed but for some of the zeros, and a beginning of the own bytes if the writer failed.
+    ensures left { IfErr result (λ fault.
+        LeftUnplaced T.archival T.Archived.kind value.now resolver (W.state writer.old) fault
+        (W.state writer.new)) }
 {
     let size = T::Archived::size();
     let pos = pad(writer, T::Archived::align())?;

@@ -1,4 +1,5 @@
 pub use Rattle.rkyv_btree_shape.specs.Tree
+pub use Rattle.rkyv_btree_shape.specs.Mapped
 pub use Rattle.rkyv_btree_shape.specs.Weight
 pub use Rattle.rkyv_btree_shape.specs.Logarithm
 pub use Rattle.rkyv_btree_shape.specs.Plan

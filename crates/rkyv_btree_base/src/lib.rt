@@ -8,7 +8,9 @@ pub use rkyv_btree_writer::{fault, io_writer};
 
 /// Values that can be archived.
 pub mod archive {
-    pub use rkyv_btree_archive::archive::{Archive, Native, Serialize, natives_are_determined};
+    pub use rkyv_btree_archive::archive::{
+        Archive, Archived, Native, Serialize, natives_are_determined,
+    };
 }
 
 /// Numbers and pointers in a buffer.

@@ -4,5 +4,6 @@ pub mod Made
 pub mod LastWins
 pub mod AtOnce
 pub mod Opened
+pub mod StdMaps
 pub mod Units
 pub mod RoundTrip

@@ -3,5 +3,6 @@ pub mod Deserializing
 pub mod Maps
 pub mod RoundTrip
 pub mod Sets
+pub mod StdMaps
 pub mod Whole
 pub mod laws

@@ -9,4 +9,5 @@ pub mod native;
 mod pair;
 pub mod round_trip;
 pub mod set;
+pub mod std_maps;
 pub mod whole;

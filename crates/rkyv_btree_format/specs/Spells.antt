@@ -71,6 +71,10 @@ module _ (K V : Kind) (E : ℕ) (b : List ℕ) where
     pub room : at + 8 ≤ length b
     pub root : ((number_at b (at + 4) 4 ≡ 0) × (m ≡ []) × (lo2 ≡ lo)) ⊎ ((number_at b (at + 4) 4 ≢ 0) × SpellsRoot lo hi at lo2 m)
 
+  -- its tree; that of no entries is an empty leaf
+  abbrev pub accepted_tree : (lo hi at lo2 : ℕ) (m : List (K.Value × V.Value)) → Accepted lo hi at lo2 m → Tree (K.Value × V.Value)
+  accepted_tree lo hi at lo2 m a = elim a.root [ inl h ↦ leaf [] | inr h ↦ h.1.tree ]
+
   -- the nodes of its tree
   abbrev pub accepted_nodes : (lo hi at lo2 : ℕ) (m : List (K.Value × V.Value)) → Accepted lo hi at lo2 m → ℕ
   accepted_nodes lo hi at lo2 m a = elim a.root [ inl h ↦ 0 | inr h ↦ nodes h.1.tree ]

@@ -20,7 +20,8 @@ use Rattle.rkyv_btree_format.proofs.Sizes.{room_of}
 use Rattle.rkyv_btree_writer.specs.declared.fault.Fault.{Fault}
 use Rattle.rkyv_btree_writer.specs.declared.fault.Fault.TheVariants.{Length, LengthOverflow, PositionOverflow, OffsetOverflow, Writer, Memory, Entry}
 use Rattle.rkyv_btree_image.proofs.EntriesWritten.{meant, since}
-use Rattle.rkyv_btree_shape.proofs.Mapped.{map_tree, plan_mapped, list_mapped, height_mapped}
+use Rattle.rkyv_btree_shape.proofs.Mapped.{plan_mapped, list_mapped, height_mapped}
+use Rattle.rkyv_btree_shape.specs.Mapped.{mapped}
 use Rattle.rkyv_btree_shape.proofs.Smallest.{plan_is_left_complete, left_complete_is_smallest}
 use Rattle.rkyv_btree_image.proofs.TreesWritten.{tree_grown, tree_spelled}
 use Rattle.rkyv_btree_writer.proofs.WriteRuns.{stopped-behind, stopped-one}
@@ -85,14 +86,14 @@ module _ {M N R S : Type 0} (K V : Kind) (E : ℕ) (k : IsLawful K) (v : IsLawfu
       let grown = tree_grown K V E k v fits KA VA key value ka va s tree place t b.written.1 in
       let here : root ≡ place = b.root_is ∙ ap (λ (o : Option ℕ). unwrap_or o 0) b.written.2 in
       record {
-        tree = map_tree mean tree;
+        tree = mapped mean tree;
         entries = list_mapped mean tree ∙ (ap (map mean) complete.1 ∙ means);
         planned = sym (plan_mapped mean E xs) ∙ ap (plan E) means;
         levels = omega (arith, height_mapped mean tree, smallest.height_fits (omega (arith, count, few)));
         appended = grown.more;
         contents = grown.contents;
         spelled = λ bytes short held inside.
-            subst (λ (p : ℕ). Spells K V E bytes (position s) (position t) p (map_tree mean tree)) (sym here)
+            subst (λ (p : ℕ). Spells K V E bytes (position s) (position t) p (mapped mean tree)) (sym here)
             (tree_spelled K V E k v fits KA VA key value ka va bytes short (position s) (position t) s tree place t complete.0.has_shape b.written.1
             (subst (Holds bytes (position s)) (sym (since s t grown)) held) (omega arith) (omega arith) inside);
       }

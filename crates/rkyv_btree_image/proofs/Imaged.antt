@@ -17,7 +17,8 @@ use Rattle.rkyv_btree_writer.specs.declared.fault.Fault.TheVariants.{Length, Len
 use Rattle.rkyv_btree_writer.specs.declared.fault.ResolveFault.{ResolveFault}
 use Rattle.rkyv_btree_writer.specs.declared.fault.ResolveFault.TheVariants as resolving
 use Rattle.rkyv_btree_image.proofs.Leaves.{leaf_bytes_length}
-use Rattle.rkyv_btree_shape.proofs.Mapped.{map_tree, map_row, map_child, entries_mapped}
+use Rattle.rkyv_btree_shape.proofs.Mapped.{entries_mapped}
+use Rattle.rkyv_btree_shape.specs.Mapped.{mapped, mapped_row, mapped_child}
 use Rattle.rkyv_btree_image.proofs.NodesHeld.{inner_length, length-roots}
 use Rattle.rkyv_btree_writer.proofs.WriteRuns.{appended-position, wrote-none, wrote-both, stopped-behind, stopped-front, stopped-one}
 
@@ -135,26 +136,26 @@ module _ {M N : Type 0} (K V : Kind) (E : ℕ) (k : IsLawful K) (v : IsLawful V)
 
   mutual
     pub tree_written : (s : Writing) (tree : Tree (M × N)) (root : ℕ) (t : Writing) → TreeWritten (layout_of K V E) KA VA s tree root t →
-        Wrote s (tree_image (layout_of K V E) (position s) (map_tree own_of tree)) t × (root ≡ tree_root (layout_of K V E) (position s) (map_tree own_of tree)) × (position t ≡ tree_end (layout_of K V E) (position s) (map_tree own_of tree))
+        Wrote s (tree_image (layout_of K V E) (position s) (mapped own_of tree)) t × (root ≡ tree_root (layout_of K V E) (position s) (mapped own_of tree)) × (position t ≡ tree_end (layout_of K V E) (position s) (mapped own_of tree))
     tree_written s (leaf xs) root t h =
         let node = node_written (leaf_image (layout_of K V E)) (leaf_size (layout_of K V E)) s xs root t h in
         (node.0, node.1, omega (arith, node.1, node.2))
     tree_written s (inner row) root t h =
         let n = layout_of K V E in
         let rows = row_written s row h.0 h.1 h.2 in
-        let end = row_end n (position s) (map_row own_of row) in
-        let roots = row_roots n (position s) (map_row own_of row) in
+        let end = row_end n (position s) (mapped_row own_of row) in
+        let roots = row_roots n (position s) (mapped_row own_of row) in
         let node = node_written (λ (at : ℕ) (owns : List OwnBytes). inner_image n at owns h.0) (inner_size n) h.1 (row_entries row) root t h.3 in
-        let image = row_image n (position s) (map_row own_of row) in
+        let image = row_image n (position s) (mapped_row own_of row) in
         let entries = entries_mapped own_of row in (
-          wrote-both s image h.1 (inner_image n end (row_entries (map_row own_of row)) roots) t rows.0
+          wrote-both s image h.1 (inner_image n end (row_entries (mapped_row own_of row)) roots) t rows.0
               (subst (λ (os : List OwnBytes). Wrote h.1 (inner_image n end os roots) t) (sym entries) (subst (λ (rs : List (Option ℕ)). Wrote h.1 (inner_image n end (map own_of (row_entries row)) rs) t) rows.1 (subst (λ (m : ℕ). Wrote h.1 (inner_image n m (map own_of (row_entries row)) h.0) t) rows.2 node.0))),
           node.1 ∙ ap (λ m. round_up m (align n)) rows.2,
           node.2 ∙ ap (λ m. m + inner_size n) (node.1 ∙ ap (λ m. round_up m (align n)) rows.2),
         )
 
     row_written : (s : Writing) (row : Row (M × N)) (roots : List (Option ℕ)) (t : Writing) → RowWritten (layout_of K V E) KA VA s row roots t →
-        Wrote s (row_image (layout_of K V E) (position s) (map_row own_of row)) t × (roots ≡ row_roots (layout_of K V E) (position s) (map_row own_of row)) × (position t ≡ row_end (layout_of K V E) (position s) (map_row own_of row))
+        Wrote s (row_image (layout_of K V E) (position s) (mapped_row own_of row)) t × (roots ≡ row_roots (layout_of K V E) (position s) (mapped_row own_of row)) × (position t ≡ row_end (layout_of K V E) (position s) (mapped_row own_of row))
     row_written s (last c) roots t h =
         let one = child_written s c h.0 t h.1 in
         (one.0, h.2 ∙ ap (λ (r : Option ℕ). r ∷ []) one.1, one.2)
@@ -162,32 +163,32 @@ module _ {M N : Type 0} (K V : Kind) (E : ℕ) (k : IsLawful K) (v : IsLawful V)
         let n = layout_of K V E in
         let one = child_written s c h.0 h.2 h.3 in
         let rest = row_written h.2 row h.1 t h.4 in
-        let mid = child_end n (position s) (map_child own_of c) in (
-          wrote-both s (child_image n (position s) (map_child own_of c)) h.2 (row_image n mid (map_row own_of row)) t one.0 (subst (λ (m : ℕ). Wrote h.2 (row_image n m (map_row own_of row)) t) one.2 rest.0),
-          h.5 ∙ (ap (λ (r : Option ℕ). r ∷ h.1) one.1 ∙ ap (λ (rs : List (Option ℕ)). child_root n (position s) (map_child own_of c) ∷ rs) (rest.1 ∙ ap (λ m. row_roots n m (map_row own_of row)) one.2)),
-          rest.2 ∙ ap (λ m. row_end n m (map_row own_of row)) one.2,
+        let mid = child_end n (position s) (mapped_child own_of c) in (
+          wrote-both s (child_image n (position s) (mapped_child own_of c)) h.2 (row_image n mid (mapped_row own_of row)) t one.0 (subst (λ (m : ℕ). Wrote h.2 (row_image n m (mapped_row own_of row)) t) one.2 rest.0),
+          h.5 ∙ (ap (λ (r : Option ℕ). r ∷ h.1) one.1 ∙ ap (λ (rs : List (Option ℕ)). child_root n (position s) (mapped_child own_of c) ∷ rs) (rest.1 ∙ ap (λ m. row_roots n m (mapped_row own_of row)) one.2)),
+          rest.2 ∙ ap (λ m. row_end n m (mapped_row own_of row)) one.2,
         )
 
     pub child_written : (s : Writing) (c : Child (M × N)) (root : Option ℕ) (t : Writing) → ChildWritten (layout_of K V E) KA VA s c root t →
-        Wrote s (child_image (layout_of K V E) (position s) (map_child own_of c)) t × (root ≡ child_root (layout_of K V E) (position s) (map_child own_of c)) × (position t ≡ child_end (layout_of K V E) (position s) (map_child own_of c))
+        Wrote s (child_image (layout_of K V E) (position s) (mapped_child own_of c)) t × (root ≡ child_root (layout_of K V E) (position s) (mapped_child own_of c)) × (position t ≡ child_end (layout_of K V E) (position s) (mapped_child own_of c))
     child_written s absent root t h = (subst (λ (u : Writing). Wrote s [] u) (sym h.1) (wrote-none s), h.0, ap position h.1)
     child_written s (child tree) root t h =
         let one = tree_written s tree h.0 t h.1 in
         (one.0, h.2 ∙ ap Some one.1, one.2)
 
   mutual
-    tree_stopped : {F : Type 0} (s : Writing) (tree : Tree (M × N)) (fault : Fault F) (t : Writing) → HasShape E tree → TreeStopped (layout_of K V E) KA VA s tree fault t → Stopped s (tree_image (layout_of K V E) (position s) (map_tree own_of tree)) fault t
+    tree_stopped : {F : Type 0} (s : Writing) (tree : Tree (M × N)) (fault : Fault F) (t : Writing) → HasShape E tree → TreeStopped (layout_of K V E) KA VA s tree fault t → Stopped s (tree_image (layout_of K V E) (position s) (mapped own_of tree)) fault t
     tree_stopped s (leaf xs) fault t is h =
         let n = layout_of K V E in
         node_stopped (leaf_image n) (λ (at : ℕ) (owns : List OwnBytes). record { bytes = leaf_bytes n owns; reaches = true }) (leaf_size n) s xs fault t (λ at owns. refl)
         (λ at. leaf_bytes_length K V E k v fits (map own_of xs) (are_own xs) (omega (arith, length-map xs own_of, is))) h
     tree_stopped s (inner row) fault t is (inl h) =
         let n = layout_of K V E in
-        let mapped = map_row own_of row in
+        let mapped = mapped_row own_of row in
         stopped-front s (row_image n (position s) mapped) (inner_image n (row_end n (position s) mapped) (row_entries mapped) (row_roots n (position s) mapped)) fault t (row_stopped s row fault t is.1 h)
     tree_stopped s (inner row) fault t is (inr h) =
         let n = layout_of K V E in
-        let mapped = map_row own_of row in
+        let mapped = mapped_row own_of row in
         let rows = row_written s row h.0 h.1 h.2 in
         let end = row_end n (position s) mapped in
         let roots = row_roots n (position s) mapped in
@@ -198,17 +199,17 @@ module _ {M N : Type 0} (K V : Kind) (E : ℕ) (k : IsLawful K) (v : IsLawful V)
         stopped-behind s (row_image n (position s) mapped) h.1 (inner_image n end (row_entries mapped) roots) fault t rows.0
         (subst (λ (os : List OwnBytes). Stopped h.1 (inner_image n end os roots) fault t) (sym entries) (subst (λ (rs : List (Option ℕ)). Stopped h.1 (inner_image n end (map own_of (row_entries row)) rs) fault t) rows.1 (subst (λ (m : ℕ). Stopped h.1 (inner_image n m (map own_of (row_entries row)) h.0) fault t) rows.2 node)))
 
-    row_stopped : {F : Type 0} (s : Writing) (row : Row (M × N)) (fault : Fault F) (t : Writing) → RowHasShape E row → RowStopped (layout_of K V E) KA VA s row fault t → Stopped s (row_image (layout_of K V E) (position s) (map_row own_of row)) fault t
+    row_stopped : {F : Type 0} (s : Writing) (row : Row (M × N)) (fault : Fault F) (t : Writing) → RowHasShape E row → RowStopped (layout_of K V E) KA VA s row fault t → Stopped s (row_image (layout_of K V E) (position s) (mapped_row own_of row)) fault t
     row_stopped s (last c) fault t is h = child_stopped s c fault t is h
     row_stopped s (step c x row) fault t is (inl h) =
         let n = layout_of K V E in
-        stopped-front s (child_image n (position s) (map_child own_of c)) (row_image n (child_end n (position s) (map_child own_of c)) (map_row own_of row)) fault t (child_stopped s c fault t is.0 h)
+        stopped-front s (child_image n (position s) (mapped_child own_of c)) (row_image n (child_end n (position s) (mapped_child own_of c)) (mapped_row own_of row)) fault t (child_stopped s c fault t is.0 h)
     row_stopped s (step c x row) fault t is (inr h) =
         let n = layout_of K V E in
         let one = child_written s c h.0 h.1 h.2 in
-        stopped-behind s (child_image n (position s) (map_child own_of c)) h.1 (row_image n (child_end n (position s) (map_child own_of c)) (map_row own_of row)) fault t one.0
-        (subst (λ (m : ℕ). Stopped h.1 (row_image n m (map_row own_of row)) fault t) one.2 (row_stopped h.1 row fault t is.1 h.3))
+        stopped-behind s (child_image n (position s) (mapped_child own_of c)) h.1 (row_image n (child_end n (position s) (mapped_child own_of c)) (mapped_row own_of row)) fault t one.0
+        (subst (λ (m : ℕ). Stopped h.1 (row_image n m (mapped_row own_of row)) fault t) one.2 (row_stopped h.1 row fault t is.1 h.3))
 
-    pub child_stopped : {F : Type 0} (s : Writing) (c : Child (M × N)) (fault : Fault F) (t : Writing) → ChildHasShape E c → ChildStopped (layout_of K V E) KA VA s c fault t → Stopped s (child_image (layout_of K V E) (position s) (map_child own_of c)) fault t
+    pub child_stopped : {F : Type 0} (s : Writing) (c : Child (M × N)) (fault : Fault F) (t : Writing) → ChildHasShape E c → ChildStopped (layout_of K V E) KA VA s c fault t → Stopped s (child_image (layout_of K V E) (position s) (mapped_child own_of c)) fault t
     child_stopped s absent fault t is h = absurd h
     child_stopped s (child tree) fault t is h = tree_stopped s tree fault t is h

@@ -4,7 +4,8 @@ use Rattle.rkyv_btree_image.specs.Determined.{IsDetermined}
 use Rattle.rkyv_btree_format.specs.Layout.{NodeLayout, key_at, value_at, align}
 use Rattle.rkyv_btree_portable.specs.InPlace.{OwnBytes}
 use Rattle.rkyv_btree_portable.specs.Rounding.{round_up}
-use Rattle.rkyv_btree_shape.proofs.Mapped.{map_tree, map_row, map_child, entries_mapped}
+use Rattle.rkyv_btree_shape.proofs.Mapped.{entries_mapped}
+use Rattle.rkyv_btree_shape.specs.Mapped.{mapped, mapped_row, mapped_child}
 use Rattle.rkyv_btree_shape.specs.Tree.{Tree, leaf, inner, Row, last, step, Child, absent, child, row_entries}
 use Rattle.rkyv_btree_writer.specs.Archiving.{Archival}
 use Rattle.rkyv_btree_writer.specs.Writing.{Write}
@@ -99,19 +100,19 @@ module _ {M N R S : Type 0} (s : NodeLayout) (K : Archival M R) (V : Archival N 
       (a.both ∙ (ap (λ (ws : List Write). ws ++ image (end_of from ws) a.owns) entries.0 ∙ (ap (λ (os : List OwnBytes). b.before ++ image (end_of from b.before) os) owns ∙ sym b.both)), same)
 
   mutual
-    tree_determined : (from : ℕ) (t u : Tree (M × N)) (writes others : List Write) (root place : ℕ) → map_tree (entry_means K V) t ≡ map_tree (entry_means K V) u → TreeImage s K V from t writes root → TreeImage s K V from u others place → (writes ≡ others) × (root ≡ place)
+    tree_determined : (from : ℕ) (t u : Tree (M × N)) (writes others : List Write) (root place : ℕ) → mapped (entry_means K V) t ≡ mapped (entry_means K V) u → TreeImage s K V from t writes root → TreeImage s K V from u others place → (writes ≡ others) × (root ≡ place)
     tree_determined from (leaf xs) (leaf ys) writes others root place mean a b = node_determined (leaf_image s) from xs ys writes others root place (cc mean) a b
     tree_determined from (leaf xs) (inner other) writes others root place mean a b = absurd (cc mean)
     tree_determined from (inner row) (leaf ys) writes others root place mean a b = absurd (cc mean)
     tree_determined from (inner row) (inner other) writes others root place mean a b =
-        let below : map_row (entry_means K V) row ≡ map_row (entry_means K V) other = cc mean in
+        let below : mapped_row (entry_means K V) row ≡ mapped_row (entry_means K V) other = cc mean in
         let rows = row_determined from row other a.0 b.0 a.2 b.2 below a.3 b.3 in
         let entries = sym (entries_mapped (entry_means K V) row) ∙ (ap row_entries below ∙ entries_mapped (entry_means K V) other) in
         let first : NodeImage s K V (λ (n : ℕ) (owns : List OwnBytes). inner_image s n owns b.2) (end_of from b.0) (row_entries row) a.1 root = subst (λ (ws : List Write). NodeImage s K V (λ (n : ℕ) (owns : List OwnBytes). inner_image s n owns b.2) (end_of from ws) (row_entries row) a.1 root) rows.0 (subst (λ (rs : List (Option ℕ)). NodeImage s K V (λ (n : ℕ) (owns : List OwnBytes). inner_image s n owns rs) (end_of from a.0) (row_entries row) a.1 root) rows.1 a.4) in
         let node = node_determined (λ (n : ℕ) (owns : List OwnBytes). inner_image s n owns b.2) (end_of from b.0) (row_entries row) (row_entries other) a.1 b.1 root place entries first b.4 in
         (a.5 ∙ (ap (λ (ws : List Write). ws ++ a.1) rows.0 ∙ (ap (λ (ws : List Write). b.0 ++ ws) node.0 ∙ sym b.5)), node.1)
 
-    row_determined : (from : ℕ) (row other : Row (M × N)) (writes others : List Write) (roots places : List (Option ℕ)) → map_row (entry_means K V) row ≡ map_row (entry_means K V) other → RowImage s K V from row writes roots → RowImage s K V from other others places → (writes ≡ others) × (roots ≡ places)
+    row_determined : (from : ℕ) (row other : Row (M × N)) (writes others : List Write) (roots places : List (Option ℕ)) → mapped_row (entry_means K V) row ≡ mapped_row (entry_means K V) other → RowImage s K V from row writes roots → RowImage s K V from other others places → (writes ≡ others) × (roots ≡ places)
     row_determined from (last c) (last d) writes others roots places mean a b =
         let one = images_are_determined from c d writes others a.0 b.0 (cc mean) a.1 b.1 in
         (one.0, a.2 ∙ (ap (λ (r : Option ℕ). r ∷ []) one.1 ∙ sym b.2))
@@ -125,7 +126,7 @@ module _ {M N R S : Type 0} (s : NodeLayout) (K : Archival M R) (V : Archival N 
         )
 
     -- from one position, trees that mean the same have one image and one root
-    pub images_are_determined : (from : ℕ) (c d : Child (M × N)) (writes others : List Write) (root place : Option ℕ) → map_child (entry_means K V) c ≡ map_child (entry_means K V) d → ChildImage s K V from c writes root → ChildImage s K V from d others place → (writes ≡ others) × (root ≡ place)
+    pub images_are_determined : (from : ℕ) (c d : Child (M × N)) (writes others : List Write) (root place : Option ℕ) → mapped_child (entry_means K V) c ≡ mapped_child (entry_means K V) d → ChildImage s K V from c writes root → ChildImage s K V from d others place → (writes ≡ others) × (root ≡ place)
     images_are_determined from absent absent writes others root place mean a b = (a.0 ∙ sym b.0, a.1 ∙ sym b.1)
     images_are_determined from absent (child other) writes others root place mean a b = absurd (cc mean)
     images_are_determined from (child tree) absent writes others root place mean a b = absurd (cc mean)

@@ -6,12 +6,13 @@ use Rattle.rkyv_btree_portable.specs.Bytes.{number_at, target_at}
 use Rattle.rkyv_btree_portable.specs.Kind.{Kind}
 use Rattle.rkyv_btree_format.specs.Layout.{NodeLayout, layout_of, are_fitting, key_at, value_at, len_at, leaf_size, inner_size, pointer_at}
 use Rattle.rkyv_btree_format.specs.Spells.{IsNodeAt, Entries, Spells, SpellsRow, SpellsChild, SpellsRoot, Accepted, root_size}
-use Rattle.rkyv_btree_shape.proofs.Mapped.{map_tree, map_row, map_child, list_mapped, height_mapped, entries_mapped}
+use Rattle.rkyv_btree_shape.proofs.Mapped.{list_mapped, height_mapped, entries_mapped}
+use Rattle.rkyv_btree_shape.specs.Mapped.{mapped, mapped_row, mapped_child}
 use Rattle.rkyv_btree_shape.specs.Tree.{Tree, leaf, inner, Row, last, step, Child, absent, child, row_entries}
 use Rattle.rkyv_btree_verify.specs.Map.{map_kind}
 use Rattle.rkyv_btree_writer.specs.Archiving.{Matches}
 
-same_size : {X Y : Type 0} (f : X → Y) (s : NodeLayout) (t : Tree X) → root_size s (map_tree f t) ≡ root_size s t
+same_size : {X Y : Type 0} (f : X → Y) (s : NodeLayout) (t : Tree X) → root_size s (mapped f t) ≡ root_size s t
 same_size f s (leaf m) = refl
 same_size f s (inner row) = refl
 
@@ -38,7 +39,7 @@ module _ (K V A B : Kind) (E : ℕ) (k : Matches K A) (v : Matches V B) where
     )
 
     mutual
-      same_tree : (lo hi p : ℕ) (t : Tree (K.Value × V.Value)) → Spells K V E b lo hi p t → Spells A B E b lo hi p (map_tree to t)
+      same_tree : (lo hi p : ℕ) (t : Tree (K.Value × V.Value)) → Spells K V E b lo hi p t → Spells A B E b lo hi p (mapped to t)
       same_tree lo hi p (leaf m) h = (
         subst (λ (s : NodeLayout). IsNodeAt s b lo hi p 0 (leaf_size s)) same_layout h.0,
         subst (λ (s : NodeLayout). number_at b (p + len_at s) 4 ≡ length m) same_layout h.1 ∙ sym (length-map m to),
@@ -55,11 +56,11 @@ module _ (K V A B : Kind) (E : ℕ) (k : Matches K A) (v : Matches V B) where
         subst (Entries A B E b p 0 h.2 h.4) (sym (entries_mapped to row)) (same_entries p 0 h.2 h.4 (row_entries row) h.5),
       )
 
-      same_row : (p i lo mid : ℕ) (row : Row (K.Value × V.Value)) → SpellsRow K V E b p i lo mid row → SpellsRow A B E b p i lo mid (map_row to row)
+      same_row : (p i lo mid : ℕ) (row : Row (K.Value × V.Value)) → SpellsRow K V E b p i lo mid row → SpellsRow A B E b p i lo mid (mapped_row to row)
       same_row p i lo mid (last c) h = same_child p i lo mid c h
       same_row p i lo mid (step c e row) h = (h.0, same_child p i lo h.0 c h.1, same_row p (i + 1) h.0 mid row h.2)
 
-      same_child : (p i lo next : ℕ) (c : Child (K.Value × V.Value)) → SpellsChild K V E b p i lo next c → SpellsChild A B E b p i lo next (map_child to c)
+      same_child : (p i lo next : ℕ) (c : Child (K.Value × V.Value)) → SpellsChild K V E b p i lo next c → SpellsChild A B E b p i lo next (mapped_child to c)
       same_child p i lo next absent h = (subst (λ (s : NodeLayout). target_at b (p + pointer_at s i) ≡ None) same_layout h.0, h.1)
       same_child p i lo next (child t) h = (
         h.0,
@@ -71,7 +72,7 @@ module _ (K V A B : Kind) (E : ℕ) (k : Matches K A) (v : Matches V B) where
     same_root : (lo hi at lo2 : ℕ) (m : List (K.Value × V.Value)) → SpellsRoot K V E b lo hi at lo2 m → SpellsRoot A B E b lo hi at lo2 (map to m)
     same_root lo hi at lo2 m h = record {
       start = h.start;
-      tree = map_tree to h.tree;
+      tree = mapped to h.tree;
       leads = h.leads;
       spelled = same_tree lo hi h.start h.tree h.spelled;
       levels = omega (arith, height_mapped to h.tree, h.levels);

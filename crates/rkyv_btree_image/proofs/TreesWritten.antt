@@ -24,7 +24,8 @@ use Rattle.rkyv_btree_portable.specs.laws.Holding.{Holds-front, Holds-at, first-
 use Rattle.rkyv_btree_writer.proofs.HeldNumbers.{held_number, held_no_pointer, held_target}
 use Rattle.rkyv_btree_writer.proofs.WriteRuns.{reach_split}
 use Rattle.rkyv_btree_image.proofs.Leaves.{keys_of, values_of, parts_length, parts_held}
-use Rattle.rkyv_btree_shape.proofs.Mapped.{map_tree, map_row, map_child, entries_mapped}
+use Rattle.rkyv_btree_shape.proofs.Mapped.{entries_mapped}
+use Rattle.rkyv_btree_shape.specs.Mapped.{mapped, mapped_row, mapped_child}
 use Rattle.rkyv_btree_image.proofs.NodesHeld.{offset_reaches, pointers_rest, reach_rest, length-pointers, node_there}
 
 module _ {M N R S : Type 0} (K V : Kind) (E : ℕ) (k : IsLawful K) (v : IsLawful V) (fits : IsTrue (are_fitting K V E)) (KA : Archival M R) (VA : Archival N S) (key : Matches KA.kind K) (value : Matches VA.kind V) (ka : IsArchived KA) (va : IsArchived VA) where
@@ -53,7 +54,7 @@ module _ {M N R S : Type 0} (K V : Kind) (E : ℕ) (k : IsLawful K) (v : IsLawfu
   roots_count from (last c) roots to h = ap length h.2
   roots_count from (step c x row) roots to h = ap length h.5 ∙ omega (arith, roots_count h.2 row h.1 to h.4)
 
-  pub tree_ends : (from : Writing) (t : Tree (M × N)) (root : ℕ) (to : Writing) → TreeWritten (layout_of K V E) KA VA from t root to → position to ≡ root + root_size (layout_of K V E) (map_tree (meant K V E k v fits KA VA key value ka va) t)
+  pub tree_ends : (from : Writing) (t : Tree (M × N)) (root : ℕ) (to : Writing) → TreeWritten (layout_of K V E) KA VA from t root to → position to ≡ root + root_size (layout_of K V E) (mapped (meant K V E k v fits KA VA key value ka va) t)
   tree_ends from (leaf xs) root to h = h.end
   tree_ends from (inner row) root to h = h.3.end
 
@@ -87,7 +88,7 @@ module _ {M N R S : Type 0} (K V : Kind) (E : ℕ) (k : IsLawful K) (v : IsLawfu
 
     mutual
       pub tree_spelled : (lo hi : ℕ) (from : Writing) (t : Tree (M × N)) (root : ℕ) (to : Writing) → HasShape E t → TreeWritten (layout_of K V E) KA VA from t root to → HeldSince b from to → lo ≤ position from → position to ≤ hi → hi ≤ length b →
-          Spells K V E b lo hi root (map_tree (meant K V E k v fits KA VA key value ka va) t)
+          Spells K V E b lo hi root (mapped (meant K V E k v fits KA VA key value ka va) t)
       tree_spelled lo hi from (leaf xs) root to is h held low high within =
           let s = layout_of K V E in
           let room = room_of K V E k v fits in
@@ -144,7 +145,7 @@ module _ {M N R S : Type 0} (K V : Kind) (E : ℕ) (k : IsLawful K) (v : IsLawfu
           )
 
       row_spelled : (lo p i : ℕ) (from : Writing) (row : Row (M × N)) (roots : List (Option ℕ)) (to : Writing) → RowHasShape E row → RowWritten (layout_of K V E) KA VA from row roots to → HeldSince b from to → pointers_reach (p + pointer_at (layout_of K V E) i) roots ≡ true → position to ≤ p → p + inner_size (layout_of K V E) ≤ length b →
-          Holds b (p + pointer_at (layout_of K V E) i) (pointers (p + pointer_at (layout_of K V E) i) roots) → lo ≤ position from → i + length (row_entries row) ≡ E → (mid : ℕ) × SpellsRow K V E b p i lo mid (map_row (meant K V E k v fits KA VA key value ka va) row) × (mid ≤ position to)
+          Holds b (p + pointer_at (layout_of K V E) i) (pointers (p + pointer_at (layout_of K V E) i) roots) → lo ≤ position from → i + length (row_entries row) ≡ E → (mid : ℕ) × SpellsRow K V E b p i lo mid (mapped_row (meant K V E k v fits KA VA key value ka va) row) × (mid ≤ position to)
       row_spelled lo p i from (last c) roots to is h held near below room ptrs low full =
           let at = p + pointer_at (layout_of K V E) i in
           child_spelled lo p i from c h.0 [] to is h.1 held (subst (λ (rs : List (Option ℕ)). pointers_reach at rs ≡ true) h.2 near) below room (subst (λ (rs : List (Option ℕ)). Holds b at (pointers at rs)) h.2 ptrs) low (omega (arith, full))
@@ -162,7 +163,7 @@ module _ {M N R S : Type 0} (K V : Kind) (E : ℕ) (k : IsLawful K) (v : IsLawfu
           (rest.0, (one.0, one.1, rest.1), rest.2)
 
       child_spelled : (lo p i : ℕ) (from : Writing) (c : Child (M × N)) (root : Option ℕ) (roots : List (Option ℕ)) (to : Writing) → ChildHasShape E c → ChildWritten (layout_of K V E) KA VA from c root to → HeldSince b from to → pointers_reach (p + pointer_at (layout_of K V E) i) (root ∷ roots) ≡ true → position to ≤ p → p + inner_size (layout_of K V E) ≤ length b →
-          Holds b (p + pointer_at (layout_of K V E) i) (pointers (p + pointer_at (layout_of K V E) i) (root ∷ roots)) → lo ≤ position from → i ≤ E → (next : ℕ) × SpellsChild K V E b p i lo next (map_child (meant K V E k v fits KA VA key value ka va) c) × (next ≤ position to)
+          Holds b (p + pointer_at (layout_of K V E) i) (pointers (p + pointer_at (layout_of K V E) i) (root ∷ roots)) → lo ≤ position from → i ≤ E → (next : ℕ) × SpellsChild K V E b p i lo next (mapped_child (meant K V E k v fits KA VA key value ka va) c) × (next ≤ position to)
       child_spelled lo p i from absent root roots to is h held near below room ptrs low few =
           let at = p + pointer_at (layout_of K V E) i in
           let none = subst (λ (r : Option ℕ). Holds b at (pointers at (r ∷ roots))) h.0 ptrs in

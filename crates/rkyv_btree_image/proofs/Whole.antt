@@ -3,7 +3,7 @@ use Rattle.std.proofs.Common.{◌≡◌, ℕ, ◌+◌, ◌-◌, ◌<◌, ◌≤�
 use Rattle.std.proofs.lemmas.List.{append_assoc, length-append}
 use Rattle.rkyv_btree_image.proofs.Accepting.{held_between}
 use Rattle.rkyv_btree_image.proofs.Leaves.{length-padding}
-use Rattle.rkyv_btree_image.specs.Whole.{IsArchiveOf, IsPlaced, IsUnplaced, own_at, fresh}
+use Rattle.rkyv_btree_image.specs.Whole.{IsArchiveOf, IsPlaced, IsUnplaced, IsUnwritten, own_at, fresh}
 use Rattle.rkyv_btree_portable.specs.Bytes.{Holds}
 use Rattle.rkyv_btree_portable.specs.Kind.{Kind, IsLawful}
 use Rattle.rkyv_btree_portable.specs.Rounding.{round_up}
@@ -81,3 +81,13 @@ module _ {X R E : Type 0} (T : Archival X R) (kind : Kind) (x : X) (r : R) (s : 
   unput_unplaced own size m t at LengthOverflow h = absurd (h true)
   unput_unplaced own size m t at (Memory error) h = tt
   unput_unplaced own size m t at (Entry fault) h = h true
+
+-- a refused write of the own bytes
+pub unput_unwritten : {X R E : Type 0} (T : Archival X R) (kind : Kind) (x : X) (r : R) (s t : Writing) (own : List ℕ) → T.Resolves x r (position s) own → (fault : Fault E) → ((reaches : Bool) → Refused fault s (record { bytes = own; reaches = reaches }) t) → IsUnwritten T kind x r s fault t
+unput_unwritten T kind x r s t own resolved PositionOverflow h = (h true).0
+unput_unwritten T kind x r s t own resolved OffsetOverflow h = (h true).0
+unput_unwritten T kind x r s t own resolved (Writer error) h = (own, resolved, h true)
+unput_unwritten T kind x r s t own resolved (Length mismatch) h = absurd (h true)
+unput_unwritten T kind x r s t own resolved LengthOverflow h = absurd (h true)
+unput_unwritten T kind x r s t own resolved (Memory error) h = absurd (h true)
+unput_unwritten T kind x r s t own resolved (Entry fault) h = absurd (h true)

@@ -4,7 +4,7 @@ use Rattle.rkyv_btree_portable.specs.Kind.{Kind}
 use Rattle.rkyv_btree_portable.specs.Rounding.{round_up}
 use Rattle.rkyv_btree_writer.specs.Archiving.{Archival, IsUnresolved, Serialises, IsUnserialised}
 use Rattle.rkyv_btree_writer.specs.Padding.{padding}
-use Rattle.rkyv_btree_writer.specs.Writing.{Writing, position, Wrote, last_end}
+use Rattle.rkyv_btree_writer.specs.Writing.{Writing, position, Failed, Wrote, Stopped, last_end}
 use Rattle.rkyv_btree_writer.specs.declared.fault.Fault.{Fault}
 use Rattle.rkyv_btree_writer.specs.declared.fault.Fault.TheVariants.{Length, LengthOverflow, PositionOverflow, OffsetOverflow, Writer, Memory, Entry}
 use Rattle.rkyv_btree_writer.specs.declared.fault.ResolveFault.TheVariants as resolving
@@ -41,6 +41,15 @@ module _ {X R : Type 0} (T : Archival X R) (kind : Kind) where
   IsUnplaced x r at (Memory error) = Unit {0}
   IsUnplaced x r at (Length mismatch) = ⊥
   IsUnplaced x r at (Entry fault) = ⊥
+
+  -- the own bytes aren't written at s: the writer has failed at them, or is as it was
+  abbrev pub IsUnwritten : {E : Type 0} → X → R → Writing → Fault E → Writing → Type 0
+  IsUnwritten x r s (Writer error) t = (own : List ℕ) × T.Resolves x r (position s) own × Failed s own t
+  IsUnwritten x r s fault t = t ≡ s
+
+  -- what a writer at s holds then: some of the zeros before that place; or all of them, and the own bytes aren't written there
+  abbrev pub LeftUnplaced : {E : Type 0} → X → R → Writing → Fault E → Writing → Type 0
+  LeftUnplaced x r s fault t = Stopped s (padding kind.align (position s)) fault t ⊎ ((mid : Writing) × Wrote s (padding kind.align (position s)) mid × IsUnwritten x r mid fault t)
 
   -- why a value has no archive: it isn't serialised, or its own bytes aren't written behind what it writes
   abbrev pub IsUnarchived : {E : Type 0} → X → Fault E → Type 0

@@ -13,7 +13,7 @@ use Rattle.rkyv_btree_base.specs.Tree.{Tree, leaf, inner, Row, last, step, Child
 use Rattle.rkyv_btree_base.specs.laws.Numbers.{number_same, target_same}
 use Rattle.rkyv_btree_base.proofs.Local.{value_room, entries_local, child_from, row_from, row_local, child_local}
 use Rattle.rkyv_btree_base.proofs.MapLaws.{leaving_of}
-use Rattle.rkyv_btree_base.proofs.Readings.{child_read}
+use Rattle.rkyv_btree_base.proofs.Readings.{child_list_read}
 use Rattle.rkyv_btree_base.proofs.Sizes.{IsSound, sound_of, follow, room_of}
 use Rattle.rkyv_btree_base.specs.InPlace.{LiesAlone}
 use Rattle.rkyv_btree_seal.specs.Put.{value_place, put_value}
@@ -42,7 +42,7 @@ module _ (K V : Kind) (E : ℕ) (b c : List ℕ) (k : IsLawful K) (v : IsLawful 
   child_length : (x : Child (K.Value × V.Value)) (levels p n lo next : ℕ) → SpellsChild K V E b p n lo next x → child_height x ≤ levels
       → length (child_list (child_of (layout_of K V E) b (tree_at (layout_of K V E) b levels) (target_at b (p + pointer_at (layout_of K V E) n)))) ≡ length (child_list x)
   child_length x levels p n lo next h d =
-      sym (ap length (child_read K V E b k.is_read v.is_read x levels p n lo next h d) ∙ length-map (child_list (child_of (layout_of K V E) b (tree_at (layout_of K V E) b levels) (target_at b (p + pointer_at (layout_of K V E) n)))) (entry_at K V E b))
+      sym (ap length (child_list_read K V E b k.is_read v.is_read x levels p n lo next h d) ∙ length-map (child_list (child_of (layout_of K V E) b (tree_at (layout_of K V E) b levels) (target_at b (p + pointer_at (layout_of K V E) n)))) (entry_at K V E b))
 
   -- a child, and the children of a row, which the write leaves
   child_kept : (x : Child (K.Value × V.Value)) (p n lo next : ℕ) → lo ≤ p → n ≤ E → SameBytes b c lo next → SameBytes b c (p + len_at (layout_of K V E)) (p + inner_size (layout_of K V E)) → SpellsChild K V E b p n lo next x → SpellsChild K V E c p n lo next x

@@ -1,5 +1,5 @@
 -- What look-ups in a view of a map answer. `answer` is what comparing the query with a key gives, at each value of a key.
-use Rattle.std.specs.Prelude.{◌≡◌, ℕ, List, map, Option, Some, IfSome, ◌↔◌}
+use Rattle.std.specs.Prelude.{◌≡◌, ℕ, ◌≤◌, List, map, Option, Some, IfSome, ◌↔◌}
 use Rattle.std.specs.Borrow.{Bor}
 use Rattle.std.specs.List.Sorted.{IsStrictlySortedBy}
 use Rattle.std.specs.Option.{option_map}
@@ -7,6 +7,8 @@ use Rattle.std.specs.declared.cmp.Ordering.{Ordering}
 use Rattle.rkyv_btree_base.specs.Kind.{Kind}
 use Rattle.rkyv_btree_base.specs.Layout.{layout_of}
 use Rattle.rkyv_btree_base.specs.Read.{entry_at, map_tree, read_map}
+use Rattle.rkyv_btree_base.specs.Mapped.{mapped}
+use Rattle.rkyv_btree_base.specs.Spells.{Accepted, accepted_tree}
 use Rattle.rkyv_btree_base.specs.Tree.{height}
 use Rattle.rkyv_btree_portable.specs.declared.check.Portable
 use Rattle.rkyv_btree_walk.specs.Search.{IsHit, ComparesBy, Answers, comparisons, OrderedBy, AnyHit, probe}
@@ -67,3 +69,15 @@ IncreasingIsFound K V E =
     (b : List ℕ) (at : ℕ) (answer : K.Value → Ordering) (found : Option (K.Value × V.Value)) → IsCut K.order answer
     → IsStrictlySortedBy K.order (map (λ e. e.0) (read_map K V E b at))
     → Answers (λ e. answer e.0) (entry_at K V E b) (map_tree (layout_of K V E) b at) found → Only (λ e. answer e.0) (read_map K V E b at) found
+
+-- the tree that a search of an accepted map goes through, each entry replaced by what it means, is the one that the bytes spell
+abbrev pub SearchedIsSpelled : Kind → Kind → ℕ → Type 0
+SearchedIsSpelled K V E =
+    (b : List ℕ) (lo hi at left : ℕ) (m : List (K.Value × V.Value)) (a : Accepted K V E b lo hi at left m)
+    → mapped (entry_at K V E b) (map_tree (layout_of K V E) b at) ≡ accepted_tree K V E b lo hi at left m a
+
+-- so it has the same height, and that is 32 at most
+abbrev pub SearchedIsLow : Kind → Kind → ℕ → Type 0
+SearchedIsLow K V E =
+    (b : List ℕ) (lo hi at left : ℕ) (m : List (K.Value × V.Value)) (a : Accepted K V E b lo hi at left m)
+    → (height (map_tree (layout_of K V E) b at) ≡ height (accepted_tree K V E b lo hi at left m a)) × (height (map_tree (layout_of K V E) b at) ≤ 32)

@@ -3,7 +3,7 @@
 ghost use Rattle.std.specs.Prelude.{◌≡◌, ◌+◌, ◌*◌, ◌≤◌, [], IsTrue, IsSome, IfSome, Some, is_some};
 ghost use Rattle.rkyv_btree_base.specs.Read.{entry_at};
 ghost use Rattle.std.specs.Option.{option_map};
-ghost use Rattle.rkyv_btree_view.specs.Lookup.{found_in, comparisons_in, height_of, Finds, IsComplete, ByComparison, ByNative, FoundIsEqual, IncreasingIsFound};
+ghost use Rattle.rkyv_btree_view.specs.Lookup.{found_in, comparisons_in, height_of, Finds, IsComplete, ByComparison, ByNative, FoundIsEqual, IncreasingIsFound, SearchedIsSpelled, SearchedIsLow};
 ghost use Rattle.rkyv_btree_view.specs.Query.{IsCut};
 ghost use Rattle.rkyv_btree_view.specs.View.{reads, reads_both, entries_of};
 ghost use Rattle.rkyv_btree_walk.specs.mirror.Node.{RunStands};
@@ -174,6 +174,13 @@ impl<'a, K: Portable, V: Portable, M: ArchivedMap<Key = K, Mapped = V> + ShowsEn
 /// under an ordered comparison there is one exactly if some key is equal.
 pub fn what_is_found_is_equal<K: Portable, V: Portable, const E: usize>()
     ensures { FoundIsEqual K.kind V.kind E }
+{}
+
+/// The tree that a look-up searches is the tree that the accepted bytes spell. Its height is 32 at most, so a look-up compares
+/// no more than 32 times as many keys as a node has entries.
+pub fn searched_trees_are_spelled<K: Portable, V: Portable, const E: usize>()
+    ensures tree { SearchedIsSpelled K.kind V.kind E }
+    ensures height { SearchedIsLow K.kind V.kind E }
 {}
 
 /// In a map whose keys strictly increase, what a look-up finds is the only entry whose key is equal to the query, and

@@ -43,7 +43,9 @@ pub struct Range<'a, M: ArchivedMap> {
 }
 
 impl<'a, K: Portable, V: Portable, M: ArchivedMap<Key = K, Mapped = V>> Iterator for Range<'a, M> {
-    ghost use Rattle.std.specs.Iterator.{YieldsFirstBy, item_count};
+    ghost use Rattle.std.specs.Iterator.{YieldsFirstBy, item_count, at_most, UpTo};
+    ghost use Rattle.std.specs.Iterator.SizeHint.{IsWithinCount};
+    ghost use Rattle.std.specs.Prelude.{IfSome, None};
     ghost use Rattle.rkyv_btree_view.specs.Range.{range_left};
 
     type Item = (View<'a, K>, View<'a, V>);
@@ -69,6 +71,16 @@ impl<'a, K: Portable, V: Portable, M: ArchivedMap<Key = K, Mapped = V>> Iterator
             self.part.end = step.leaf.count;
         }
         Some(entry::<K, V, M>(buf, node, index))
+    }
+
+    /// Returns `(0, None)`, because the entries that are left aren't counted.
+    fn size_hint(&self) -> (usize, Option<usize>)
+        ensures lower { IsWithinCount result.0 (at_most (length (range_left self.now))) }
+        ensures upper { IfSome result.1 (UpTo (at_most (length (range_left self.now)))) }
+        ensures zero { result.0 ≡ 0 }
+        ensures unknown { result.1 ≡ None }
+    {
+        (0, None)
     }
 }
 

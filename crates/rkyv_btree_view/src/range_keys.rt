@@ -28,7 +28,9 @@ impl<'a, M: ArchivedMap> RangeKeys<'a, M> {
 
 impl<'a, K: Portable, V: Portable, M: ArchivedMap<Key = K, Mapped = V>> Iterator
     for RangeKeys<'a, M> {
-    ghost use Rattle.std.specs.Iterator.{YieldsFirstBy, item_count};
+    ghost use Rattle.std.specs.Iterator.{YieldsFirstBy, item_count, at_most, UpTo};
+    ghost use Rattle.std.specs.Iterator.SizeHint.{IsWithinCount};
+    ghost use Rattle.std.specs.Prelude.{IfSome, None, length};
     ghost use Rattle.rkyv_btree_view.specs.Keys.{range_keys_left};
 
     type Item = View<'a, K>;
@@ -43,6 +45,16 @@ impl<'a, K: Portable, V: Portable, M: ArchivedMap<Key = K, Mapped = V>> Iterator
             None => None,
             Some((key, _)) => Some(key),
         }
+    }
+
+    /// Returns `(0, None)`, because the keys that are left aren't counted.
+    fn size_hint(&self) -> (usize, Option<usize>)
+        ensures lower { IsWithinCount result.0 (at_most (length (range_keys_left self.now))) }
+        ensures upper { IfSome result.1 (UpTo (at_most (length (range_keys_left self.now)))) }
+        ensures zero { result.0 ≡ 0 }
+        ensures unknown { result.1 ≡ None }
+    {
+        (0, None)
     }
 }
 

@@ -16,6 +16,8 @@ mod equal;
 #[cfg(test)]
 mod equal_maps;
 #[cfg(test)]
+mod failing_writes;
+#[cfg(test)]
 mod faults;
 #[cfg(test)]
 mod heap;

@@ -1,4 +1,4 @@
--- The archive means the map, and each entry is the same as what it means.
+-- The archive means the map.
 use Rattle.std.proofs.Common.{◌≡◌, ◌∙◌, refl, string_bytes, nat_eq, Global}
 use Rattle.std.specs.Cmp.{nat_eq_equiv}
 use Rattle.std.specs.Cmp.Lexicographic.{nat_list_eq_equiv, pointwise}
@@ -13,7 +13,6 @@ use Rattle.rkyv_btree_base.specs.Text.{text_kind}
 use Rattle.rkyv_btree_base.specs.laws.Scalars.{u32_laws}
 use Rattle.rkyv_btree_base.specs.laws.TextLaws.{text_laws}
 use Rattle.rkyv_btree_base.proofs.MapLaws.{map_laws}
-use Rattle.examples.proofs.LookedUp.{same_as_meant}
 use Rattle.examples.proofs.RoundTrip.{in_bytes, read_back}
 use Rattle.examples.proofs.whole.is_equal_to_itself.Goals as goal
 
@@ -40,6 +39,5 @@ returns c =
     let read = read_back {kind = kind} c.as_slice.result.now meant archive (map_laws text_kind u32_kind 5 text_laws u32_laws) in
     let view = c.in-Ok.view in
     let same : read_map text_kind u32_kind 5 view.buf.now view.pos ≡ meant = rw (c.in-Ok.ensures.buffer, c.in-Ok.ensures.position) read in
-    let tells = c.eq_map.ensures (λ x text. pointwise nat_eq x (string_bytes text)) nat_eq (λ n b at. refl) (λ n b at. refl) in
-    let told = rw same at tells in
-    told ∙ same_as_meant (λ x text. pointwise nat_eq x (string_bytes text)) nat_eq (string_bytes {Z = Global}) (λ n. n) (λ text. nat_list_eq_equiv.refl (string_bytes text)) nat_eq_equiv.refl c.args.map.now.entries
+    let tests = c.archives_are_same_as_std.ensures (string_bytes {Z = Global}) (λ n. n) view.buf.now view.pos c.args.map.now.entries (λ x text. pointwise nat_eq x (string_bytes text)) nat_eq same (λ text. nat_list_eq_equiv.refl (string_bytes text)) nat_eq_equiv.refl in
+    c.eq_map.ensures (λ x text. pointwise nat_eq x (string_bytes text)) nat_eq (λ n b at. refl) (λ n b at. refl) ∙ tests

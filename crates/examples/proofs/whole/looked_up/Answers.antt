@@ -1,5 +1,7 @@
--- The archive means the map, so the entry that is found is its entry of the key.
+-- The archive means the map.
 use Rattle.std.proofs.Common.{◌≡◌, ◌∙◌, refl, rules}
+use Rattle.std.specs.BTreeMap.{is_at}
+use Rattle.std.specs.Map.{lookup}
 use Rattle.std.specs.Ordering.{nat_cmp}
 use Rattle.rkyv_btree.specs.RoundTrip.{both_mean}
 use Rattle.rkyv_btree_base.specs.Archiving.{itself}
@@ -12,7 +14,7 @@ use Rattle.rkyv_btree_base.specs.Scalars.{u32_kind}
 use Rattle.rkyv_btree_base.specs.laws.Scalars.{u32_laws}
 use Rattle.rkyv_btree_base.proofs.MapLaws.{map_laws}
 use Rattle.examples.proofs.RoundTrip.{in_bytes, read_back}
-use Rattle.examples.proofs.LookedUp.{ascending_meant, lookup_meant, mapped, only_looked_up}
+use Rattle.examples.proofs.LookedUp.{itself_mapped, mapped}
 use Rattle.examples.proofs.whole.looked_up.Goals as goal
 
 pub to_archive-requires : goal.to_archive-requires
@@ -36,12 +38,8 @@ returns c =
     let meant : kind.Value = both_mean (λ n. n) (λ n. n) c.args.map.now.entries in
     let archive = in_bytes kind meant c.as_slice.result.now c.in_ok-archive.archive.items c.as_slice.ensures.value (c.in_ok-archive.ensures.ok (itself kind)) in
     let read = read_back {kind = kind} c.as_slice.result.now meant archive (map_laws u32_kind u32_kind 5 u32_laws u32_laws) in
-    let rises = ascending_meant nat_cmp nat_cmp (λ n. n) (λ n. n) (λ x y. refl) c.args.map.now.entries c.len-len.ensures.ordered in
     let view = c.in-Ok.view in
     let same : read_map u32_kind u32_kind 5 view.buf.now view.pos ≡ meant = rw (c.in-Ok.ensures.buffer, c.in-Ok.ensures.position) read in
-    let found = c.what_is_found_is_equal.ensures view.buf.now view.pos (nat_cmp c.args.key) in
-    let only = c.increasing_keys_are_found.ensures.found view.buf.now view.pos (nat_cmp c.args.key) _ (c.increasing_keys_are_found.ensures.keys c.args.key) (rw same rises) found in
+    let found = c.look_ups_find_as_std.ensures (λ n. n) (λ n. n) (λ x y. refl) view.buf.now view.pos c.args.map.now.entries c.args.key same c.len-len.ensures.ordered in
     let value = c.get_by-value.ensures.found nat_cmp (λ n b at. refl) in
-    let is = only_looked_up (nat_cmp c.args.key) meant _ (rw (← same) only) in
-    let looked = lookup_meant (nat_cmp c.args.key) (λ n. n) c.args.map.now.entries in
-    mapped reads _ (λ x y h. search rules) c.get_by-value.result c.map.result c.map.ensures.cases ∙ value ∙ is ∙ looked
+    mapped reads _ (λ x y h. search rules) c.get_by-value.result c.map.result c.map.ensures.cases ∙ value ∙ found ∙ itself_mapped (lookup (is_at (nat_cmp c.args.key)) c.args.map.now.entries)

@@ -1,10 +1,10 @@
-use Rattle.std.proofs.Common.{ℕ, ◌<◌, ◌∙◌, length, ap, subst, sym}
+use Rattle.std.proofs.Common.{ℕ, ◌<◌, ◌∙◌, List, length, inr, ap, subst, sym}
 use Rattle.std.proofs.lemmas.Result.{err_from_is_err_and}
-use Rattle.rkyv_btree_image.proofs.Whole.{unpadded_unplaced, unput_unplaced}
+use Rattle.rkyv_btree_image.proofs.Whole.{unpadded_unplaced, unput_unplaced, unput_unwritten}
 use Rattle.rkyv_btree_image.specs.Whole.{IsUnplaced}
 use Rattle.rkyv_btree_portable.specs.Rounding.{round_up}
 use Rattle.rkyv_btree_writer.specs.Padding.{padding}
-use Rattle.rkyv_btree_writer.specs.Writing.{Stopped, position}
+use Rattle.rkyv_btree_writer.specs.Writing.{Stopped, Wrote, position}
 use Rattle.rkyv_btree_archive.proofs.whole.write_value.Goals as goal
 
 pub returns-in_err-pos-clause-err : goal.returns-in_err-pos-clause-err
@@ -42,3 +42,15 @@ returns-in_err-own-clause-err g c =
     let fault = c.in_err-own.field-0.0 in
     let p = err_from_is_err_and c.from_residual-in_err-own.result c.from_residual-in_err-own.ensures.1 in
     rw (p.1, p.2) (subst (λ (n : ℕ). IsUnplaced g.T.Archive.archival g.T.Archived.Portable.kind c.args.value.now c.args.resolver n fault) place c.in_err-own.ensures.err)
+
+pub returns-in_err-put-clause-left : goal.returns-in_err-put-clause-left
+returns-in_err-put-clause-left g c =
+    let T = g.T.Archive.archival in
+    let kind = g.T.Archived.Portable.kind in
+    let s = g.W.Writer.state c.args.writer.now in
+    let m = g.W.Writer.state c.pad.new.writer in
+    let t = g.W.Writer.state c.put.new.writer in
+    let pads = subst (λ (n : ℕ). Wrote s (padding n (position s)) m) c.align.ensures.value c.in_ok-pos.ensures.ok in
+    let resolved = subst (λ (own : List ℕ). T.Resolves c.args.value.now c.args.resolver (position m) own) (sym c.as_slice.ensures.value) (subst (λ (n : ℕ). T.Resolves c.args.value.now c.args.resolver n c.in_ok-own.own.items) c.in_ok-pos.ensures.end c.in_ok-own.ensures.ok) in
+    let p = err_from_is_err_and c.from_residual-in_err-put.result c.from_residual-in_err-put.ensures.1 in
+    rw (p.1, p.2) (inr (m, pads, unput_unwritten T kind c.args.value.now c.args.resolver m t _ resolved c.in_err-put.field-0.0 c.in_err-put.ensures.err))

@@ -1,0 +1,107 @@
+//! Archives at writers that fail at one write and append nothing then: each node, each text and each padding is one write.
+
+use crate::faults::tree;
+use crate::numbers::Numbers;
+use crate::same::same;
+use crate::texts::with_texts;
+use rkyv_btree_base::fault::Fault;
+use rkyv_btree_base::layout;
+use rkyv_btree_base::map::ArchivedBTreeMap;
+use rkyv_btree_base::numbers::ArchivedU32;
+use rkyv_btree_base::place::Writer;
+use rkyv_btree_base::text::ArchivedText;
+use std::alloc::{AllocError, Global};
+use std::process::Abort;
+use std::test::Fail;
+
+type Texts = ArchivedBTreeMap<ArchivedText, ArchivedU32, 1>;
+
+/// A writer into memory that fails after so many writes.
+#[derive(Drop)]
+struct Failing {
+    bytes: Vec<u8>,
+    writes_left: u32,
+    failures: u64,
+}
+
+impl Writer for Failing {
+    type Error = AllocError;
+
+    ghost state = { λ w. record { base = 0; contents = w.bytes.items; failures = w.failures } };
+
+    fn pos(&self) -> u64 {
+        self.bytes.len() as u64
+    }
+
+    fn write(&mut self, bytes: &[u8]) -> Result<(), AllocError> {
+        if self.writes_left > 0 && self.bytes.extend_from_slice(bytes).is_ok() {
+            self.writes_left -= 1;
+            return Ok(());
+        }
+        self.failures = self.failures.wrapping_add(1);
+        Err(AllocError)
+    }
+}
+
+/// How many bytes a writer has that fails after so many writes of the archive of seventeen numbers.
+fn len_of_numbers(rt: &impl Abort, alloc: Global, writes: u32) -> (bool, usize) {
+    let mut entries = [(0, 0); 17];
+    let mut key = 0;
+    for entry in &mut entries {
+        key += 1;
+        *entry = (key, key * 10);
+    }
+    let mut writer = Failing {
+        bytes: Vec::new(alloc),
+        writes_left: writes,
+        failures: 0,
+    };
+    let outcome = match tree::<Failing>(rt, alloc, &entries, &mut writer) {
+        Ok(root) => Numbers::write_root(17, root, &mut writer),
+        Err(fault) => Err(fault),
+    };
+    (is_of_the_writer(&outcome), writer.bytes.len())
+}
+
+/// The same for two texts in nodes of one entry.
+fn len_of_texts(rt: &impl Abort, alloc: Global, writes: u32) -> Result<(bool, usize), Fail> {
+    let entries = with_texts(alloc, &[("a", 1u32), ("bc", 2)])?;
+    assert!(rt; layout::fits::<ArchivedText, ArchivedU32, 1>());
+    let items = entries.iter().map(|entry| (&entry.0, &entry.1));
+    let mut writer = Failing {
+        bytes: Vec::new(alloc),
+        writes_left: writes,
+        failures: 0,
+    };
+    let outcome = match Texts::serialize_from_ordered_iter(alloc, 2, items, &mut writer) {
+        Ok(root) => Texts::write_root(2, root, &mut writer),
+        Err(fault) => Err(fault),
+    };
+    Ok((is_of_the_writer(&outcome), writer.bytes.len()))
+}
+
+/// Whether the writer is named as what failed.
+fn is_of_the_writer(outcome: &Result<u32, Fault<AllocError>>) -> bool {
+    matches!(outcome, Err(Fault::Writer(_)))
+}
+
+#[test]
+fn each_node_is_one_write(rt: HostRuntime) {
+    let mut writes = 0;
+    for len in [0, 48, 96, 144, 212] {
+        same(&rt, len_of_numbers(&rt, rt.alloc(), writes), (true, len));
+        writes += 1;
+    }
+    same(&rt, len_of_numbers(&rt, rt.alloc(), writes), (false, 220));
+}
+
+#[test]
+fn each_text_and_each_padding_is_one_write(rt: HostRuntime) -> Result<(), Fail> {
+    let mut writes = 0;
+    for len in [0, 1, 4, 24, 26, 28, 52] {
+        same(&rt, len_of_texts(&rt, rt.alloc(), writes)?, (true, len));
+        writes += 1;
+    }
+    same(&rt, len_of_texts(&rt, rt.alloc(), writes)?, (false, 60));
+    Ok(())
+}
