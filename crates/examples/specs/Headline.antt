@@ -24,7 +24,8 @@ module _ {M N R S : Type 0} (K V : Kind) (E : ℕ) (KA : Archival M R) (VA : Arc
   -- fewer nodes, inner nodes, levels or node bytes
   abbrev pub IsSmallestOf : List (M × N) → List ℕ → ℕ → Type 0
   IsSmallestOf entries bytes pos =
-      (key : Matches KA.kind K) (value : Matches VA.kind V) → (left : ℕ) × (a : Accepted K V E bytes 0 pos pos left (map (entry_value K V E KA VA key value) entries)) × IsSmallestMap (map_at a)
+      (key : Matches KA.kind K) (value : Matches VA.kind V) → (left : ℕ)
+      × (a : Accepted K V E bytes 0 pos pos left (map (entry_value K V E KA VA key value) entries)) × IsSmallestMap (map_at a)
 
   -- an iterator gave as many items as claimed and then no more, and this is their archive
   pub record IsArchiveOfItems {P : Type 0} (steps : P → Option (Bor M × Bor N) → P → Type 0) (iter : P) (claim : ℕ) (bytes : List ℕ) (pos : ℕ) : Type 0 where
@@ -38,7 +39,8 @@ abbrev pub HasCause : {X : Type 0} → (Fault X → Writing → Type 0) → (ℕ
 HasCause stops builds len fault = (t : Writing) × (stops fault t ⊎ ((root : ℕ) × (mid : Writing) × builds root mid × RootFault root len mid fault t))
 
 -- an iterator gave as many keys as claimed and then no more, and this is the archive of the set of them
-pub record IsArchiveOfKeys {M R P : Type 0} (K : Kind) (E : ℕ) (KA : Archival M R) (steps : P → Option (Bor M) → P → Type 0) (iter : P) (claim : ℕ) (bytes : List ℕ) (pos : ℕ) : Type 0 where
+pub record IsArchiveOfKeys {M R P : Type 0} (K : Kind) (E : ℕ) (KA : Archival M R) (steps : P → Option (Bor M) → P → Type 0)
+    (iter : P) (claim : ℕ) (bytes : List ℕ) (pos : ℕ) : Type 0 where
   pub keys : List (Bor M)
   pub all : Drains steps iter keys
   pub count : length keys ≡ claim
@@ -59,5 +61,6 @@ pub record IsLookedUp {X : Type 0} (answer : X → Ordering) (m : List X) (found
 -- none gives Equal.
 abbrev pub IsSealed : (K V : Kind) → ℕ → List ℕ → ℕ → (K.Value → Ordering) → List ℕ → List (K.Value × V.Value) → List ℕ → Bool → Type 0
 IsSealed K V E b pos answer own m c true =
-    (i : ℕ) × (at : ℕ) × (e : K.Value × V.Value) × (slice_get m i ≡ Some e) × (answer e.0 ≡ Equal) × (c ≡ put_bytes b at own) × IsMap K V E c pos (put_value m i (value_of V own))
+    (i : ℕ) × (at : ℕ) × (e : K.Value × V.Value) × (slice_get m i ≡ Some e) × (answer e.0 ≡ Equal) × (c ≡ put_bytes b at own)
+    × IsMap K V E c pos (put_value m i (value_of V own))
 IsSealed K V E b pos answer own m c false = (c ≡ b) × (OrderedBy (λ e. answer e.0) m → AnyHit (λ e. answer e.0) m → ⊥)

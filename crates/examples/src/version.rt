@@ -1,6 +1,7 @@
 //! Versions as keys and values: what it takes to join.
 ghost use Rattle.std.specs.Prelude.{◌≡◌, ◌+◌, ◌≤◌, length, not, false, IsTrue, OnOk, OnErr, IfErr};
-ghost use Rattle.examples.specs.Version.{is_version, no_version, bytes_of, version_of, version_by, version_kind, version_total, version_laws, version_archival, version_archived, version_causes};
+ghost use Rattle.examples.specs.Version.{is_version, no_version, bytes_of, version_of, version_by, version_kind, version_total};
+ghost use Rattle.examples.specs.Version.{version_laws, version_archival, version_archived, version_causes};
 ghost use Rattle.rkyv_btree_base.specs.Archiving.{IsUnresolved, itself};
 ghost use Rattle.rkyv_btree_base.specs.Bytes.{bytes_at};
 ghost use Rattle.rkyv_btree_base.specs.Refusing.{RefusesWhole};

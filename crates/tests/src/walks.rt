@@ -15,7 +15,8 @@ type Numbers = ArchivedBTreeMap<ArchivedU32, ArchivedU32, 1>;
 
 /// The key of the first entry with this value.
 fn key_of(map: View<Numbers>, value: u32) -> Option<u32>
-    ensures { result ≡ first_given {Y = ℕ × ℕ} (λ e. if nat_eq e.1 value then Some e.0 else None) (read_map u32_kind u32_kind 1 map.entry.buf.now map.entry.pos) }
+    ensures { result ≡ first_given {Y = ℕ × ℕ} (λ e. if nat_eq e.1 value then Some e.0 else None)
+        (read_map u32_kind u32_kind 1 map.entry.buf.now map.entry.pos) }
 {
     map.visit(|k: View<ArchivedU32>, v: View<ArchivedU32>| {
         if v.to_native() == value {

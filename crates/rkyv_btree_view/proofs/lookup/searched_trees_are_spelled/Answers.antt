@@ -27,5 +27,5 @@ returns-clause-height g c b lo hi at left m a =
     let E = g.row.E in
     let tree = map_tree (layout_of K V E) b at in
     let same : height tree ≡ height (accepted_tree K V E b lo hi at left m a) =
-        sym (height_mapped (entry_at K V E b) tree) ∙ sym (ap height (tree_is_read K V E b g.met.K.Portable.laws.is_read g.met.V.Portable.laws.is_read lo hi at left m a)) in
+    sym (height_mapped (entry_at K V E b) tree) ∙ sym (ap height (tree_is_read K V E b g.met.K.Portable.laws.is_read g.met.V.Portable.laws.is_read lo hi at left m a)) in
     (same, subst (λ (n : ℕ). n ≤ 32) (sym same) (low K V E b lo hi at left m a))
