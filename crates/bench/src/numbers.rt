@@ -90,45 +90,45 @@ fn get_sorted(entries: &[(u32, u32)], keys: &[u32]) -> u64 {
     sum
 }
 
-/// The sum of the values that a visit of the archived map is called with.
+/// The sum of `key ^ value` over the entries that a visit of the archived map is called with.
 #[inline(never)]
 fn visit_archived(map: View<Map>) -> u64 {
     let mut sum = 0u64;
-    map.visit(|_key: View<ArchivedU32>, value: View<ArchivedU32>| {
-        sum = sum.wrapping_add(u64::from(value.to_native()));
+    map.visit(|key: View<ArchivedU32>, value: View<ArchivedU32>| {
+        sum = sum.wrapping_add(u64::from(key.to_native() ^ value.to_native()));
         ControlFlow::<(), ()>::Continue(())
     });
     sum
 }
 
-/// The sum of the values that the archived map's iterator gives.
+/// The same of the archived map's iterator.
 #[inline(never)]
 pub(crate) fn iter_archived(map: View<Map>) -> u64 {
     let mut sum = 0u64;
-    for (_key, value) in map.iter() {
-        sum = sum.wrapping_add(u64::from(value.to_native()));
+    for (key, value) in map.iter() {
+        sum = sum.wrapping_add(u64::from(key.to_native() ^ value.to_native()));
     }
     sum
 }
 
-/// The sum of the values that std's iterator gives.
+/// The same of std's iterator.
 #[inline(never)]
 pub(crate) fn iter_std(map: &BTreeMap<u32, u32>) -> u64 {
     let mut sum = 0u64;
-    for (_key, value) in map.iter() {
-        sum = sum.wrapping_add(u64::from(*value));
+    for (key, value) in map.iter() {
+        sum = sum.wrapping_add(u64::from(*key ^ *value));
     }
     sum
 }
 
-/// The sum of the values of so many entries from each key on.
+/// The same of so many entries from each key on.
 #[inline(never)]
 fn range_archived(map: View<Map>, keys: &[u32], entries: u32) -> u64 {
     let mut sum = 0u64;
     for key in keys {
         let end = key.saturating_add(entries.saturating_mul(4));
-        for (_key, value) in map.range_by(Bound::Included(*key), Bound::Excluded(end)) {
-            sum = sum.wrapping_add(u64::from(value.to_native()));
+        for (key, value) in map.range_by(Bound::Included(*key), Bound::Excluded(end)) {
+            sum = sum.wrapping_add(u64::from(key.to_native() ^ value.to_native()));
         }
     }
     sum
@@ -140,8 +140,8 @@ fn range_std(map: &BTreeMap<u32, u32>, keys: &[u32], entries: u32) -> u64 {
     let mut sum = 0u64;
     for key in keys {
         let end = key.saturating_add(entries.saturating_mul(4));
-        for (_key, value) in map.range(*key..end) {
-            sum = sum.wrapping_add(u64::from(*value));
+        for (key, value) in map.range(*key..end) {
+            sum = sum.wrapping_add(u64::from(*key ^ *value));
         }
     }
     sum
