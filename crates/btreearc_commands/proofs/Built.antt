@@ -18,9 +18,10 @@ use Rattle.rkyv_btree_base.specs.Plan.{planned_alone}
 use Rattle.rkyv_btree_base.specs.Tree.{Child, ChildHasShape}
 use Rattle.rkyv_btree_base.specs.Entries.{now_of}
 use Rattle.rkyv_btree_base.specs.Written.{ChildStopped}
-use Rattle.rkyv_btree_base.proofs.Alike.{AreAlike, alike_length, alike_reach, same_child_root, child_alike}
+use Rattle.rkyv_btree_base.proofs.Alike.{AreAlike, alike_length, alike_reach, child_alike}
 use Rattle.rkyv_btree_base.proofs.Imaged.{child_written, child_stopped}
-use Rattle.rkyv_btree_base.proofs.Mapped.{map_child, alone_mapped}
+use Rattle.rkyv_btree_base.proofs.Mapped.{alone_mapped}
+use Rattle.rkyv_btree_base.specs.Mapped.{mapped_child}
 use Rattle.rkyv_btree_base.proofs.Smallest.{plan_is_left_complete}
 use Rattle.rkyv_btree_base.specs.Spells.{Accepted}
 use Rattle.rkyv_btree_base.specs.Writing.{Writing, position, Write, AllReach, Wrote, Stopped, appended, last_end}
@@ -111,7 +112,7 @@ paired (x ∷ xs) (y ∷ ys) n =
     let rest = paired xs ys (omega (arith, n)) in
     ((x, y) ∷ rest.0, ap (λ zs. x ∷ zs) rest.1, ap (λ zs. y ∷ zs) rest.2)
 
-planned_by : (f : (ℕ × ℕ) × (ℕ × ℕ) → ℕ × ℕ) (zs : List ((ℕ × ℕ) × (ℕ × ℕ))) (xs : List (ℕ × ℕ)) → map f zs ≡ xs → planned_alone 5 (map own xs) ≡ map_child (λ z. own (f z)) (planned_alone 5 zs)
+planned_by : (f : (ℕ × ℕ) × (ℕ × ℕ) → ℕ × ℕ) (zs : List ((ℕ × ℕ) × (ℕ × ℕ))) (xs : List (ℕ × ℕ)) → map f zs ≡ xs → planned_alone 5 (map own xs) ≡ mapped_child (λ z. own (f z)) (planned_alone 5 zs)
 planned_by f zs xs e = ap (λ ys. planned_alone 5 (map own ys)) (sym e) ∙ (ap (planned_alone 5) (map-map own f zs) ∙ alone_mapped (λ z. own (f z)) 5 zs)
 
 own_is : (x : ℕ × ℕ) → IsOwn u32_kind (own x).0 × IsOwn u32_kind (own x).1
@@ -125,7 +126,7 @@ module _ (xs ys : List (ℕ × ℕ)) (same : length xs ≡ length ys) where
       let front = planned_by (λ z. z.0) p.0 xs p.1 in
       let back = planned_by (λ z. z.1) p.0 ys p.2 in
       subst (λ (c : Child OwnBytes). AreAlike (child_image five 0 c) (tree_writes ys)) (sym front)
-      (subst (λ (c : Child OwnBytes). AreAlike (child_image five 0 (map_child (λ z. own z.0) (planned_alone 5 p.0))) (child_image five 0 c)) (sym back)
+      (subst (λ (c : Child OwnBytes). AreAlike (child_image five 0 (mapped_child (λ z. own z.0) (planned_alone 5 p.0))) (child_image five 0 c)) (sym back)
       (child_alike u32_kind u32_kind 5 u32_laws u32_laws numbers_fit (λ z. own z.0) (λ z. own z.1) (λ z. own_is z.0) (λ z. own_is z.1) 0 (planned_alone 5 p.0) (alone_shape p.0)))
 
 module _ {S : Type 0} (rest : S → List (ℕ × ℕ)) (entries : List (ℕ × ℕ)) where
