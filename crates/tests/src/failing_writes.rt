@@ -46,10 +46,10 @@ impl Writer for Failing {
 /// How many bytes a writer has that fails after so many writes of the archive of seventeen numbers.
 fn len_of_numbers(rt: &impl Abort, alloc: Global, writes: u32) -> (bool, usize) {
     let mut entries = [(0, 0); 17];
-    let mut key = 0;
+    let mut key = 0u32;
     for entry in &mut entries {
-        key += 1;
-        *entry = (key, key * 10);
+        key = key.wrapping_add(1);
+        *entry = (key, key.wrapping_mul(10));
     }
     let mut writer = Failing {
         bytes: Vec::new(alloc),
@@ -87,21 +87,19 @@ fn is_of_the_writer(outcome: &Result<u32, Fault<AllocError>>) -> bool {
 
 #[test]
 fn each_node_is_one_write(rt: HostRuntime) {
-    let mut writes = 0;
-    for len in [0, 48, 96, 144, 212] {
+    let rows = [(0, 0), (1, 48), (2, 96), (3, 144), (4, 212)];
+    for (writes, len) in rows {
         same(&rt, len_of_numbers(&rt, rt.alloc(), writes), (true, len));
-        writes += 1;
     }
-    same(&rt, len_of_numbers(&rt, rt.alloc(), writes), (false, 220));
+    same(&rt, len_of_numbers(&rt, rt.alloc(), 5), (false, 220));
 }
 
 #[test]
 fn each_text_and_each_padding_is_one_write(rt: HostRuntime) -> Result<(), Fail> {
-    let mut writes = 0;
-    for len in [0, 1, 4, 24, 26, 28, 52] {
+    let rows = [(0, 0), (1, 1), (2, 4), (3, 24), (4, 26), (5, 28), (6, 52)];
+    for (writes, len) in rows {
         same(&rt, len_of_texts(&rt, rt.alloc(), writes)?, (true, len));
-        writes += 1;
     }
-    same(&rt, len_of_texts(&rt, rt.alloc(), writes)?, (false, 60));
+    same(&rt, len_of_texts(&rt, rt.alloc(), 7)?, (false, 60));
     Ok(())
 }
