@@ -16,12 +16,12 @@ use std::test::Fail;
 
 type Texts = ArchivedBTreeMap<ArchivedText, ArchivedU32, 1>;
 
-/// A writer into memory that fails after so many writes.
+/// A writer into memory that fails after so many writes. A failed write appends nothing.
 #[derive(Drop)]
-struct Failing {
-    bytes: Vec<u8>,
-    writes_left: u32,
-    failures: u64,
+pub(crate) struct Failing {
+    pub(crate) bytes: Vec<u8>,
+    pub(crate) writes_left: u32,
+    pub(crate) failures: u64,
 }
 
 impl Writer for Failing {
@@ -43,7 +43,7 @@ impl Writer for Failing {
     }
 }
 
-/// How many bytes a writer has that fails after so many writes of the archive of seventeen numbers.
+/// Whether a writer fails at the archive of seventeen numbers after so many writes, and how many bytes it has then.
 fn len_of_numbers(rt: &impl Abort, alloc: Global, writes: u32) -> (bool, usize) {
     let mut entries = [(0, 0); 17];
     let mut key = 0u32;
@@ -60,7 +60,7 @@ fn len_of_numbers(rt: &impl Abort, alloc: Global, writes: u32) -> (bool, usize) 
         Ok(root) => Numbers::write_root(17, root, &mut writer),
         Err(fault) => Err(fault),
     };
-    (is_of_the_writer(&outcome), writer.bytes.len())
+    (matches!(outcome, Err(Fault::Writer(_))), writer.bytes.len())
 }
 
 /// The same for two texts in nodes of one entry.
@@ -77,27 +77,18 @@ fn len_of_texts(rt: &impl Abort, alloc: Global, writes: u32) -> Result<(bool, us
         Ok(root) => Texts::write_root(2, root, &mut writer),
         Err(fault) => Err(fault),
     };
-    Ok((is_of_the_writer(&outcome), writer.bytes.len()))
-}
-
-/// Whether the writer is named as what failed.
-fn is_of_the_writer(outcome: &Result<u32, Fault<AllocError>>) -> bool {
-    matches!(outcome, Err(Fault::Writer(_)))
+    Ok((matches!(outcome, Err(Fault::Writer(_))), writer.bytes.len()))
 }
 
 #[test]
-fn each_node_is_one_write(rt: HostRuntime) {
-    let rows = [(0, 0), (1, 48), (2, 96), (3, 144), (4, 212)];
-    for (writes, len) in rows {
+fn each_node_text_and_padding_is_one_write(rt: HostRuntime) -> Result<(), Fail> {
+    let numbers = [(0, 0), (1, 48), (2, 96), (3, 144), (4, 212)];
+    for (writes, len) in numbers {
         same(&rt, len_of_numbers(&rt, rt.alloc(), writes), (true, len));
     }
     same(&rt, len_of_numbers(&rt, rt.alloc(), 5), (false, 220));
-}
-
-#[test]
-fn each_text_and_each_padding_is_one_write(rt: HostRuntime) -> Result<(), Fail> {
-    let rows = [(0, 0), (1, 1), (2, 4), (3, 24), (4, 26), (5, 28), (6, 52)];
-    for (writes, len) in rows {
+    let texts = [(0, 0), (1, 1), (2, 4), (3, 24), (4, 26), (5, 28), (6, 52)];
+    for (writes, len) in texts {
         same(&rt, len_of_texts(&rt, rt.alloc(), writes)?, (true, len));
     }
     same(&rt, len_of_texts(&rt, rt.alloc(), 7)?, (false, 60));
