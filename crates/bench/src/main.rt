@@ -17,6 +17,7 @@ use crate::maps::write;
 use crate::report::Report;
 use anyhow::{Context, ensure};
 use rkyv_btree::map;
+use rkyv_btree::strict::access_strict;
 use rkyv_btree::view::View;
 use rkyv_btree_base::layout;
 use rkyv_btree_base::map::ArchivedBTreeMap;
@@ -67,7 +68,7 @@ fn build(
     Ok(root)
 }
 
-/// Times the check of the map.
+/// Times the check of the map, and the strict check.
 fn check<'a>(
     rt: &HostRuntime,
     bytes: &'a [u8],
@@ -78,6 +79,9 @@ fn check<'a>(
     let start = Instant::now(rt)?;
     let map = map::access::<ArchivedText, ArchivedU32, 5>(bytes, root)?;
     tell(rt, "check", start.elapsed(rt)?, count)?;
+    let start = Instant::now(rt)?;
+    access_strict::<ArchivedText, ArchivedU32, 5>(bytes, root)?;
+    tell(rt, "strict check", start.elapsed(rt)?, count)?;
     Ok(map)
 }
 

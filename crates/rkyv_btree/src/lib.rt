@@ -103,7 +103,18 @@ pub mod seal {
 
 /// Archived sets, read in place.
 pub mod set {
+    pub use rkyv_btree_strict::strict_set::{StrictSetView, access_strict, open_strict};
     pub use rkyv_btree_view::set::{Iter, Range, access, access_valid};
+}
+
+/// Maps whose keys increase: their validation, their views, and laws.
+pub mod strict {
+    pub use rkyv_btree_strict::laws::{
+        natives_are_ordered_alike, neighbours_decide_order, pairs_are_ordered_alike,
+        std_maps_are_increasing, visits_keep_strict_maps, writes_keep_strict_maps,
+    };
+    pub use rkyv_btree_strict::strict::{access_strict, open_strict, verify_strict};
+    pub use rkyv_btree_strict::strict_map::{Strict, StrictView};
 }
 
 /// Values in a buffer.
@@ -137,6 +148,8 @@ pub mod prelude {
     pub use rkyv_btree_convert::entry_type::EntryType;
     pub use rkyv_btree_convert::whole::{ArchiveFault, from_archive, open};
     pub use rkyv_btree_seal::map::{MapSeal, access_mut};
+    pub use rkyv_btree_strict::strict::{access_strict, open_strict};
+    pub use rkyv_btree_strict::strict_map::{Strict, StrictView};
     pub use rkyv_btree_view::compare::{ViewEq, ViewHash, ViewOrd};
     pub use rkyv_btree_view::map::access;
     pub use rkyv_btree_view::native::ToNative;

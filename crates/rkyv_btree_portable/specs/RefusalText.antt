@@ -21,3 +21,4 @@ refusal_text (refused.BadEntry pos) = codes "entry at position " ++ (decimal pos
 refusal_text (refused.TooDeep pos) = codes "node at position " ++ (signed_decimal pos ++ codes " is deeper than 32 levels")
 refusal_text (refused.EntriesLengthMismatch e) = mismatch_text e
 refusal_text refused.TooLong = codes "buffer is longer than 4294967295 bytes"
+refusal_text (refused.OutOfOrder index) = codes "entry " ++ (decimal index ++ codes " is out of order")

@@ -3,7 +3,7 @@
 use Rattle.std.specs.Prelude.{◌≡◌, ◌≢◌, ℕ, zero, suc, ◌+◌, ◌%◌, ◌≤◌, ◌<◌, List, [], ◌∷◌, length, Some, ℤ, pos, ◌+ℤ◌, ◌<ℤ◌}
 use Rattle.rkyv_btree_portable.specs.declared.refusal.Refusal.{Refusal}
 use Rattle.rkyv_btree_portable.specs.declared.refusal.Refusal.TheVariants.{OutOfRange, Misaligned, BadKind, InvalidLength}
-use Rattle.rkyv_btree_portable.specs.declared.refusal.Refusal.TheVariants.{BadEntry, TooDeep, EntriesLengthMismatch}
+use Rattle.rkyv_btree_portable.specs.declared.refusal.Refusal.TheVariants.{BadEntry, TooDeep, EntriesLengthMismatch, OutOfOrder}
 use Rattle.rkyv_btree_portable.specs.Bytes.{number_at, target_at, place_at}
 use Rattle.rkyv_btree_portable.specs.Kind.{Kind}
 use Rattle.rkyv_btree_format.specs.Layout.{layout_of, key_at, value_at, len_at, leaf_size, inner_size, pointer_at, align}
@@ -97,3 +97,7 @@ abbrev pub NoTreeIsRefused : Kind → Kind → ℕ → Type 0
 NoTreeIsRefused K V E =
     (b : List ℕ) (levels lo hi start : ℕ) (e : Refusal) (t : Tree (K.Value × V.Value))
     → RefusesNode K V E b levels (pos start) lo hi e → Spells K V E b lo hi start t → height t ≤ levels → ⊥
+
+-- no bytes are refused as a map for the order of their keys
+abbrev pub OrderIsNotRefused : Kind → Kind → ℕ → Type 0
+OrderIsNotRefused K V E = (b : List ℕ) (lo hi at index : ℕ) → RefusesMap K V E b lo hi at (OutOfOrder index) → ⊥

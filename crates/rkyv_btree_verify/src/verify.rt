@@ -4,7 +4,7 @@ ghost use Rattle.rkyv_btree_portable.specs.declared.refusal.Refusal.{Refusal};
 ghost use Rattle.rkyv_btree_portable.specs.declared.check.Window.{Window};
 ghost use Rattle.rkyv_btree_verify.specs.Claims.{ClaimsAreApart, NodesAreFew};
 ghost use Rattle.rkyv_btree_verify.specs.Opening.{IsMapIn, RefusesMapIn, CountsNodes};
-ghost use Rattle.rkyv_btree_verify.specs.Refusals.{NoMapIsRefused, OneRefusal, NoTreeIsRefused};
+ghost use Rattle.rkyv_btree_verify.specs.Refusals.{NoMapIsRefused, OneRefusal, NoTreeIsRefused, OrderIsNotRefused};
 ghost use Rattle.rkyv_btree_format.specs.Layout.{layout_of, are_fitting, leaf_size, inner_size};
 ghost use Rattle.rkyv_btree_verify.specs.mirror.Check.{node_place};
 ghost use Rattle.rkyv_btree_verify.specs.mirror.Counted.{Within};
@@ -426,9 +426,11 @@ pub fn claims_are_apart<K: Portable, V: Portable, const E: usize>()
 {}
 
 /// A map has no fault, bytes have one fault at most, and a node with a fault spells no tree of the levels that are left.
+/// `verify` never returns `Refusal::OutOfOrder`.
 pub fn faults_are_exact<K: Portable, V: Portable, const E: usize>()
     requires { IsTrue (are_fitting K.kind V.kind E) }
     ensures no_map { NoMapIsRefused K.kind V.kind E }
     ensures one_refusal { OneRefusal K.kind V.kind E }
     ensures no_tree { NoTreeIsRefused K.kind V.kind E }
+    ensures no_order { OrderIsNotRefused K.kind V.kind E }
 {}

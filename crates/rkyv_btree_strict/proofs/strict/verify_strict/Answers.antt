@@ -1,0 +1,61 @@
+-- What `verify` refuses, and after that the order.
+use Rattle.std.proofs.Common.{IsTrue, List, ap, refl, rules, sym, subst}
+use Rattle.std.specs.Prelude.{Err}
+use Rattle.rkyv_btree_base.specs.Refusal.TheVariants.{OutOfOrder}
+use Rattle.rkyv_btree_strict.proofs.Checked.{increasing_there, only_for_order, only_of_map, out_there, read_there, widest}
+use Rattle.rkyv_btree_strict.proofs.Ordered.{not_both, one_index}
+use Rattle.rkyv_btree_strict.specs.Increasing.{Increasing, IsOutOfOrder}
+use Rattle.rkyv_btree_strict.specs.Strict.{no_map, out_of_order}
+use Rattle.rkyv_btree_base.specs.Layout.{are_fitting}
+use Rattle.rkyv_btree_view.specs.Map.{IsMap}
+use Rattle.rkyv_btree_strict.proofs.strict.verify_strict.Goals as goal
+
+pub returns-in-Err-clause-all_accepted : goal.returns-in-Err-clause-all_accepted
+returns-in-Err-clause-all_accepted g c left is = absurd (cc (c.in-Err.is, c.verify.ensures.all_accepted left (is.0, (is.1.0, is.1.1))))
+
+pub returns-in-Err-clause-refused : goal.returns-in-Err-clause-refused
+returns-in-Err-clause-refused g c = no_map c.in-Err.ensures.refused
+
+pub returns-in-Err-clause-all_refused : goal.returns-in-Err-clause-all_refused
+returns-in-Err-clause-all_refused g c e refuses =
+    let r = only_of_map _ _ _ g.met.K.Portable.laws g.met.V.Portable.laws c.args.buf.now _ _ c.args.pos e refuses
+    (λ left m a. absurd (cc (c.in-Err.is, c.verify.ensures.all_accepted (record { lo = left; hi = c.args.window.hi }) (refl, (m, a))))) in
+    cc (c.in-Err.is, c.verify.ensures.all_refused e r)
+
+pub access_valid-requires : goal.access_valid-requires
+access_valid-requires g c =
+    let is = c.in-Ok.ensures.accepted in
+    let accepted : (m : List (g.K.Portable.kind.Value × g.V.Portable.kind.Value)) × IsMap g.K.Portable.kind g.V.Portable.kind g.row.E c.args.buf.now c.args.pos m =
+    (is.1.0, widest _ _ _ g.met.K.Portable.laws g.met.V.Portable.laws c.args.buf.now _ _ c.args.pos _ is.1.0 is.1.1) in
+    let fitting : IsTrue (are_fitting g.K.Portable.kind g.V.Portable.kind g.row.E) = c.requires.fitting in
+    search rules
+
+pub returns-in-None-clause-accepted : goal.returns-in-None-clause-accepted
+returns-in-None-clause-accepted g c =
+    let is = c.in-Ok.ensures.accepted in
+    let there = read_there _ _ _ g.met.K.Portable.laws g.met.V.Portable.laws c.args.buf.now _ _ c.args.pos c.access_valid.ensures.buffer c.access_valid.ensures.position _ _ _ is.1.0 is.1.1 in
+    (is.0, (is.1.0, is.1.1, subst (Increasing g.K.Portable.kind.order) (sym there) c.in-None.ensures))
+
+pub returns-in-None-clause-all_refused : goal.returns-in-None-clause-all_refused
+returns-in-None-clause-all_refused g c e refuses =
+    only_for_order _ _ _ g.met.K.Portable.laws g.met.V.Portable.laws c.args.buf.now _ _ c.args.pos e _ refuses
+    (λ f r. absurd (cc (c.in-Ok.is, c.verify.ensures.all_refused f r)))
+    (λ left index m a o. absurd (not_both g.met.K.ViewOrd.total _ index c.in-None.ensures (out_there _ _ _ g.met.K.Portable.laws g.met.V.Portable.laws c.args.buf.now _ _ c.args.pos c.access_valid.ensures.buffer c.access_valid.ensures.position _ _ _ index m a o)))
+
+pub returns-in-Some-clause-all_accepted : goal.returns-in-Some-clause-all_accepted
+returns-in-Some-clause-all_accepted g c left is =
+    absurd (not_both g.met.K.ViewOrd.total _ c.in-Some.index
+    (increasing_there _ _ _ g.met.K.Portable.laws g.met.V.Portable.laws c.args.buf.now _ _ c.args.pos c.access_valid.ensures.buffer c.access_valid.ensures.position _ _ _ is.1.0 is.1.1 is.1.2) c.in-Some.ensures)
+
+pub returns-in-Some-clause-refused : goal.returns-in-Some-clause-refused
+returns-in-Some-clause-refused g c =
+    let is = c.in-Ok.ensures.accepted in
+    let there = read_there _ _ _ g.met.K.Portable.laws g.met.V.Portable.laws c.args.buf.now _ _ c.args.pos c.access_valid.ensures.buffer c.access_valid.ensures.position _ _ _ is.1.0 is.1.1 in
+    out_of_order is.1.0 is.1.1 (subst (λ (m : List (g.K.Portable.kind.Value × g.V.Portable.kind.Value)). IsOutOfOrder g.K.Portable.kind.order m c.in-Some.index) (sym there) c.in-Some.ensures)
+
+pub returns-in-Some-clause-all_refused : goal.returns-in-Some-clause-all_refused
+returns-in-Some-clause-all_refused g c e refuses =
+    only_for_order _ _ _ g.met.K.Portable.laws g.met.V.Portable.laws c.args.buf.now _ _ c.args.pos e _ refuses
+    (λ f r. absurd (cc (c.in-Ok.is, c.verify.ensures.all_refused f r)))
+    (λ left index m a o. ap (λ i. Err (OutOfOrder i)) (one_index g.met.K.ViewOrd.total _ c.in-Some.index index c.in-Some.ensures
+    (out_there _ _ _ g.met.K.Portable.laws g.met.V.Portable.laws c.args.buf.now _ _ c.args.pos c.access_valid.ensures.buffer c.access_valid.ensures.position _ _ _ index m a o)))

@@ -1,0 +1,8 @@
+//! Maps and sets whose keys increase: validation of the order, views that rely on it, and laws.
+#![tactic(auto)]
+
+pub mod laws;
+mod order;
+pub mod strict;
+pub mod strict_map;
+pub mod strict_set;

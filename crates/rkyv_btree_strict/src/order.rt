@@ -1,0 +1,38 @@
+//! The order of a map's keys.
+ghost use Rattle.std.specs.Prelude.{MatchOption};
+ghost use Rattle.rkyv_btree_strict.specs.Increasing.{Increasing, IsOutOfOrder};
+ghost use Rattle.rkyv_btree_view.specs.View.{entries_of};
+
+use rkyv_btree_base::check::Portable;
+use rkyv_btree_view::compare::ViewOrd;
+use rkyv_btree_view::map::ShowsEntries;
+use rkyv_btree_view::view::View;
+use rkyv_btree_walk::map::ArchivedMap;
+
+/// Returns the index of the first entry whose key isn't greater than the key before it.
+pub(crate) fn first_out_of_order<
+    K: ViewOrd,
+    V: Portable,
+    M: ArchivedMap<Key = K, Mapped = V> + ShowsEntries,
+>(map: View<'_, M>) -> Option<u64>
+    ensures { let entries = entries_of K.kind V.kind M.E map.entry in
+        MatchOption result (Increasing K.kind.order entries)
+        (IsOutOfOrder K.kind.order entries) }
+{
+    // The length has 32 bits, so the index doesn't overflow.
+    let _len = map.len();
+    let mut entries = map.iter();
+    let Some((first, _)) = entries.next() else {
+        return None;
+    };
+    let mut last = first;
+    let mut index: u64 = 1;
+    while let Some((key, _)) = entries.next() {
+        if K::compare(&last, &key).is_ge() {
+            return Some(index);
+        }
+        last = key;
+        index += 1;
+    }
+    None
+}

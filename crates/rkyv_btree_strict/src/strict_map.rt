@@ -1,0 +1,211 @@
+//! Views of maps whose keys increase.
+ghost use Rattle.std.specs.BTreeMap.{is_at};
+ghost use Rattle.std.specs.Iterator.{IsFinite};
+ghost use Rattle.std.specs.List.Sorted.{IsStrictlySortedBy-prop};
+ghost use Rattle.std.specs.Map.{keys_of, lookup, lookup_entry};
+ghost use Rattle.std.specs.Option.{option_map};
+ghost use Rattle.std.specs.Prelude.{◌≡◌, ◌↔◌, [], length, is_some, IsTrue, IsOk, IfOk, IfErr, Err, ℕ, ⊤};
+ghost use Rattle.std.specs.Range.Bound.{bound_map};
+ghost use Rattle.rkyv_btree_base.specs.Refusal.TheVariants.{OutOfOrder};
+ghost use Rattle.rkyv_btree_strict.specs.Increasing.{Increasing, IsOutOfOrder};
+ghost use Rattle.rkyv_btree_strict.specs.Strict.{entries_within};
+ghost use Rattle.rkyv_btree_view.specs.Items.{ShowsAll};
+ghost use Rattle.rkyv_btree_view.specs.Lookup.{ByNative};
+ghost use Rattle.rkyv_btree_view.specs.View.{reads, reads_both, entries_of};
+
+use crate::order::first_out_of_order;
+use rkyv_btree_base::check::Portable;
+use rkyv_btree_base::map::ArchivedBTreeMap;
+use rkyv_btree_base::refusal::Refusal;
+use rkyv_btree_view::compare::ViewOrd;
+use rkyv_btree_view::iter::Iter;
+use rkyv_btree_view::map::ShowsEntries;
+use rkyv_btree_view::query::CompareWith;
+use rkyv_btree_view::range::Range;
+use rkyv_btree_view::view::View;
+use rkyv_btree_walk::map::ArchivedMap;
+use std::alloc::AllocError;
+use std::ops::Bound;
+
+/// A type of maps whose strict views show entries. Those of a set show its keys alone, by calls of the same names.
+pub trait StrictEntries: ShowsEntries {}
+
+impl<K, V, const E: usize> StrictEntries for ArchivedBTreeMap<K, V, E> {}
+
+/// A map or a set in a buffer whose keys increase. A lookup finds the only equal key, and a range has exactly the entries
+/// within its bounds.
+pub struct Strict<'a, M: ArchivedMap> {
+    pub view: View<'a, M>,
+    pub ghost increasing: { Increasing M.Key.kind.order (entries_of M.Key.kind M.Mapped.kind M.E view) } by { IsStrictlySortedBy-prop M.Key.kind.order
+        (keys_of (entries_of M.Key.kind M.Mapped.kind M.E view)) },
+}
+
+/// A map in a buffer whose keys increase. `access_strict`, `open_strict` and `StrictView::of` make one.
+pub type StrictView<'a, K, V, const E: usize> = Strict<'a, ArchivedBTreeMap<K, V, E>>;
+
+impl<'a, M: ArchivedMap> Copy for Strict<'a, M> {}
+
+impl<'a, M: ArchivedMap> Clone for Strict<'a, M> {
+    ghost is_clone = { λ s r. r ≡ s };
+
+    ghost is_infallible = { λ _. ⊤ };
+
+    fn clone(&self) -> Result<Strict<'a, M>, AllocError> {
+        Ok(*self)
+    }
+}
+
+impl<'a, K: ViewOrd, V: Portable, M: ArchivedMap<Key = K, Mapped = V> + StrictEntries> Strict<
+    'a,
+    M,
+> {
+    /// Returns the strict view of an accepted map, if its keys increase.
+    ///
+    /// # Errors
+    ///
+    /// `Refusal::OutOfOrder` with the index of the first entry whose key isn't greater than the key before it.
+    pub fn of(view: View<'a, M>) -> Result<Strict<'a, M>, Refusal>
+        ensures buffer { IfOk result (λ strict. strict.view.buf.now ≡ view.entry.buf.now) }
+        ensures position { IfOk result (λ strict. strict.view.pos ≡ view.entry.pos) }
+        ensures all_increasing { Increasing K.kind.order (entries_of K.kind V.kind M.E view.entry) →
+            IsOk result }
+        ensures refused { IfErr result (λ refusal. (index : ℕ) × (refusal ≡ OutOfOrder index)
+            × IsOutOfOrder K.kind.order (entries_of K.kind V.kind M.E view.entry) index) }
+        ensures all_refused { (index : ℕ) →
+            IsOutOfOrder K.kind.order (entries_of K.kind V.kind M.E view.entry) index →
+            result ≡ Err (OutOfOrder index) }
+    {
+        match first_out_of_order(view) {
+            None => Ok(Strict { view }),
+            Some(index) => Err(Refusal::OutOfOrder { index }),
+        }
+    }
+
+    /// Returns the view of the map.
+    pub fn as_view(self) -> View<'a, M>
+        ensures buffer { result.buf.now ≡ self.entry.view.buf.now }
+        ensures position { result.pos ≡ self.entry.view.pos }
+        ensures increasing { Increasing K.kind.order (entries_of K.kind V.kind M.E result) }
+    {
+        self.view
+    }
+
+    /// Returns the number of entries.
+    pub fn len(self) -> u32
+        ensures { result ≡ length (entries_of K.kind V.kind M.E self.entry.view) }
+    {
+        self.view.len()
+    }
+
+    /// Returns whether there are no entries.
+    pub fn is_empty(self) -> bool
+        ensures { IsTrue result ↔ (entries_of K.kind V.kind M.E self.entry.view ≡ []) }
+    {
+        self.view.is_empty()
+    }
+
+    /// Returns the value of the only key that is equal to `key`.
+    pub fn get(self, key: View<'_, K>) -> Option<View<'a, V>>
+        ensures { option_map reads result ≡ lookup (is_at (K.kind.order (reads key.entry)))
+            (entries_of K.kind V.kind M.E self.entry.view) }
+    {
+        self.view.get(key)
+    }
+
+    /// Returns the only entry whose key is equal to `key`.
+    pub fn get_key_value(self, key: View<'_, K>) -> Option<(View<'a, K>, View<'a, V>)>
+        ensures { option_map reads_both result
+            ≡ lookup_entry (is_at (K.kind.order (reads key.entry)))
+            (entries_of K.kind V.kind M.E self.entry.view) }
+    {
+        self.view.get_key_value(key)
+    }
+
+    /// Returns whether a key is equal to `key`.
+    pub fn contains_key(self, key: View<'_, K>) -> bool
+        ensures { result ≡ is_some (lookup (is_at (K.kind.order (reads key.entry)))
+            (entries_of K.kind V.kind M.E self.entry.view)) }
+    {
+        self.view.contains_key(key)
+    }
+
+    /// Returns the value of the only key that is equal to a native value.
+    pub fn get_by<T: Drop>(self, key: T) -> Option<View<'a, V>>
+    where
+        K: CompareWith<T>,
+        ensures { ByNative K.kind K.compared_at key (λ answer. option_map reads result
+            ≡ lookup (is_at answer) (entries_of K.kind V.kind M.E self.entry.view)) }
+    {
+        self.view.get_by(key)
+    }
+
+    /// Returns the only entry whose key is equal to a native value.
+    pub fn get_key_value_by<T: Drop>(self, key: T) -> Option<(View<'a, K>, View<'a, V>)>
+    where
+        K: CompareWith<T>,
+        ensures { ByNative K.kind K.compared_at key (λ answer. option_map reads_both result
+            ≡ lookup_entry (is_at answer) (entries_of K.kind V.kind M.E self.entry.view)) }
+    {
+        self.view.get_key_value_by(key)
+    }
+
+    /// Returns whether a key is equal to a native value.
+    pub fn contains_by<T: Drop>(self, key: T) -> bool
+    where
+        K: CompareWith<T>,
+        ensures { ByNative K.kind K.compared_at key (λ answer. result
+            ≡ is_some (lookup (is_at answer) (entries_of K.kind V.kind M.E self.entry.view))) }
+    {
+        self.view.contains_by(key)
+    }
+}
+
+impl<'a, K: ViewOrd, V: Portable, M: ArchivedMap<Key = K, Mapped = V> + StrictEntries> Strict<
+    'a,
+    M,
+> {
+    ghost use Rattle.rkyv_btree_view.specs.Iter.{entries_left};
+
+    /// Returns an iterator over the entries, in the order of their keys.
+    pub fn iter(self) -> Iter<'a, M>
+        ensures all { ShowsAll ⟦<Iter<'a, M> as Iterator>⟧.next_gives
+            reads_both result (entries_of K.kind V.kind M.E self.entry.view) }
+        ensures left { entries_left result ≡ entries_of K.kind V.kind M.E self.entry.view }
+        ensures ends { IsFinite (⟦<Iter<'a, M> as Iterator>⟧.remaining result) }
+    {
+        self.view.iter()
+    }
+}
+
+impl<'a, K: ViewOrd, V: Portable, M: ArchivedMap<Key = K, Mapped = V> + StrictEntries> Strict<
+    'a,
+    M,
+> {
+    ghost use Rattle.rkyv_btree_view.specs.Range.{range_left, ByNativeBounds};
+
+    /// Returns an iterator over the entries whose keys are within the bounds, in the order of their keys.
+    pub fn range(self, low: Bound<View<'_, K>>, high: Bound<View<'_, K>>) -> Range<'a, M>
+        ensures all { ShowsAll ⟦<Range<'a, M> as Iterator>⟧.next_gives
+            reads_both result (range_left result) }
+        ensures ends { IsFinite (⟦<Range<'a, M> as Iterator>⟧.remaining result) }
+        ensures within { range_left result
+            ≡ entries_within (bound_map (λ q. K.kind.order (reads q)) low.entry)
+            (bound_map (λ q. K.kind.order (reads q)) high.entry)
+            (entries_of K.kind V.kind M.E self.entry.view) }
+    {
+        self.view.range(low, high)
+    }
+
+    /// Returns an iterator over the entries whose keys are within bounds of native values, in the order of their keys.
+    pub fn range_by<T: Drop>(self, low: Bound<T>, high: Bound<T>) -> Range<'a, M>
+    where
+        K: CompareWith<T>,
+        ensures all { ShowsAll ⟦<Range<'a, M> as Iterator>⟧.next_gives
+            reads_both result (range_left result) }
+        ensures ends { IsFinite (⟦<Range<'a, M> as Iterator>⟧.remaining result) }
+        ensures within { ByNativeBounds K.kind K.compared_at low high (λ lo hi. range_left result
+            ≡ entries_within lo hi (entries_of K.kind V.kind M.E self.entry.view)) }
+    {
+        self.view.range_by(low, high)
+    }
+}

@@ -1,0 +1,201 @@
+//! Views of sets whose keys increase.
+ghost use Rattle.std.specs.BTreeMap.{is_at};
+ghost use Rattle.std.specs.Iterator.{IsFinite};
+ghost use Rattle.std.specs.List.{find};
+ghost use Rattle.std.specs.List.Sorted.{IsStrictlySortedBy};
+ghost use Rattle.std.specs.Option.{option_map};
+ghost use Rattle.std.specs.Prelude.{◌≡◌, ◌↔◌, [], length, is_some, IsTrue, IsOk, IfOk, IfErr, Err};
+ghost use Rattle.std.specs.Range.Bound.{bound_map};
+ghost use Rattle.rkyv_btree_base.specs.Layout.{are_fitting};
+ghost use Rattle.rkyv_btree_base.specs.Map.{map_kind};
+ghost use Rattle.rkyv_btree_base.specs.Refusal.{Refusal};
+ghost use Rattle.rkyv_btree_base.specs.Scalars.{unit_kind};
+ghost use Rattle.rkyv_btree_base.specs.Whole.{IsArchiveOf, own_at};
+ghost use Rattle.rkyv_btree_convert.specs.Whole.{IsUnopened};
+ghost use Rattle.rkyv_btree_strict.specs.Increasing.{Increasing};
+ghost use Rattle.rkyv_btree_strict.specs.Strict.{keys_within, IsStrictMap, RefusesStrict};
+ghost use Rattle.rkyv_btree_view.specs.Items.{ShowsAll};
+ghost use Rattle.rkyv_btree_view.specs.Lookup.{ByNative};
+ghost use Rattle.rkyv_btree_view.specs.Set.{keys_of};
+ghost use Rattle.rkyv_btree_view.specs.View.{reads, entries_of};
+
+use crate::strict::{access_strict as access_map, open_strict as open_map};
+use crate::strict_map::{Strict, StrictView};
+use rkyv_btree_base::check::CheckBytes;
+use rkyv_btree_base::refusal::Refusal;
+use rkyv_btree_base::set::ArchivedBTreeSet;
+use rkyv_btree_view::compare::ViewOrd;
+use rkyv_btree_view::query::CompareWith;
+use rkyv_btree_view::set::{Iter, Range};
+use rkyv_btree_view::view::View;
+use std::marker::PhantomData;
+use std::ops::Bound;
+
+/// A set in a buffer whose keys increase. `access_strict`, `open_strict` and `StrictSetView::of` make one.
+pub type StrictSetView<'a, K, const E: usize> = Strict<'a, ArchivedBTreeSet<K, E>>;
+
+/// Returns the view of the set at position `pos`, if the bytes mean a set whose keys increase.
+///
+/// # Errors
+///
+/// As of `verify_strict`. No memory is allocated.
+pub fn access_strict<'a, K: CheckBytes + ViewOrd, const E: usize>(
+    buf: &'a [u8],
+    pos: u32,
+) -> Result<StrictSetView<'a, K, E>, Refusal>
+    requires { IsTrue (are_fitting K.kind unit_kind E) }
+    ensures buffer { IfOk result (λ set. set.view.buf.now ≡ buf.now) }
+    ensures position { IfOk result (λ set. set.view.pos ≡ pos) }
+    ensures accepted { IfOk result (λ set.
+        IsStrictMap K.kind unit_kind E buf.now pos (entries_of K.kind unit_kind E set.view)) }
+    ensures all_accepted { (m : _) → IsStrictMap K.kind unit_kind E buf.now pos m → IsOk result }
+    ensures refused { IfErr result (RefusesStrict K.kind unit_kind E buf.now 0 pos pos) }
+    ensures all_refused { (e : Refusal) → RefusesStrict K.kind unit_kind E buf.now 0 pos pos e →
+        result ≡ Err e }
+{
+    match access_map::<K, (), E>(buf, pos) {
+        Ok(map) => Ok(StrictSetView::of(map)),
+        Err(refusal) => Err(refusal),
+    }
+}
+
+/// Returns the view of the set whose own bytes are the last of `bytes`, if these are an archive of a set whose keys increase.
+///
+/// # Errors
+///
+/// Every error of `open` comes before `Refusal::OutOfOrder`. No memory is allocated.
+pub fn open_strict<'a, K: CheckBytes + ViewOrd, const E: usize>(
+    bytes: &'a [u8],
+) -> Result<StrictSetView<'a, K, E>, Refusal>
+    requires { IsTrue (are_fitting K.kind unit_kind E) }
+    ensures buffer { IfOk result (λ set. set.view.buf.now ≡ bytes.now) }
+    ensures position { IfOk result (λ set.
+        set.view.pos ≡ own_at (map_kind K.kind unit_kind E) bytes.now) }
+    ensures archive { IfOk result (λ set. IsArchiveOf (map_kind K.kind unit_kind E) bytes.now
+        (entries_of K.kind unit_kind E set.view)) }
+    ensures all_archives { (m : _) → IsArchiveOf (map_kind K.kind unit_kind E) bytes.now m →
+        Increasing K.kind.order m → IsOk result }
+    ensures refused { IfErr result (IsUnopened (map_kind K.kind unit_kind E)
+        (RefusesStrict K.kind unit_kind E) bytes.now) }
+{
+    match open_map::<K, (), E>(bytes) {
+        Ok(map) => Ok(StrictSetView::of(map)),
+        Err(refusal) => Err(refusal),
+    }
+}
+
+impl<'a, K: ViewOrd, const E: usize> Strict<'a, ArchivedBTreeSet<K, E>> {
+    /// Returns a strict map whose values are `()` as the set of its keys.
+    pub fn of(map: StrictView<'a, K, (), E>) -> StrictSetView<'a, K, E>
+        ensures buffer { result.view.buf.now ≡ map.entry.view.buf.now }
+        ensures position { result.view.pos ≡ map.entry.view.pos }
+    {
+        let map = map.view;
+        Strict {
+            view: View {
+                buf: map.buf,
+                pos: map.pos,
+                of: PhantomData,
+            },
+        }
+    }
+
+    /// Returns the view of the set.
+    pub fn as_view(self) -> View<'a, ArchivedBTreeSet<K, E>>
+        ensures buffer { result.buf.now ≡ self.entry.view.buf.now }
+        ensures position { result.pos ≡ self.entry.view.pos }
+        ensures increasing { IsStrictlySortedBy K.kind.order (keys_of K.kind E result) }
+    {
+        self.view
+    }
+
+    /// Returns the number of keys.
+    pub fn len(self) -> u32
+        ensures { result ≡ length (keys_of K.kind E self.entry.view) }
+    {
+        self.view.len()
+    }
+
+    /// Returns whether there are no keys.
+    pub fn is_empty(self) -> bool
+        ensures { IsTrue result ↔ (keys_of K.kind E self.entry.view ≡ []) }
+    {
+        self.view.is_empty()
+    }
+
+    /// Returns an iterator over the keys, in order.
+    pub fn iter(self) -> Iter<'a, K, E>
+        ensures all { ShowsAll ⟦<Iter<'a, K, E> as Iterator>⟧.next_gives reads result
+            (keys_of K.kind E self.entry.view) }
+        ensures ends { IsFinite (⟦<Iter<'a, K, E> as Iterator>⟧.remaining result) }
+    {
+        self.view.iter()
+    }
+
+    /// Returns the set's own key that is equal to `key`.
+    pub fn get(self, key: View<'_, K>) -> Option<View<'a, K>>
+        ensures { option_map reads result
+            ≡ find (is_at (K.kind.order (reads key.entry))) (keys_of K.kind E self.entry.view) }
+    {
+        self.view.get(key)
+    }
+
+    /// Returns whether a key is equal to `key`.
+    pub fn contains_key(self, key: View<'_, K>) -> bool
+        ensures { result ≡ is_some (find (is_at (K.kind.order (reads key.entry)))
+            (keys_of K.kind E self.entry.view)) }
+    {
+        self.view.contains_key(key)
+    }
+
+    /// Returns the key that is equal to a native value.
+    pub fn get_by<T: Drop>(self, key: T) -> Option<View<'a, K>>
+    where
+        K: CompareWith<T>,
+        ensures { ByNative K.kind K.compared_at key (λ answer. option_map reads result
+            ≡ find (is_at answer) (keys_of K.kind E self.entry.view)) }
+    {
+        self.view.get_by(key)
+    }
+
+    /// Returns whether a key is equal to a native value.
+    pub fn contains_by<T: Drop>(self, key: T) -> bool
+    where
+        K: CompareWith<T>,
+        ensures { ByNative K.kind K.compared_at key (λ answer. result
+            ≡ is_some (find (is_at answer) (keys_of K.kind E self.entry.view))) }
+    {
+        self.view.contains_by(key)
+    }
+}
+
+impl<'a, K: ViewOrd, const E: usize> Strict<'a, ArchivedBTreeSet<K, E>> {
+    ghost use Rattle.rkyv_btree_view.specs.Keys.{range_keys_left};
+    ghost use Rattle.rkyv_btree_view.specs.Range.{ByNativeBounds};
+
+    /// Returns an iterator over the keys within the bounds, in order.
+    pub fn range(self, low: Bound<View<'_, K>>, high: Bound<View<'_, K>>) -> Range<'a, K, E>
+        ensures all { ShowsAll ⟦<Range<'a, K, E> as Iterator>⟧.next_gives reads result
+            (range_keys_left result) }
+        ensures ends { IsFinite (⟦<Range<'a, K, E> as Iterator>⟧.remaining result) }
+        ensures within { range_keys_left result
+            ≡ keys_within (bound_map (λ q. K.kind.order (reads q)) low.entry)
+            (bound_map (λ q. K.kind.order (reads q)) high.entry)
+            (keys_of K.kind E self.entry.view) }
+    {
+        self.view.range(low, high)
+    }
+
+    /// Returns an iterator over the keys within bounds of native values, in order.
+    pub fn range_by<T: Drop>(self, low: Bound<T>, high: Bound<T>) -> Range<'a, K, E>
+    where
+        K: CompareWith<T>,
+        ensures all { ShowsAll ⟦<Range<'a, K, E> as Iterator>⟧.next_gives reads result
+            (range_keys_left result) }
+        ensures ends { IsFinite (⟦<Range<'a, K, E> as Iterator>⟧.remaining result) }
+        ensures within { ByNativeBounds K.kind K.compared_at low high (λ lo hi.
+            range_keys_left result ≡ keys_within lo hi (keys_of K.kind E self.entry.view)) }
+    {
+        self.view.range_by(low, high)
+    }
+}
