@@ -5,5 +5,6 @@
 pub mod editing;
 pub mod headline;
 pub mod round_trip;
+pub mod strict;
 pub mod version;
 pub mod whole;
