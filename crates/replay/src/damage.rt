@@ -26,6 +26,7 @@ struct Tally {
     bad_entry: u32,
     length_mismatch: u32,
     too_long: u32,
+    out_of_order: u32,
     fingerprint: u64,
 }
 
@@ -52,6 +53,7 @@ impl Tally {
             Refusal::BadEntry { pos: _ } => &mut self.bad_entry,
             Refusal::EntriesLengthMismatch(_) => &mut self.length_mismatch,
             Refusal::TooLong => &mut self.too_long,
+            Refusal::OutOfOrder { index: _ } => &mut self.out_of_order,
         };
         *count = count.wrapping_add(1);
     }
@@ -85,6 +87,7 @@ impl Tally {
         show_count("bad entry", self.bad_entry, out)?;
         show_count("length mismatch", self.length_mismatch, out)?;
         show_count("too long", self.too_long, out)?;
+        show_count("out of order", self.out_of_order, out)?;
         let fingerprint = self.fingerprint;
         write!(out, "; {fingerprint:016x}")?;
         Ok(())
@@ -229,6 +232,7 @@ pub(crate) fn damage<
         bad_entry: 0,
         length_mismatch: 0,
         too_long: 0,
+        out_of_order: 0,
         fingerprint: 0xcbf29ce484222325,
     };
     if way == 0 {
