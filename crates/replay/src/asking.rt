@@ -1,11 +1,13 @@
-//! Look-ups and ranges.
+//! Look-ups and ranges, and strict maps.
 
 use crate::input::Input;
-use crate::opening::opened;
+use crate::opening::{opened, show_map};
 use crate::shown::{Shown, show_entry};
 use anyhow::{bail, ensure};
 use rkyv_btree::prelude::*;
+use rkyv_btree_base::layout;
 use rkyv_btree_base::steps::StepCounter;
+use std::alloc::Global;
 use std::ops::Bound;
 
 /// The value of a type at a position.
@@ -87,4 +89,83 @@ pub(crate) fn range<K: CheckBytes + ViewOrd + Shown, V: CheckBytes + Shown, cons
         write!(out, " GOES ON")?;
     }
     Ok(())
+}
+
+/// Whether each look-up of an entry's key finds that entry.
+fn is_found<K: ViewOrd, V: Portable, const E: usize>(
+    map: StrictView<'_, K, V, E>,
+    key: View<'_, K>,
+    value: View<'_, V>,
+) -> bool {
+    let Some((found_key, found_value)) = map.get_key_value(key) else {
+        return false;
+    };
+    let Some(found) = map.get(key) else {
+        return false;
+    };
+    found_key.pos == key.pos
+        && found_value.pos == value.pos
+        && found.pos == value.pos
+        && map.contains_key(key)
+}
+
+/// Appends how many entries are found by their own keys.
+fn show_found<K: ViewOrd, V: Portable, const E: usize>(
+    map: StrictView<'_, K, V, E>,
+    out: &mut String,
+) -> anyhow::Result<()> {
+    let mut count: u32 = 0;
+    for (key, value) in map.iter() {
+        if is_found::<K, V, E>(map, key, value) {
+            count = count.wrapping_add(1);
+        }
+    }
+    write!(out, "; {count} found;")?;
+    Ok(())
+}
+
+/// Appends the keys from the second up to the last, without that one; or all keys, if there are fewer than two.
+fn show_between<K: ViewOrd + Shown, V: Portable, const E: usize>(
+    map: StrictView<'_, K, V, E>,
+    out: &mut String,
+) -> anyhow::Result<()> {
+    let mut entries = map.iter();
+    entries.next();
+    let (low, high) = match entries.next() {
+        None => (Bound::Unbounded, Bound::Unbounded),
+        Some((second, _)) => {
+            let mut last = second;
+            for (key, _) in entries {
+                last = key;
+            }
+            (Bound::Included(second), Bound::Excluded(last))
+        }
+    };
+    for (key, _) in map.range(low, high) {
+        out.push(' ')?;
+        K::show(&key, out)?;
+    }
+    Ok(())
+}
+
+/// Opens the map of a case as a strict one: lists it, looks up each of its keys, and lists the keys of a range.
+pub(crate) fn strict<K: CheckBytes + ViewOrd + Shown, V: CheckBytes + Shown, const E: usize>(
+    alloc: Global,
+    case: &[u8],
+    out: &mut String,
+) -> anyhow::Result<()> {
+    let mut input = Input { rest: case };
+    let pos = input.number()?;
+    ensure!(layout::fits::<K, V, E>(), "the map doesn't fit");
+    match access_strict::<K, V, E>(input.rest, pos) {
+        Ok(map) => {
+            show_map::<K, V, E>(alloc, &map.as_view(), out)?;
+            show_found::<K, V, E>(map, out)?;
+            show_between::<K, V, E>(map, out)
+        }
+        Err(refusal) => {
+            write!(out, "refused: {refusal}")?;
+            Ok(())
+        }
+    }
 }

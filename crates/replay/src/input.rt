@@ -3,6 +3,7 @@
 use anyhow::{Context, bail};
 use std::alloc::{AllocError, Global};
 use std::collections::BTreeMap;
+use std::num::NonZeroU32;
 
 /// What is left of the bytes of a case.
 #[derive(Drop)]
@@ -59,6 +60,29 @@ impl Wire for u32 {
 impl Wire for u64 {
     fn take(_alloc: Global, input: &mut Input<'_>) -> anyhow::Result<u64> {
         Ok(u64::from_le_bytes(input.array::<8>()?))
+    }
+}
+
+impl Wire for bool {
+    fn take(_alloc: Global, input: &mut Input<'_>) -> anyhow::Result<bool> {
+        let [byte] = input.array::<1>()?;
+        match byte {
+            0 => Ok(false),
+            1 => Ok(true),
+            _ => bail!("a byte of the case is no bool"),
+        }
+    }
+}
+
+impl Wire for char {
+    fn take(_alloc: Global, input: &mut Input<'_>) -> anyhow::Result<char> {
+        char::from_u32(input.number()?).context("a number of the case is no character")
+    }
+}
+
+impl Wire for NonZeroU32 {
+    fn take(_alloc: Global, input: &mut Input<'_>) -> anyhow::Result<NonZeroU32> {
+        NonZeroU32::new(input.number()?).context("a number of the case is 0")
     }
 }
 

@@ -18,8 +18,9 @@ use std::alloc::Global;
 use std::collections::BTreeMap;
 use std::io;
 use std::io::Write;
+use std::num::NonZeroU32;
 
-/// Runs a case of a map of numbers and `()`, by the name of its type.
+/// Runs a case of a map of numbers, `bool`, characters and `()`, by the name of its type.
 fn of_numbers(
     alloc: Global,
     kind: &str,
@@ -37,9 +38,14 @@ fn of_numbers(
         "u64,u8,5" => built::<u64, u8, ArchivedU64, u8, 5>(alloc, mode, case, out),
         "u8,u16,3" => built::<u8, u16, u8, ArchivedU16, 3>(alloc, mode, case, out),
         "u8,u16,5" => built::<u8, u16, u8, ArchivedU16, 5>(alloc, mode, case, out),
-        "i32,unit,5" => built::<i32, (), ArchivedI32, (), 5>(alloc, mode, case, out),
-        "unit,i32,5" => built::<(), i32, (), ArchivedI32, 5>(alloc, mode, case, out),
-        "unit,unit,5" => built::<(), (), (), (), 5>(alloc, mode, case, out),
+        "i32,unit,5" => native::<i32, (), ArchivedI32, (), 5>(alloc, mode, case, out),
+        "unit,i32,5" => native::<(), i32, (), ArchivedI32, 5>(alloc, mode, case, out),
+        "unit,unit,5" => native::<(), (), (), (), 5>(alloc, mode, case, out),
+        "bool,u8,3" => built::<bool, u8, bool, u8, 3>(alloc, mode, case, out),
+        "char,u16,2" => built::<char, u16, ArchivedChar, ArchivedU16, 2>(alloc, mode, case, out),
+        "nonzero,u8,2" => {
+            built::<NonZeroU32, u8, ArchivedNonZeroU32, u8, 2>(alloc, mode, case, out)
+        }
         _ => of_others(alloc, kind, mode, case, out),
     }
 }

@@ -25,6 +25,7 @@ pub enum Mode {
     Put,
     PutAll,
     Damage,
+    Strict,
 }
 
 impl Mode {
@@ -44,6 +45,7 @@ impl Mode {
             "put" => Some(Mode::Put),
             "put-all" => Some(Mode::PutAll),
             "damage" => Some(Mode::Damage),
+            "strict" => Some(Mode::Strict),
             _ => None,
         }
     }
@@ -53,7 +55,7 @@ impl Mode {
 pub fn built<
     KU: Archive<Archived = K> + Serialize<VecWriter, Global> + Wire,
     VU: Archive<Archived = V> + Serialize<VecWriter, Global> + Wire,
-    K: CheckBytes + Shown,
+    K: CheckBytes + ViewOrd + Shown,
     V: CheckBytes + Shown,
     const E: usize,
 >(alloc: Global, mode: Mode, case: &[u8], out: &mut String) -> anyhow::Result<()> {
@@ -64,6 +66,7 @@ pub fn built<
         Mode::Check => opening::check::<K, V>(case, out),
         Mode::Build => building::build::<KU, VU, K, V, E>(alloc, case, out),
         Mode::Golden => building::golden::<KU, VU, K, V, E>(alloc, case, out),
+        Mode::Strict => asking::strict::<K, V, E>(alloc, case, out),
         _ => bail!("no such mode of this type"),
     }
 }

@@ -62,6 +62,28 @@ impl Shown for ArchivedU64 {
     }
 }
 
+/// 0 or 1.
+impl Shown for bool {
+    fn show(view: &View<'_, bool>, out: &mut String) -> Result<(), AllocError> {
+        out.push(if view.to_native() { '1' } else { '0' })
+    }
+}
+
+/// Its code.
+impl Shown for ArchivedChar {
+    fn show(view: &View<'_, ArchivedChar>, out: &mut String) -> Result<(), AllocError> {
+        let code = u32::from(view.to_native());
+        write!(out, "{code}")
+    }
+}
+
+impl Shown for ArchivedNonZeroU32 {
+    fn show(view: &View<'_, ArchivedNonZeroU32>, out: &mut String) -> Result<(), AllocError> {
+        let number = view.to_native().get();
+        write!(out, "{number}")
+    }
+}
+
 /// A dot.
 impl Shown for () {
     fn show(view: &View<'_, ()>, out: &mut String) -> Result<(), AllocError> {
