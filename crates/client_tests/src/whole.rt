@@ -1,6 +1,7 @@
 //! Whole archives that are made, or a growth is refused, and what is no archive.
 
 use crate::shared::same;
+use examples::strict::{file_of, first_price_from, price_in};
 use rkyv_btree::prelude::*;
 use std::alloc::{AllocError, Global};
 use std::collections::BTreeMap;
@@ -31,6 +32,23 @@ const FOUR_TEXTS: [u8; 88] = [
 ];
 
 type Numbers = ArchivedBTreeMap<ArchivedU32, ArchivedU32, 5>;
+
+// The file of a map is strict, so what is found in it is what the map has.
+#[test]
+fn files_are_opened_strictly(rt: HostRuntime) -> Result<(), Fail> {
+    let mut prices = BTreeMap::new(rt.alloc());
+    for (name, price) in [("pear", 5u32), ("apple", 3), ("fig", 8)] {
+        prices.insert(String::from_str(rt.alloc(), name)?, price)?;
+    }
+    let file = file_of(rt.alloc(), &prices)?;
+    same(&rt, price_in(file.as_slice(), "fig")?, Some(8));
+    same(&rt, price_in(file.as_slice(), "grape")?, None);
+    same(&rt, first_price_from(file.as_slice(), "b")?, Some(8));
+    same(&rt, first_price_from(file.as_slice(), "q")?, None);
+    let refusal = Refusal::OutOfRange { pos: 0 };
+    same(&rt, price_in(&[], "fig").err(), Some(refusal));
+    Ok(())
+}
 
 // They are too short for own bytes, which would begin at their start.
 #[test]

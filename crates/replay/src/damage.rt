@@ -232,7 +232,7 @@ pub(crate) fn damage<
         bad_entry: 0,
         length_mismatch: 0,
         too_long: 0,
-            out_of_order: 0,
+        out_of_order: 0,
         fingerprint: 0xcbf29ce484222325,
     };
     if way == 0 {

@@ -1,13 +1,21 @@
 //! The order of a map's keys.
-ghost use Rattle.std.specs.Prelude.{MatchOption};
+ghost use Rattle.std.specs.Prelude.{◌≡◌, ◌↔◌, IsTrue, MatchOption};
+ghost use Rattle.std.specs.declared.cmp.Ordering.TheVariants.{Less};
 ghost use Rattle.rkyv_btree_strict.specs.Increasing.{Increasing, IsOutOfOrder};
-ghost use Rattle.rkyv_btree_view.specs.View.{entries_of};
+ghost use Rattle.rkyv_btree_view.specs.View.{entries_of, reads};
 
 use rkyv_btree_base::check::Portable;
 use rkyv_btree_view::compare::ViewOrd;
 use rkyv_btree_view::map::ShowsEntries;
 use rkyv_btree_view::view::View;
 use rkyv_btree_walk::map::ArchivedMap;
+
+/// Returns whether the first key is less than the second.
+fn is_less<K: ViewOrd>(first: &View<'_, K>, second: &View<'_, K>) -> bool
+    ensures { IsTrue result ↔ (K.kind.order (reads first.now) (reads second.now) ≡ Less) }
+{
+    K::compare(first, second).is_lt()
+}
 
 /// Returns the index of the first entry whose key isn't greater than the key before it.
 pub(crate) fn first_out_of_order<
@@ -28,7 +36,7 @@ pub(crate) fn first_out_of_order<
     let mut last = first;
     let mut index: u64 = 1;
     while let Some((key, _)) = entries.next() {
-        if K::compare(&last, &key).is_ge() {
+        if !is_less(&last, &key) {
             return Some(index);
         }
         last = key;

@@ -15,26 +15,22 @@ module _ {A B : Type 0} (order : A → A → Ordering) (all : List (A × B)) whe
   Decided r = MatchOption r (Increasing order all) (IsOutOfOrder order all)
 
   -- an entry that isn't greater is out of order
-  stops : (last key : A) (value : B) (left more : List (A × B)) (index : ℕ) (o : Ordering) → order last key ≡ o → is_ge o ≡ true → left ≡ (key, value) ∷ more
+  stops : (last key : A) (value : B) (left more : List (A × B)) (index : ℕ) → ¬ (order last key ≡ Less) → left ≡ (key, value) ∷ more
       → Decided (unordered_after order last left index) → IsOutOfOrder order all index
-  stops last key value left more index o is ge parts h =
+  stops last key value left more index not_less parts h =
       let here : Decided (match_ordering (order last key) (unordered_after order key more (index + 1)) (Some index) (Some index)) = subst (λ (m : List (A × B)). Decided (unordered_after order last m index)) parts h in
-      (elim o as (λ p. order last key ≡ p → is_ge p ≡ true → IsOutOfOrder order all index) [
-        | Less ↦ λ e g. absurd (cc g)
-        | Equal ↦ λ e g. subst (λ (p : Ordering). Decided (match_ordering p (unordered_after order key more (index + 1)) (Some index) (Some index))) e here
-        | Greater ↦ λ e g. subst (λ (p : Ordering). Decided (match_ordering p (unordered_after order key more (index + 1)) (Some index) (Some index))) e here
-      ]) is ge
+      (elim (order last key) as (λ o. order last key ≡ o → Decided (match_ordering o (unordered_after order key more (index + 1)) (Some index) (Some index)) → IsOutOfOrder order all index) [
+        | Less ↦ λ is d. absurd (not_less is)
+        | Equal ↦ λ is d. d
+        | Greater ↦ λ is d. d
+      ]) refl here
 
   -- after one that is greater the search goes on
-  goes_on : (last key : A) (value : B) (left more : List (A × B)) (index : ℕ) (o : Ordering) → order last key ≡ o → is_ge o ≡ false → left ≡ (key, value) ∷ more
+  goes_on : (last key : A) (value : B) (left more : List (A × B)) (index : ℕ) → order last key ≡ Less → left ≡ (key, value) ∷ more
       → Decided (unordered_after order last left index) → Decided (unordered_after order key more (index + 1))
-  goes_on last key value left more index o is ge parts h =
+  goes_on last key value left more index less parts h =
       let here : Decided (match_ordering (order last key) (unordered_after order key more (index + 1)) (Some index) (Some index)) = subst (λ (m : List (A × B)). Decided (unordered_after order last m index)) parts h in
-      (elim o as (λ p. order last key ≡ p → is_ge p ≡ false → Decided (unordered_after order key more (index + 1))) [
-        | Less ↦ λ e g. subst (λ (p : Ordering). Decided (match_ordering p (unordered_after order key more (index + 1)) (Some index) (Some index))) e here
-        | Equal ↦ λ e g. absurd (cc g)
-        | Greater ↦ λ e g. absurd (cc g)
-      ]) is ge
+      subst (λ (o : Ordering). Decided (match_ordering o (unordered_after order key more (index + 1)) (Some index) (Some index))) less here
 
   starts : (first : A) (value : B) (more : List (A × B)) → all ≡ (first, value) ∷ more → Decided (unordered order all) → Decided (unordered_after order first more 1)
   starts first value more parts h = subst (λ (m : List (A × B)). Decided (unordered order m)) parts h
@@ -70,11 +66,11 @@ loop-key-init g c =
       count = first_counted all _ _ parts;
     }
 
-pub returns-then-is_ge : goal.returns-then-is_ge
-returns-then-is_ge g c =
+pub returns-then-is_less : goal.returns-then-is_less
+returns-then-is_less g c =
     let order = g.K.Portable.kind.order in
     let all = entries_of g.K.Portable.kind g.V.Portable.kind g.M.ArchivedMap.E c.args.map in
-    stops order all _ _ _ _ _ _ c.compare.result (sym c.compare.ensures) (sym c.is_ge.ensures ∙ c.if-is_ge.true) c.in-Some-next.ensures.steps c.loop-key.invariant.searched
+    stops order all _ _ _ _ _ (λ less. cc (c.is_less.ensures.1 less)) c.in-Some-next.ensures.steps c.loop-key.invariant.searched
 
 pub overflow_add-index : goal.overflow_add-index
 overflow_add-index g c =
@@ -88,7 +84,7 @@ loop-key-preserved g c =
     let order = g.K.Portable.kind.order in
     let all = entries_of g.K.Portable.kind g.V.Portable.kind g.M.ArchivedMap.E c.args.map in
     record {
-      searched = goes_on order all _ _ _ _ _ _ c.compare.result (sym c.compare.ensures) (sym c.is_ge.ensures ∙ c.if-is_ge.false) c.in-Some-next.ensures.steps c.loop-key.invariant.searched;
+      searched = goes_on order all _ _ _ _ _ (c.is_less.ensures.0 (search rules)) c.in-Some-next.ensures.steps c.loop-key.invariant.searched;
       count = next_counted all _ _ _ c.loop-key.index c.in-Some-next.ensures.steps c.loop-key.invariant.count;
     }
 
