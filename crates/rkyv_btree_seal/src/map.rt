@@ -45,6 +45,8 @@ pub struct MapSeal<'a, M: Portable> {
 
 /// The map at position `pos` of `buf`, whoever wrote it, if the bytes mean some list of entries in the window of all that
 /// stands before it. What the buffer has become by writes is told where the map was made by `MapSeal::at`.
+// After an `Err` the bytes are as they were, which no clause says: `RestsIfErr` would, but a slice that a result may keep
+// gets no proof of it, and a caller learns nothing from it. `access` and then `MapSeal::at` say as much.
 pub fn access_mut<'a, K: CheckBytes, V: CheckBytes, const E: usize>(
     buf: &'a mut [u8],
     pos: u32,

@@ -1,5 +1,5 @@
 //! Ranges of the entries of a map, between two bounds of their keys.
-ghost use Rattle.std.specs.Prelude.{◌≡◌, ◌≤◌, length, IsTrue};
+ghost use Rattle.std.specs.Prelude.{◌≡◌, ◌≤◌, [], length, IsTrue};
 ghost use Rattle.std.specs.Iterator.{IsFinite};
 ghost use Rattle.std.specs.Range.Bound.{bound_map};
 ghost use Rattle.std.specs.declared.ops.Bound.TheVariants.{Unbounded};
@@ -90,19 +90,22 @@ impl<'a, K: Portable, V: Portable, M: ArchivedMap<Key = K, Mapped = V>> FusedIte
 impl<'a, K: Portable, V: Portable, M: ArchivedMap<Key = K, Mapped = V>> View<'a, M> {
     ghost use Rattle.rkyv_btree_view.specs.Range.{range_left};
 
-    /// The range that has a part of a leaf left, and of the path above it what stands before the stop.
-    fn range_at(self, part: Part, stop: Option<(u32, u32)>, path: Path) -> Range<'a, M>
-        requires path { IsPath K.kind V.kind M.E self.buf.now 32 path.items }
-        requires stands { PartStands K.kind V.kind M.E self.buf.now part }
-        ensures { range_left result
-            ≡ read_range K.kind V.kind M.E self.entry.buf.now stop part path.items }
+    /// Makes a range with nothing left, in which the bounds are sought, so that no other path is copied into it.
+    #[inline(always)]
+    fn empty_range(self) -> Range<'a, M>
+        ensures buf { result.buf.now ≡ self.entry.buf.now }
+        ensures path { result.path.items ≡ [] }
     {
         M::opened(self.buf, self.pos);
         Range {
             buf: self.buf,
-            path,
-            part,
-            stop,
+            path: ArrayVec::new(),
+            part: Part {
+                node: 0,
+                next: 0,
+                end: 0,
+            },
+            stop: None,
             of: PhantomData,
         }
     }
@@ -126,11 +129,18 @@ impl<'a, K: Portable, V: Portable, M: ArchivedMap<Key = K, Mapped = V>> View<'a,
         ensures within { ByBounds (C.post cmp) (shown K.kind W.Shows) low.entry high.entry (λ lo hi.
             IsWithin lo hi (entries_of K.kind V.kind M.E self.entry) (range_left result)) }
     {
-        let mut path = ArrayVec::new();
+        let mut range = self.empty_range();
         let (part, stop) = between::<Q, K, V, M, W, C>(
-            self.buf, self.pos, low, high, &cmp, &mut path,
+            self.buf,
+            self.pos,
+            low,
+            high,
+            &cmp,
+            &mut range.path,
         );
-        self.range_at(part, stop, path)
+        range.part = part;
+        range.stop = stop;
+        range
     }
 }
 
@@ -150,16 +160,18 @@ impl<'a, K: ViewOrd, V: Portable, M: ArchivedMap<Key = K, Mapped = V> + ShowsEnt
             (entries_of K.kind V.kind M.E self.entry) (range_left result) }
     {
         let compare = |query: &View<'_, K>, key: View<K>| K::compare(query, &key);
-        let mut path = ArrayVec::new();
+        let mut range = self.empty_range();
         let (part, stop) = between::<_, K, V, M, _, _>(
             self.buf,
             self.pos,
             low.as_ref(),
             high.as_ref(),
             &compare,
-            &mut path,
+            &mut range.path,
         );
-        self.range_at(part, stop, path)
+        range.part = part;
+        range.stop = stop;
+        range
     }
 }
 
@@ -181,15 +193,17 @@ impl<'a, K: Portable, V: Portable, M: ArchivedMap<Key = K, Mapped = V> + ShowsEn
             IsWithin lo hi (entries_of K.kind V.kind M.E self.entry) (range_left result)) }
     {
         let compare = |query: &T, key: View<K>| K::compare_with(query, &key);
-        let mut path = ArrayVec::new();
+        let mut range = self.empty_range();
         let (part, stop) = between::<_, K, V, M, _, _>(
             self.buf,
             self.pos,
             low.as_ref(),
             high.as_ref(),
             &compare,
-            &mut path,
+            &mut range.path,
         );
-        self.range_at(part, stop, path)
+        range.part = part;
+        range.stop = stop;
+        range
     }
 }

@@ -39,6 +39,11 @@ module _ (K V : Kind) (E : ℕ) (b : List ℕ) where
   unfolding TreeStands
   child_stands levels p tree = tree.1
 
+  pub tree_child_node : (levels p : ℕ) → TreeStands K V E b levels p → (i q : ℕ) → i ≤ E → child_place (layout_of K V E) b p i ≡ Some q → NodeStands K V E b q
+  tree_child_node levels p tree i q le to =
+      let o = tree_levels levels p tree in
+      tree_node o.0 q (child_stands o.0 p (rw o.1 at tree) i q le to)
+
   grown : (m p : ℕ) → NodeStands K V E b p → ((i q : ℕ) → i ≤ E → child_place (layout_of K V E) b p i ≡ Some q → TreeStands K V E b m q) → TreeStands K V E b (suc m) p
   unfolding TreeStands
   grown m p node below = (node, below)

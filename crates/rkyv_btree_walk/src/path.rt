@@ -1,11 +1,12 @@
 //! Steps along the entries of a tree, over the path of nodes from its root.
-ghost use Rattle.std.specs.Prelude.{◌≡◌, ℕ, ◌+◌, ◌-◌, ◌≤◌, [], ◌++◌, length, Option, IfSome, IsTrue};
-ghost use Rattle.rkyv_btree_base.specs.Layout.{layout_of, are_fitting};
+ghost use Rattle.std.specs.Prelude.{◌≡◌, ℕ, ◌+◌, ◌-◌, ◌≤◌, ◌<◌, [], ◌++◌, length, Option, Some, None, IfSome, IsSome, IsTrue, true, false};
+ghost use Rattle.rkyv_btree_base.specs.Bytes.{number_at};
+ghost use Rattle.rkyv_btree_base.specs.Layout.{layout_of, len_at, are_fitting};
 ghost use Rattle.rkyv_btree_base.specs.Read.{map_tree};
 ghost use Rattle.rkyv_btree_base.specs.Tree.{list};
 ghost use Rattle.rkyv_btree_base.specs.Views.{stands};
 ghost use Rattle.rkyv_btree_walk.specs.mirror.Below.{root_place, IsBelow, PathBelow, LeafBelow, StepStaysBelow};
-ghost use Rattle.rkyv_btree_walk.specs.mirror.Node.{TreeStands};
+ghost use Rattle.rkyv_btree_walk.specs.mirror.Node.{is_leaf as is_leaf_at, child_place, TreeStands};
 ghost use Rattle.rkyv_btree_walk.specs.mirror.Path.{tree_rest, path_rest, leaf_rest, LeafStands, StepStands, Steps, IsPath};
 
 use crate::map::{ArchivedMap, map_len};
@@ -103,6 +104,72 @@ pub(crate) fn climb<K: Portable, V: Portable, M: ArchivedMap<Key = K, Mapped = V
         }
     }
     None
+}
+
+/// Finds the leaf after entry `index` of the inner node at `node`, if there is such an entry and the child after it is a leaf.
+#[inline(always)]
+fn leaf_after<K: Portable, V: Portable, M: ArchivedMap<Key = K, Mapped = V>>(
+    buf: &[u8],
+    node: u32,
+    index: u32,
+) -> Option<Leaf>
+    requires fitting { IsTrue (are_fitting K.kind V.kind M.E) }
+    requires short { length buf.now ≤ 4294967295 }
+    requires tree { (levels : ℕ) × TreeStands K.kind V.kind M.E buf.now levels node }
+    requires inner { is_leaf_at (layout_of K.kind V.kind M.E) buf.now node ≡ false }
+    ensures within { IsSome result → index < M.E }
+    ensures child { IfSome result (λ leaf.
+        child_place (layout_of K.kind V.kind M.E) buf.now node (index + 1) ≡ Some leaf.node) }
+    ensures leaf { IfSome result (λ leaf.
+        is_leaf_at (layout_of K.kind V.kind M.E) buf.now leaf.node ≡ true) }
+    ensures count { IfSome result (λ leaf. leaf.count
+        ≡ number_at buf.now (leaf.node + len_at (layout_of K.kind V.kind M.E)) 4) }
+{
+    if M::entries_per_node() > index as usize {
+        let below = child::<K, V, M>(buf, node, index as usize + 1)?;
+        if is_leaf::<K, V, M>(buf, below) {
+            let count = leaf_count::<K, V, M>(buf, below);
+            return Some(Leaf { node: below, count });
+        }
+    }
+    None
+}
+
+/// Takes the next entry of the path's last node, and finds the leaf after it. Where one of the two is missing, the path is
+/// unchanged.
+#[inline(always)]
+pub(crate) fn next_leaf<K: Portable, V: Portable, M: ArchivedMap<Key = K, Mapped = V>>(
+    buf: &[u8],
+    path: &mut Path,
+) -> Option<Step>
+    requires fitting { IsTrue (are_fitting K.kind V.kind M.E) }
+    requires short { length buf.now ≤ 4294967295 }
+    requires path { IsPath K.kind V.kind M.E buf.now 32 path.old.items }
+    ensures path { IsPath K.kind V.kind M.E buf.now 32 path.new.items }
+    ensures entry { IfSome result (StepStands K.kind V.kind M.E buf.now) }
+    ensures leaf { IfSome result (λ e. LeafStands K.kind V.kind M.E buf.now e.leaf) }
+    ensures rest { IfSome result (λ e. Steps (layout_of K.kind V.kind M.E) buf.now (Some e)
+        path.old.items path.new.items) }
+    ensures below { StepStaysBelow (layout_of K.kind V.kind M.E) buf.now path.old.items
+        path.new.items result }
+    ensures stays { result ≡ None → path.new.items ≡ path.old.items }
+{
+    match path.pop() {
+        None => None,
+        Some((node, index)) => {
+            let leaf = leaf_after::<K, V, M>(buf, node, index);
+            match leaf {
+                None => {
+                    path.push((node, index));
+                    None
+                }
+                Some(leaf) => {
+                    path.push((node, index + 1));
+                    Some(Step { node, index, leaf })
+                }
+            }
+        }
+    }
 }
 
 /// Does as `climb` does, in a function of its own, so that the `next` of an iterator is short.

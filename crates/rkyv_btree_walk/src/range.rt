@@ -1,5 +1,5 @@
 //! Walks between two bounds: where they begin, and the entry before which they stop.
-ghost use Rattle.std.specs.Prelude.{◌≡◌, ◌+◌, ◌≤◌, ◌<◌, [], length, IfSome, IsTrue, None, Some, false};
+ghost use Rattle.std.specs.Prelude.{◌≡◌, ℕ, ◌+◌, ◌≤◌, ◌<◌, List, [], length, IfSome, IsTrue, None, Some, false};
 ghost use Rattle.std.specs.Range.Bound.{bound_map};
 ghost use Rattle.std.specs.declared.cmp.Ordering.{Ordering as Answer};
 ghost use Rattle.std.specs.declared.ops.Bound.TheVariants.{Unbounded};
@@ -13,14 +13,14 @@ ghost use Rattle.rkyv_btree_walk.specs.Bounds.{IsRun, IsWithin, ByBounds};
 ghost use Rattle.rkyv_btree_walk.specs.Search.{ComparesBy, shown};
 ghost use Rattle.rkyv_btree_walk.specs.mirror.Below.{root_place, PartBelow, PathStaysBelow, StepStaysBelow};
 ghost use Rattle.rkyv_btree_walk.specs.mirror.Node.{natural, RunStands, TreeCanBeRead};
-ghost use Rattle.rkyv_btree_walk.specs.mirror.Path.{path_rest, IsPath, LeafStands, StepStands};
+ghost use Rattle.rkyv_btree_walk.specs.mirror.Path.{path_rest, IsPath, LeafStands, StepStands, Steps};
 ghost use Rattle.rkyv_btree_walk.specs.mirror.Range.{from_at, past_at, IsKept, IsEnd, IsFound, IsMiddle, first_of, first_passes};
 ghost use Rattle.rkyv_btree_walk.specs.mirror.Range.{is_stop as stops_at, take_before, range_rest, tree_list, part_rest};
 ghost use Rattle.rkyv_btree_walk.specs.mirror.Range.{part_range, read_range, PartStands, StepsBefore};
 
 use crate::map::{ArchivedMap, map_len};
 use crate::node::{key_pos, root};
-use crate::path::{Leaf, Path, Step, climb, descend};
+use crate::path::{Leaf, Path, Step, climb, descend, next_leaf};
 use crate::seek::{Part, first_reaching, reaches, seek};
 use crate::shows::Shows;
 use rkyv_btree_base::check::Portable;
@@ -249,6 +249,45 @@ fn cut<K: Portable, V: Portable, M: ArchivedMap<Key = K, Mapped = V>>(
     }
 }
 
+/// Ends a step at the stop: if its entry is the stop, nothing is left; if the stop is in its leaf, the leaf ends there.
+#[inline(always)]
+fn before<K: Portable, V: Portable, M: ArchivedMap<Key = K, Mapped = V>>(
+    buf: &[u8],
+    stop: Option<(u32, u32)>,
+    step: Step,
+    path: &mut Path,
+) -> Option<Step>
+    requires path { IsPath K.kind V.kind M.E buf.now 32 path.old.items }
+    requires entry { StepStands K.kind V.kind M.E buf.now step }
+    requires leaf { LeafStands K.kind V.kind M.E buf.now step.leaf }
+    ensures path { IsPath K.kind V.kind M.E buf.now 32 path.new.items }
+    ensures entry { IfSome result (StepStands K.kind V.kind M.E buf.now) }
+    ensures leaf { IfSome result (λ e. LeafStands K.kind V.kind M.E buf.now e.leaf) }
+    ensures rest { let s = layout_of K.kind V.kind M.E in (all : List (ℕ × ℕ))
+        → Steps s buf.now (Some step) all path.old.items
+        → StepsBefore s buf.now stop result all path.new.items }
+    ensures below { let s = layout_of K.kind V.kind M.E in (all : List (ℕ × ℕ))
+        → StepStaysBelow s buf.now all path.old.items (Some step)
+        → StepStaysBelow s buf.now all path.new.items result }
+{
+    if is_stop(stop, step.node, step.index) {
+        take_all(path);
+        return None;
+    }
+    let part = Part {
+        node: step.leaf.node,
+        next: 0,
+        end: step.leaf.count,
+    };
+    let count = cut::<K, V, M>(buf, part, stop, path);
+    let node = part.node;
+    Some(Step {
+        node: step.node,
+        index: step.index,
+        leaf: Leaf { node, count },
+    })
+}
+
 /// Takes the first entry that is left of the path before the stop, and finds the part of the leaf behind it.
 #[inline(never)]
 fn climb_before<K: Portable, V: Portable, M: ArchivedMap<Key = K, Mapped = V>>(
@@ -269,28 +308,11 @@ fn climb_before<K: Portable, V: Portable, M: ArchivedMap<Key = K, Mapped = V>>(
 {
     match climb::<K, V, M>(buf, path) {
         None => None,
-        Some(step) => {
-            if is_stop(stop, step.node, step.index) {
-                take_all(path);
-                return None;
-            }
-            let part = Part {
-                node: step.leaf.node,
-                next: 0,
-                end: step.leaf.count,
-            };
-            let count = cut::<K, V, M>(buf, part, stop, path);
-            let node = part.node;
-            Some(Step {
-                node: step.node,
-                index: step.index,
-                leaf: Leaf { node, count },
-            })
-        }
+        Some(step) => before::<K, V, M>(buf, stop, step, path),
     }
 }
 
-/// Does as `climb_before` does. It is inlined, so that the place of its result is blanked only where it is called.
+/// Does as `climb_before` does. Most steps lead to the next leaf below one inner node, and are made without a call.
 #[inline(always)]
 pub fn advance_before<K: Portable, V: Portable, M: ArchivedMap<Key = K, Mapped = V>>(
     buf: &[u8],
@@ -308,7 +330,10 @@ pub fn advance_before<K: Portable, V: Portable, M: ArchivedMap<Key = K, Mapped =
     ensures below { StepStaysBelow (layout_of K.kind V.kind M.E) buf.now path.old.items
         path.new.items result }
 {
-    climb_before::<K, V, M>(buf, stop, path)
+    match next_leaf::<K, V, M>(buf, path) {
+        None => climb_before::<K, V, M>(buf, stop, path),
+        Some(step) => before::<K, V, M>(buf, stop, step, path),
+    }
 }
 
 /// Begins a walk between the bounds, of the tree at `root`.

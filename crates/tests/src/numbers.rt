@@ -2,7 +2,7 @@
 
 use crate::convert;
 use crate::same::same;
-use rkyv_btree::map::access;
+use rkyv_btree::map::{access, access_mut};
 use rkyv_btree_base::check::{CheckBytes, Window};
 use rkyv_btree_base::fault::Fault;
 use rkyv_btree_base::layout;
@@ -50,6 +50,11 @@ fn keys_other_than_0_are_archived_and_checked(rt: HostRuntime) -> Result<(), Fai
     assert!(rt; layout::fits::<ArchivedNonZeroU32, ArchivedU32, 5>());
     let refused = access::<ArchivedNonZeroU32, ArchivedU32, 5>(&zero, pos).err();
     same(&rt, refused, Some(Refusal::BadEntry { pos: 4 }));
+    // No clause says of a refused buffer that its bytes stay.
+    let before = zero;
+    let refused = access_mut::<ArchivedNonZeroU32, ArchivedU32, 5>(&mut zero, pos).err();
+    same(&rt, refused, Some(Refusal::BadEntry { pos: 4 }));
+    same(&rt, zero, before);
     zero[44] = 0;
     let refused = access::<ArchivedNonZeroU32, ArchivedU32, 5>(&zero, pos).err();
     let none = EntriesLengthMismatch { entries: 0, len: 1 };

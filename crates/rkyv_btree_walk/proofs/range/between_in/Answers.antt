@@ -3,7 +3,7 @@ use Rattle.std.proofs.Common.{◌-◌, [], ◌++◌, ◌∙◌, refl, sym, ap, a
 use Rattle.rkyv_btree_base.specs.Layout.{layout_of}
 use Rattle.rkyv_btree_base.specs.Read.{run}
 use Rattle.rkyv_btree_walk.specs.mirror.Path.{tree_rest, walk_rest}
-use Rattle.rkyv_btree_walk.specs.mirror.Range.{take_before, past_at}
+use Rattle.rkyv_btree_walk.specs.mirror.Range.{take_before}
 use Rattle.rkyv_btree_walk.proofs.Ranges.{taken_front, taken_whole, within_none, within_before}
 use Rattle.rkyv_btree_walk.proofs.Seeks.{rises_right}
 use Rattle.rkyv_btree_walk.proofs.range.between_in.Goals as goal

@@ -1,5 +1,6 @@
 -- All items of the iterator are all that is left of its walk; and keys compare as what their views read.
-use Rattle.std.proofs.Common.{◌∙◌, rules}
+use Rattle.std.proofs.Common.{rules, subst, sym}
+use Rattle.rkyv_btree_walk.specs.mirror.Path.{IsPath}
 use Rattle.rkyv_btree_view.specs.Range.{range_left}
 use Rattle.rkyv_btree_view.specs.View.{reads, reads_both}
 use Rattle.rkyv_btree_view.proofs.Bounds.{within_referred}
@@ -13,4 +14,11 @@ pub returns-clause-within : goal.returns-clause-within
 returns-clause-within g c low high =
     let K = g.K.Portable.kind in
     let within = c.between-stop.ensures.within (λ q x. K.order (reads q) x) (λ q w r e. search rules) in
-    c.range_at.ensures ∙ within_referred (λ q. K.order (reads q)) c.as_ref.result c.as_ref-2.result c.args.low c.args.high _ _ c.as_ref.ensures c.as_ref-2.ensures within low high
+    rw c.empty_range-range.ensures.buf (within_referred (λ q. K.order (reads q)) c.as_ref.result c.as_ref-2.result c.args.low c.args.high _ _ c.as_ref.ensures c.as_ref-2.ensures within low high)
+
+pub invariant_of-range-clause-on_path : goal.invariant_of-range-clause-on_path
+invariant_of-range-clause-on_path g c =
+    subst (λ b. ∥ IsPath g.K.Portable.kind g.V.Portable.kind g.M.ArchivedMap.E b 32 c.between-stop.new.path.items ∥₁) (sym c.empty_range-range.ensures.buf) (∣ c.between-stop.ensures.path ∣₁)
+
+pub invariant_of-range-clause-in_leaf : goal.invariant_of-range-clause-in_leaf
+invariant_of-range-clause-in_leaf g c = rw c.empty_range-range.ensures.buf (∣ c.between-stop.ensures.stands ∣₁)

@@ -1,5 +1,6 @@
 -- All items of the iterator are all that is left of its walk; and a native value compares as at the positions of keys.
-use Rattle.std.proofs.Common.{◌∙◌, rules}
+use Rattle.std.proofs.Common.{rules, subst, sym}
+use Rattle.rkyv_btree_walk.specs.mirror.Path.{IsPath}
 use Rattle.rkyv_btree_view.specs.Range.{range_left}
 use Rattle.rkyv_btree_view.specs.View.{reads_both}
 use Rattle.rkyv_btree_view.proofs.Bounds.{within_referred}
@@ -12,4 +13,11 @@ returns-clause-all g c = λ items all. drained reads_both range_left _ items all
 pub returns-clause-within : goal.returns-clause-within
 returns-clause-within g c f p low high =
     let within = c.between-stop.ensures.within f (λ q w r e. let same = p q.now w.buf.now w.pos in search rules) in
-    c.range_at.ensures ∙ within_referred f c.as_ref.result c.as_ref-2.result c.args.low c.args.high _ _ c.as_ref.ensures c.as_ref-2.ensures within low high
+    rw c.empty_range-range.ensures.buf (within_referred f c.as_ref.result c.as_ref-2.result c.args.low c.args.high _ _ c.as_ref.ensures c.as_ref-2.ensures within low high)
+
+pub invariant_of-range-clause-on_path : goal.invariant_of-range-clause-on_path
+invariant_of-range-clause-on_path g c =
+    subst (λ b. ∥ IsPath g.K.Portable.kind g.V.Portable.kind g.M.ArchivedMap.E b 32 c.between-stop.new.path.items ∥₁) (sym c.empty_range-range.ensures.buf) (∣ c.between-stop.ensures.path ∣₁)
+
+pub invariant_of-range-clause-in_leaf : goal.invariant_of-range-clause-in_leaf
+invariant_of-range-clause-in_leaf g c = rw c.empty_range-range.ensures.buf (∣ c.between-stop.ensures.stands ∣₁)

@@ -1,8 +1,9 @@
 -- An accepted map's nodes fit, and it lies in a short buffer.
+use Rattle.std.proofs.Common.{arith}
 use Rattle.rkyv_btree_base.specs.Map.{map_kind}
 use Rattle.rkyv_btree_base.specs.laws.Views.{fitting_of}
 use Rattle.rkyv_btree_base.proofs.MapLaws.{map_short}
-use Rattle.rkyv_btree_view.proofs.view.View.range_at.Goals as goal
+use Rattle.rkyv_btree_view.proofs.view.View.empty_range.Goals as goal
 
 pub invariant_of-result : goal.invariant_of-result
 invariant_of-result g c =
@@ -10,6 +11,6 @@ invariant_of-result g c =
     record {
       fitting = fitting_of (map_kind K V E) _ _ c.opened.ensures;
       short = map_short _ _ _ g.met.K.Portable.laws g.met.V.Portable.laws _ _ c.opened.ensures;
-      on_path = ∣ c.requires.path ∣₁;
-      in_leaf = ∣ c.requires.stands ∣₁;
+      on_path = ∣ rw c.new.ensures tt ∣₁;
+      in_leaf = ∣ (λ j low high. absurd (omega arith)) ∣₁;
     }
