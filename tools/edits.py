@@ -12,8 +12,8 @@ must be proved, or the edit counts as not refused.
 
 A body is judged by the contracts of what it calls, so the edits of different functions are tried in one check of a copy of the
 crate. A function that is refused for itself names its goals; one whose callee is refused says no more than that it calls it.
-An edit of more than one function's text is tried alone, and so is one whose function doesn't come out as refused. Twins
-are tried together; of those that aren't proved together each half is tried.
+An edit of more than one function's text, or of a function in a cycle of calls, is tried alone, and so is one whose function
+doesn't come out as refused. Twins are tried together; of those that aren't proved together each half is tried.
 
 What was refused is kept in a folder of this machine, by the checksums of the kit, of this script, of the crate with all
 below it, and of the edit, and isn't tried again. Each check is rt's own; --after-ci takes the libraries that rt ci has just
@@ -25,6 +25,7 @@ EDITS_KEPT the folder, if not one in the user's cache.
 import argparse
 import collections
 import concurrent.futures
+import functools
 import hashlib
 import importlib.machinery
 import importlib.util
@@ -113,10 +114,11 @@ class Edit:
 
 
 def place_of_function(text, old):
-    """Returns where the function that holds a text begins, its name, and the head of its impl, if it is in one."""
+    """Returns where the function that holds a text begins, its name, and the head of its impl, if it is in one. Of a function in a
+    cycle it names none: all of the cycle has one proof."""
     end = text.find("\n", text.find(old))
     function = [*FUNCTION.finditer(text, 0, end)][-1:]
-    if not function:
+    if not function or "#[cycle(" in text[: function[0].start()].rsplit("\n\n", 1)[-1]:
         return 0, "", ""
     heads = re.findall(r"^impl\b[^{]*", text[: function[0].start()], re.M) if function[0][1] else []
     return function[0].start(), function[0][2], " ".join(heads[-1:])
@@ -147,7 +149,8 @@ def edits_of(crate):
     return [Edit(it, crate) for it in files if it.suffix == ".edit"]
 
 
-def sum_of_files(folders):
+@functools.cache
+def sum_of_files(*folders):
     """Returns the checksum of all that stands in the folders' sources, specifications and proofs."""
     found = hashlib.sha256()
     for folder in folders:
@@ -160,7 +163,7 @@ def sum_of_files(folders):
 def place_of(crate, edit):
     """Returns the file that says why this edit is refused, once it was."""
     kit = pathlib.Path(RT.KIT, "KIT-ID").read_text()
-    parts = [kit, sum_of_files([*[it.folder for it in crate.below()], crate.folder]), edit.name, edit.text, pathlib.Path(__file__).read_text()]
+    parts = [kit, sum_of_files(*[it.folder for it in crate.below()], crate.folder), edit.name, edit.text, pathlib.Path(__file__).read_text()]
     return KEPT / hashlib.sha256("\0".join(parts).encode()).hexdigest()
 
 
