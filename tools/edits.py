@@ -25,7 +25,6 @@ EDITS_KEPT the folder, if not one in the user's cache.
 import argparse
 import collections
 import concurrent.futures
-import functools
 import hashlib
 import importlib.machinery
 import importlib.util
@@ -149,22 +148,18 @@ def edits_of(crate):
     return [Edit(it, crate) for it in files if it.suffix == ".edit"]
 
 
-@functools.cache
-def sum_of_files(*folders):
-    """Returns the checksum of all that stands in the folders' sources, specifications and proofs."""
-    found = hashlib.sha256()
-    for folder in folders:
-        for part in ("src", "specs", "proofs"):
-            for file in sorted(it for it in pathlib.Path(folder, part).rglob("*") if it.is_file()):
-                found.update(f"{file.relative_to(folder)}\n{hashlib.sha256(file.read_bytes()).hexdigest()}\n".encode())
+def sum_of(crate):
+    """Returns the checksum of all that the crate's edits are tried with: the kit, this script, and the texts of the crate and of all below it."""
+    found = hashlib.sha256(pathlib.Path(RT.KIT, "KIT-ID").read_bytes() + pathlib.Path(__file__).read_bytes())
+    for folder in [*[it.folder for it in crate.below()], crate.folder]:
+        for file in sorted(it for part in ("src", "specs", "proofs") for it in pathlib.Path(folder, part).rglob("*") if it.is_file()):
+            found.update(f"{file.relative_to(folder)} {hashlib.sha256(file.read_bytes()).hexdigest()}\n".encode())
     return found.hexdigest()
 
 
-def place_of(crate, edit):
-    """Returns the file that says why this edit is refused, once it was."""
-    kit = pathlib.Path(RT.KIT, "KIT-ID").read_text()
-    parts = [kit, sum_of_files(*[it.folder for it in crate.below()], crate.folder), edit.name, edit.text, pathlib.Path(__file__).read_text()]
-    return KEPT / hashlib.sha256("\0".join(parts).encode()).hexdigest()
+def place_of(edit, tried_with):
+    """Returns the file that says why an edit is refused, once it was with what has this checksum."""
+    return KEPT / hashlib.sha256("\0".join([tried_with, edit.name, edit.text]).encode()).hexdigest()
 
 
 def rounds_of(edits, names, is_twin=False):
@@ -192,6 +187,11 @@ def check(crate, texts, kept):
     return not ran.returncode, ran.stdout if has_verdict else ""
 
 
+def goal_of(error):
+    """Returns the goal that an error of a proof names first, if it does."""
+    return re.match(r"`([^`]*)`|", error)[1] or "a proof"
+
+
 def refused_for_themselves(said):
     """Returns which goals refuse each function that is refused for itself, by the prover's name of it."""
     found, goals = {}, []
@@ -204,11 +204,15 @@ def refused_for_themselves(said):
         name, why = (re.findall(r"^fn (\S+): (.*)$", line) or [("", "")])[0]
         if why.startswith("not proved") or "`search` did not prove" in why:
             own = [it for it in errors[name.partition("::")[2]] if not OF_NAMES.search(it)]
-            goals += [re.findall(r"`([^`]*)`", it)[0] for it in own if it.startswith("`")] or ["a proof"] * bool(own)
+            goals += map(goal_of, own)
             if goals:
                 found[name] = ", ".join(dict.fromkeys(goals))
         goals = goals if not name else []
     return found
+
+
+def told_of(found):
+    return "; ".join(f"{name}: {why}" for name, why in found.items())
 
 
 def alone(edit, kept):
@@ -216,9 +220,7 @@ def alone(edit, kept):
     is_proved, said = check(edit.crate, edit.apply({}), kept)
     found = refused_for_themselves(said)
     errors = [why for path, why in ERROR.findall(said) if not path.startswith("proofs/") or not OF_NAMES.search(why)]
-    if is_proved or not found and not errors:
-        return ""
-    return "alone: " + ("; ".join(f"{name}: {why}" for name, why in found.items()) or errors[0])
+    return "" if is_proved or not found and not errors else "alone: " + (told_of(found) or ", ".join(dict.fromkeys(map(goal_of, errors))))
 
 
 def try_edits(edits, names, kept):
@@ -239,8 +241,7 @@ def unproved_twins(edits, kept):
     if is_proved:
         return {}
     if len(edits) == 1:
-        found = refused_for_themselves(said)
-        return {edits[0]: "; ".join(f"{name}: {why}" for name, why in found.items()) or "it can't be read, or a name is gone"}
+        return {edits[0]: told_of(refused_for_themselves(said)) or "it can't be read, or a name is gone"}
     half = len(edits) // 2
     return unproved_twins(edits[:half], kept) | unproved_twins(edits[half:], kept)
 
@@ -258,9 +259,6 @@ def try_all(crate, edits):
         refused, unproved = try_edits(edits, names, kept), {}
         for given in rounds_of([it for it in edits if it.has_twin], names, is_twin=True):
             unproved |= unproved_twins([*given["edits"].values()], kept)
-    for edit, why in refused.items():
-        if why and edit not in unproved:
-            place_of(crate, edit).write_text(why)
     return [(it, why, unproved.get(it, "")) for it, why in refused.items()]
 
 
@@ -289,7 +287,8 @@ def main():
     lost = [f"{it.crate.name}/{it.name}" for it in every if not it.apply({})]
     if lost:
         sys.exit(f"an old text isn't there once: {', '.join(lost)}")
-    places = {it: place_of(it.crate, it) for it in every}
+    sums = {crate: sum_of(crate) for crate, edits in all_edits.items() if edits}
+    places = {it: place_of(it, sums[it.crate]) for it in every}
     refused = tell([(it, f"kept: {place.read_text()}", "") for it, place in places.items() if place.exists()])
     print(f"{len(every)} edits, {sum(it.has_twin for it in every)} with a twin, of which {refused} were refused before", flush=True)
     work = {crate: [it for it in edits if not places[it].exists()] for crate, edits in all_edits.items()}
@@ -300,6 +299,10 @@ def main():
     with concurrent.futures.ThreadPoolExecutor(len(os.sched_getaffinity(0))) as pool:
         for done in concurrent.futures.as_completed([pool.submit(try_all, *it) for it in work.items()]):
             refused += tell(done.result())
+            for edit, why, of_twin in done.result():
+                # (a file that has changed meanwhile may be another than the one that was tried)
+                if why and not of_twin and sum_of(edit.crate) == sums[edit.crate]:
+                    places[edit].write_text(why)
     print(f"{refused} refused, {len(every) - refused} not")
     return 0 if refused == len(every) else 1
 
