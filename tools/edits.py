@@ -128,15 +128,18 @@ def fits(name, module, function, head):
     *place, last = name.split("::")
     if not head or last != function:
         return name == f"{module}::{function}"
-    # without paths, parameters and bounds; a method of a type goes by the module of the type, one of a trait by that of its impl
-    head = re.sub(r"\w+::|->", "", head).split("where")[0]
-    while "<" in head:
-        head = re.sub(r"<[^<>]*>", "", head)
-    *of_trait, of_type = head.removeprefix("impl").split(" for ")
-    if not of_trait:
-        return place[-1].split("+")[0] == of_type.strip()
-    words = [it for it in re.findall(r"\w+", head.removeprefix("impl")) if it != "for" and not it.isupper()]
-    return "::".join(place[:-1]) == module and all(it.lower() in place[-1].lower() for it in words)
+    head = re.sub(r"'\w+|\w+::|->", "", head.removeprefix("impl")).split("where")[0]
+    bare, is_here = head, "::".join(place[:-1]) == module
+    while "<" in bare:
+        bare = re.sub(r"<[^<>]*>", "", bare)
+    *of_trait, of_type = [re.findall(r"\w*", it.strip())[0] for it in bare.split(" for ")]
+    if of_trait:
+        # as EntryPortable or Tuple2Archive
+        return is_here and place[-1].lower().startswith(of_type.lower()) and of_trait[0] in place[-1]
+    # a method of a type goes by the module of the type, as View, or of the impl, as View+Entry+K+V
+    words = re.findall(r"[A-Za-z]\w*", head[head.rfind(f"{of_type}<") :])[1:] if "<" in head else []
+    of_some = any(not it.isupper() for it in words)
+    return place[-1].split("+")[0] == of_type and of_some == ("+" in place[-1]) and (is_here or not of_some)
 
 
 def edits_of(crate):
