@@ -2,7 +2,7 @@
 """Tries the wrong bodies of crates, many at a time: tools/edits.py [--after-ci] [--only PATTERN] [CRATE..]
 
 A wrong body is a file crates/NAME/wrong/MODULE.FUNCTION.FAULT.edit: lines 'file: PATH', and then pairs 'old: TEXT' and
-'new: TEXT', each TEXT one line that stands once in that file. An edit counts as refused where the prover reads it and names a
+'new: TEXT', each TEXT one line that is once in that file. An edit counts as refused where the prover reads it and names a
 goal that it doesn't prove: more than a name that a proof file cites and the edit has taken away. A crate that isn't proved
 without edits refuses none.
 
@@ -102,7 +102,7 @@ class Edit:
         return texts
 
     def turned(self, names):
-        """Returns the prover's name of the one function whose text this edit changes, or None where that can't be told."""
+        """Returns the prover's name of the one function whose text this edit changes, or None where that isn't known."""
         places = {(it.path, *place_of_function(self.read(it.path), it.old)) for it in self.changes}
         path, at, function, head = places.pop()
         if places or function != self.function or any(CLAUSE.match(it.old) for it in self.changes):
@@ -214,7 +214,7 @@ def refused_for_themselves(said):
     return found
 
 
-def told_of(found):
+def reasons(found):
     return "; ".join(f"{name}: {why}" for name, why in found.items())
 
 
@@ -223,7 +223,7 @@ def alone(edit, kept):
     is_proved, said = check(edit.crate, edit.apply({}), kept)
     found = refused_for_themselves(said)
     errors = [why for path, why in ERROR.findall(said) if not path.startswith("proofs/") or not OF_NAMES.search(why)]
-    return "" if is_proved or not found and not errors else "alone: " + (told_of(found) or ", ".join(dict.fromkeys(map(goal_of, errors))))
+    return "" if is_proved or not found and not errors else "alone: " + (reasons(found) or ", ".join(dict.fromkeys(map(goal_of, errors))))
 
 
 def try_edits(edits, names, kept):
@@ -244,7 +244,7 @@ def unproved_twins(edits, kept):
     if is_proved:
         return {}
     if len(edits) == 1:
-        return {edits[0]: told_of(refused_for_themselves(said)) or "it can't be read, or a name is gone"}
+        return {edits[0]: reasons(refused_for_themselves(said)) or "it can't be read, or a name is gone"}
     half = len(edits) // 2
     return unproved_twins(edits[:half], kept) | unproved_twins(edits[half:], kept)
 
