@@ -66,10 +66,7 @@ fn refusals_are_told(rt: HostRuntime) -> Result<(), Fail> {
             "B-tree map claimed to have 1 entries, but actually had 0",
         ),
         (Refusal::TooLong, "buffer is longer than 4294967295 bytes"),
-        (
-            Refusal::OutOfOrder { index: 3 },
-            "entry 3 is out of order",
-        ),
+        (Refusal::OutOfOrder { index: 3 }, "entry 3 is out of order"),
     ];
     for (refusal, text) in rows {
         let told = format!(in rt.alloc(); "{refusal}")?;

@@ -1,6 +1,6 @@
 -- The first entry starts the search, and each further one goes on with it.
-use Rattle.std.proofs.Common.{◌≡◌, ℕ, ◌+◌, ◌<◌, List, [], ◌∷◌, length, true, false, Some, Option, sym, ap, ◌∙◌, subst, arith}
-use Rattle.std.specs.Ordering.{match_ordering, is_ge}
+use Rattle.std.proofs.Common.{◌≡◌, ℕ, ◌+◌, ◌<◌, List, [], ◌∷◌, length, true, false, Some, Option, sym, ap, ◌∙◌, subst, arith, refl, rules, Bool}
+use Rattle.std.specs.Ordering.{match_ordering}
 use Rattle.std.specs.Prelude.{MatchOption}
 use Rattle.std.specs.declared.cmp.Ordering.{Ordering}
 use Rattle.std.specs.declared.cmp.Ordering.TheVariants.{Less, Equal, Greater}
@@ -41,6 +41,9 @@ module _ {A B : Type 0} (order : A → A → Ordering) (all : List (A × B)) whe
   none : all ≡ [] → Decided (unordered order all) → Increasing order all
   none empty h = subst (λ (m : List (A × B)). Decided (unordered order m)) empty h
 
+not_both : (b : Bool) → b ≡ false → b ≡ true → ⊥
+not_both b fails holds = cc
+
 first_counted : {X : Type 0} (all more : List X) (x : X) → all ≡ x ∷ more → 1 + length more ≡ length all
 first_counted all more x parts = let e : length all ≡ length (x ∷ more) = ap length parts in omega (arith, e)
 
@@ -66,11 +69,11 @@ loop-key-init g c =
       count = first_counted all _ _ parts;
     }
 
-pub returns-then-is_less : goal.returns-then-is_less
-returns-then-is_less g c =
+pub returns-then-not-is_less : goal.returns-then-not-is_less
+returns-then-not-is_less g c =
     let order = g.K.Portable.kind.order in
     let all = entries_of g.K.Portable.kind g.V.Portable.kind g.M.ArchivedMap.E c.args.map in
-    stops order all _ _ _ _ _ (λ less. cc (c.is_less.ensures.1 less)) c.in-Some-next.ensures.steps c.loop-key.invariant.searched
+    stops order all _ _ _ _ _ _ (λ less. not_both c.is_less.result c.if-not-is_less.true (c.is_less.ensures.1 less)) c.in-Some-next.ensures.steps c.loop-key.invariant.searched
 
 pub overflow_add-index : goal.overflow_add-index
 overflow_add-index g c =
@@ -84,7 +87,7 @@ loop-key-preserved g c =
     let order = g.K.Portable.kind.order in
     let all = entries_of g.K.Portable.kind g.V.Portable.kind g.M.ArchivedMap.E c.args.map in
     record {
-      searched = goes_on order all _ _ _ _ _ (c.is_less.ensures.0 (search rules)) c.in-Some-next.ensures.steps c.loop-key.invariant.searched;
+      searched = goes_on order all _ _ _ _ _ _ (c.is_less.ensures.0 (search rules)) c.in-Some-next.ensures.steps c.loop-key.invariant.searched;
       count = next_counted all _ _ _ c.loop-key.index c.in-Some-next.ensures.steps c.loop-key.invariant.count;
     }
 
