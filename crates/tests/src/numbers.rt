@@ -3,6 +3,7 @@
 use crate::convert;
 use crate::same::same;
 use rkyv_btree::map::{access, access_mut};
+use rkyv_btree::strict::verify_strict;
 use rkyv_btree_base::check::{CheckBytes, Window};
 use rkyv_btree_base::fault::Fault;
 use rkyv_btree_base::layout;
@@ -45,9 +46,12 @@ fn keys_other_than_0_are_archived_and_checked(rt: HostRuntime) -> Result<(), Fai
         208, 255, 255, 255, 1, 0, 0, 0, // map
     ];
     same(&rt, writer.bytes(), want.as_slice());
+    assert!(rt; layout::fits::<ArchivedNonZeroU32, ArchivedU32, 5>());
+    let window = Window { lo: 0, hi: pos };
+    let left = verify_strict::<ArchivedNonZeroU32, ArchivedU32, 5>(&want, pos, window);
+    same(&rt, left, Ok(Window { lo: 48, hi: 48 }));
     let mut zero = want;
     zero[4] = 0;
-    assert!(rt; layout::fits::<ArchivedNonZeroU32, ArchivedU32, 5>());
     let refused = access::<ArchivedNonZeroU32, ArchivedU32, 5>(&zero, pos).err();
     same(&rt, refused, Some(Refusal::BadEntry { pos: 4 }));
     // No clause says of a refused buffer that its bytes stay.

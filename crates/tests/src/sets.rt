@@ -3,7 +3,8 @@
 use crate::read::number;
 use crate::same::{same, shown};
 use crate::views::hashed;
-use rkyv_btree::set::access;
+use rkyv_btree::set::{access, access_strict, open_strict};
+use rkyv_btree::strict;
 use rkyv_btree::view::View;
 use rkyv_btree_base::archive::{Archive, Serialize};
 use rkyv_btree_base::check::{CheckBytes, Portable};
@@ -11,6 +12,7 @@ use rkyv_btree_base::fault::Fault;
 use rkyv_btree_base::layout;
 use rkyv_btree_base::numbers::ArchivedU32;
 use rkyv_btree_base::place::VecWriter;
+use rkyv_btree_base::refusal::Refusal;
 use rkyv_btree_base::set::ArchivedBTreeSet;
 use std::alloc::{AllocError, Global};
 use std::collections::BTreeSet;
@@ -99,6 +101,27 @@ fn keys_of_a_set_are_found(rt: HostRuntime) -> Result<(), Fail> {
     same(&rt, set.get_by(4).is_none(), true);
     same(&rt, set.contains_by(4), false);
     same(&rt, set.contains_by(7), true);
+    let strict = access_strict::<ArchivedU32, 2>(writer.bytes(), pos)?;
+    for key in strict.iter() {
+        same(&rt, strict.contains_key(key), true);
+        same(&rt, strict.get(key).map(number), Some(key.to_native()));
+    }
+    same(&rt, (strict.is_empty(), strict.len()), (false, 4));
+    same(
+        &rt,
+        (strict.get_by(4).is_none(), strict.contains_by(7)),
+        (true, true),
+    );
+    let map = strict::access_strict::<ArchivedU32, (), 2>(writer.bytes(), pos)?;
+    same(&rt, (map.is_empty(), map.len()), (false, 4));
+    same(
+        &rt,
+        (map.get_key_value_by(3).is_some(), map.contains_by(4)),
+        (true, false),
+    );
+    let unordered = archive::<u32, _, 2>(&rt, rt.alloc(), &[1, 5, 3, 7], &mut writer)?;
+    let refused = access_strict::<ArchivedU32, 2>(writer.bytes(), unordered).err();
+    same(&rt, refused, Some(Refusal::OutOfOrder { index: 2 }));
     Ok(())
 }
 
@@ -116,6 +139,25 @@ fn a_range_between_archived_keys(rt: HostRuntime) -> Result<(), Fail> {
     let mut within = set.range_by(Bound::Excluded(5), Bound::Unbounded);
     same(&rt, within.next().map(number), Some(7));
     assert!(rt; within.next().is_none());
+    let strict = access_strict::<ArchivedU32, 2>(writer.bytes(), pos)?;
+    same(
+        &rt,
+        strict
+            .range(Bound::Excluded(low), Bound::Included(high))
+            .next()
+            .map(number),
+        Some(5),
+    );
+    same(
+        &rt,
+        strict
+            .range_by(Bound::Included(4), Bound::Unbounded)
+            .next()
+            .map(number),
+        Some(5),
+    );
+    let again = open_strict::<ArchivedU32, 2>(writer.bytes())?;
+    same(&rt, again.as_view().pos, pos);
     Ok(())
 }
 
