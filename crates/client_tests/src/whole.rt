@@ -5,6 +5,7 @@ use examples::strict::{file_of, first_price_from, price_in};
 use rkyv_btree::prelude::*;
 use std::alloc::{AllocError, Global};
 use std::collections::BTreeMap;
+use std::test::Fail;
 
 /// Four texts, put in out of order.
 fn four_texts(alloc: Global) -> Result<BTreeMap<String, i32>, AllocError> {
