@@ -12,9 +12,9 @@ use Rattle.rkyv_btree_image.specs.Entries.{now_of}
 use Rattle.rkyv_btree_image.specs.Written.{ChildStopped}
 use Rattle.rkyv_btree_image.proofs.Begun.{untouched}
 use Rattle.rkyv_btree_image.proofs.Building.{some_claimed}
-use Rattle.rkyv_btree_image.proofs.Untold.{uncounted}
+use Rattle.rkyv_btree_image.proofs.Untold.{uncounted, unordered}
 use Rattle.rkyv_btree_writer.specs.declared.fault.Fault.{Fault}
-use Rattle.rkyv_btree_writer.specs.declared.fault.Fault.TheVariants.{Length, LengthOverflow, PositionOverflow, OffsetOverflow, Writer, Memory, Entry}
+use Rattle.rkyv_btree_writer.specs.declared.fault.Fault.TheVariants.{Length, LengthOverflow, PositionOverflow, OffsetOverflow, Writer, Memory, Entry, OutOfOrder}
 
 -- as many items as claimed are a list of as many entries
 all_claimed : {M N : Type 0} (items : List (Bor M × Bor N)) (claim : ℕ) → length items ≡ claim → BeginClaimed items claim (map now_of items)
@@ -55,3 +55,4 @@ module _ {M N R S P : Type 0} (K V : Kind) (E : ℕ) (KA : Archival M R) (VA : A
   refused_of {X} iter claim s (Writer error) t items rest y n h = record { items = items; rest = rest; taken = y; entries = map now_of items; claimed = all_claimed items claim n; stopped = each_stops {X = X} claim s (Writer error) t items n h }
   refused_of {X} iter claim s (Memory error) t items rest y n h = inr (record { items = items; rest = rest; taken = y; entries = map now_of items; claimed = all_claimed items claim n; stopped = each_stops {X = X} claim s (Memory error) t items n h })
   refused_of {X} iter claim s (Entry fault) t items rest y n h = record { items = items; rest = rest; taken = y; entries = map now_of items; claimed = all_claimed items claim n; stopped = each_stops {X = X} claim s (Entry fault) t items n h }
+  refused_of {X} iter claim s (OutOfOrder index) t items rest y n h = absurd (unordered X (layout_of K V E) KA VA s (planned_alone E (map now_of items)) t index h)

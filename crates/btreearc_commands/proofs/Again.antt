@@ -4,7 +4,7 @@ use Rattle.std.specs.Prelude.{Option}
 use Rattle.std.proofs.lemmas.List.{append_cancel_left}
 use Rattle.std.specs.declared.alloc.AllocError.{AllocError}
 use Rattle.rkyv_btree_base.specs.Fault.{Fault}
-use Rattle.rkyv_btree_base.specs.Fault.TheVariants.{Length, LengthOverflow, PositionOverflow, OffsetOverflow, Writer, Memory as NoRoom, Entry}
+use Rattle.rkyv_btree_base.specs.Fault.TheVariants.{Length, LengthOverflow, PositionOverflow, OffsetOverflow, Writer, Memory as NoRoom, Entry, OutOfOrder}
 use Rattle.btreearc_commands.specs.Archive.{archive_of, HasArchive, IsUnbuilt}
 use Rattle.btreearc_commands.specs.Commands.{Builds, Lists}
 use Rattle.btreearc_lines.specs.Grammar.{lines, text_of, AreEntries, AreShort, IsLines}
@@ -48,6 +48,7 @@ module _ (text : List ℕ) (entries : List (ℕ × ℕ)) (archive : List ℕ) (i
   unbuilt (NoRoom error) why old new same = same
   unbuilt (Length mismatch) why old new same = absurd why
   unbuilt (Entry fault) why old new same = absurd why
+  unbuilt (OutOfOrder index) why old new same = absurd why
 
   pub built_again : AlwaysPrints (Builds (Some (text_of entries))) archive 0
   built_again old new (Ok status) h =

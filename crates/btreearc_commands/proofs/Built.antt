@@ -162,6 +162,7 @@ module _ {S : Type 0} (rest : S → List (ℕ × ℕ)) (entries : List (ℕ × �
   unbuilt iter from (Memory error) t start is h = tt
   unbuilt iter from (Length mismatch) t start is h = absurd (h.differs (sym (length-map h.items pair) ∙ ap length (drained_pairs rest iter h.items h.all ∙ is)))
   unbuilt {X} iter from (Entry fault) t start is h = absurd (stopped_tree {X = X} iter from (Entry fault) t start h).refused
+  unbuilt iter from (OutOfOrder index) t start is h = absurd h
 
 -- neither is the map written
 module _ (entries : List (ℕ × ℕ)) (root : ℕ) (s : Writing) (tree : TreeIs entries root s) where
@@ -187,6 +188,7 @@ module _ (entries : List (ℕ × ℕ)) (root : ℕ) (s : Writing) (tree : TreeIs
   unbuilt_root (Memory error) t h = absurd h
   unbuilt_root (Length mismatch) t h = absurd h
   unbuilt_root (Entry fault) t h = absurd h
+  unbuilt_root (OutOfOrder index) t h = absurd h
 
 -- what is built and written is accepted
 pub archive_accepted : (entries : List (ℕ × ℕ)) (items : List (Bor ℕ × Bor ℕ)) (root : ℕ) (from s t : Writing) → from.base ≡ 0 → s.base ≡ 0 → map pair items ≡ entries → length items ≤ last_end →

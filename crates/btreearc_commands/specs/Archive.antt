@@ -46,6 +46,7 @@ IsUnbuilt entries (Writer error) = Unit {0}
 IsUnbuilt entries (Memory error) = Unit {0}
 IsUnbuilt entries (Length mismatch) = ⊥
 IsUnbuilt entries (Entry fault) = ⊥
+IsUnbuilt entries (OutOfOrder index) = ⊥
 
 -- a fault of building an archive
 abbrev pub IsBuildFault : List (ℕ × ℕ) → ProgramFault → Type 0

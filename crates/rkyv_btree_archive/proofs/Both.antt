@@ -7,7 +7,7 @@ use Rattle.rkyv_btree_portable.specs.Entry.{value_offset, entry_size}
 use Rattle.rkyv_btree_archive.specs.EntryArchival.{EntryResolves, in_key, in_value, entry_archival}
 use Rattle.rkyv_btree_writer.specs.Writing.{Writing, position, Write, appended, Wrote, EndInReach}
 use Rattle.rkyv_btree_writer.specs.declared.fault.Fault.{Fault}
-use Rattle.rkyv_btree_writer.specs.declared.fault.Fault.TheVariants.{Length, LengthOverflow, PositionOverflow, OffsetOverflow, Writer, Memory, Entry}
+use Rattle.rkyv_btree_writer.specs.declared.fault.Fault.TheVariants.{Length, LengthOverflow, PositionOverflow, OffsetOverflow, Writer, Memory, Entry, OutOfOrder}
 use Rattle.rkyv_btree_archive.specs.declared.util.EntryResolver.{EntryResolver}
 use Rattle.rkyv_btree_writer.proofs.FieldRuns.{long_front, long_behind}
 use Rattle.rkyv_btree_portable.specs.laws.Holding.{parts_written}
@@ -25,6 +25,7 @@ module _ {X M N R S : Type 0} (F : Type 0) (K : Archival M R) (V : Archival N S)
   key_refused (Writer error) t h = (h.0, in_key h.1, h.2)
   key_refused (Memory error) t h = (inl h.0, h.1)
   key_refused (Entry fault) t h = (inl h.0, h.1)
+  key_refused (OutOfOrder index) t h = h
 
   module _ (first : List Write) (m : Writing) (r : R) (key : K.Writes (pair x).0 (position s) first r) (wrote : Wrote s first m) where
     mid : position m ≡ position s + length (appended first)
@@ -38,6 +39,7 @@ module _ {X M N R S : Type 0} (F : Type 0) (K : Archival M R) (V : Archival N S)
     value_refused (Writer error) t h = (first ++ h.0, in_value key (subst (λ n. V.Begins (pair x).1 n h.0) mid h.1), stopped-behind s first m h.0 (Writer error) t wrote h.2)
     value_refused (Memory error) t h = (inr h.0, begins-behind s first m t wrote h.1)
     value_refused (Entry fault) t h = (inr (first, r, key, subst (λ n. V.Refuses (pair x).1 n fault) mid h.0), begins-behind s first m t wrote h.1)
+    value_refused (OutOfOrder index) t h = h
 
     both_end : (second : List Write) (t : Writing) → Wrote m second t → EndInReach first m → EndInReach second t → EndInReach (first ++ second) t
     both_end second t w a (inr e) = inr e

@@ -7,3 +7,6 @@ pub mod OpenNodes
 pub mod WholeTree
 pub mod Stands
 pub mod Pieces
+pub mod Ended
+pub mod Sources
+pub mod InOrder

@@ -1,6 +1,5 @@
 -- The nodes that are open while a tree is written.
-use Rattle.std.proofs.Common.{◌≡◌, ℕ, zero, suc, ◌+◌, ◌*◌, ◌-◌, ◌^◌, ◌<◌, ◌≤◌, min, List, [], ◌∷◌, ◌++◌, length, map, replicate, Bor, Option, Some, arith, refl, sym, ap, ◌∙◌, subst}
-use Rattle.std.specs.Iterator.{Drains}
+use Rattle.std.proofs.Common.{◌≡◌, ℕ, zero, suc, ◌+◌, ◌*◌, ◌-◌, ◌^◌, ◌<◌, ◌≤◌, min, List, [], ◌∷◌, ◌++◌, length, map, replicate, Bor, Option, Some, None, arith, refl, sym, ap, ◌∙◌, subst}
 use Rattle.std.proofs.lemmas.List.{length-append, append_assoc, append-nil, length-map, map-append}
 use Rattle.rkyv_btree_portable.specs.InPlace.{OwnBytes}
 use Rattle.rkyv_btree_format.specs.Layout.{NodeLayout, inner_size}
@@ -102,26 +101,26 @@ module _ {M N R S P : Type 0} (s : NodeLayout) (K : Archival M R) (V : Archival 
   opened_stopped (f ∷ fs) g left taken rest to fault to2 o h =
       opened_stopped fs (suc g) o.0 o.1 o.2 o.3 fault to2 o.5 (row_child_stopped s K V steps g o.0 left o.2 o.3 (map now_of f.0) f.1 rest to fault to2 some o.6 (omega (arith, length-map f.0 now_of, o.7)) o.4 h)
 
-  pub opened_short : (fs : List (Frame (Bor M × Bor N))) (g left taken : ℕ) (rest : P) (to : Writing) (more : ℕ) (to2 : Writing) → Opened s K V steps G L iter0 from0 fs g left taken rest to → NextShort s K V steps g left rest to more to2 → NextShort s K V steps G L iter0 from0 (taken + more) to2
-  opened_short [] g left taken rest to more to2 o h =
-      let a = subst (λ k. NextShort s K V steps k left rest to more to2) o.0 h in
-      let b = subst (λ k. NextShort s K V steps G k rest to more to2) o.1 a in
-      let c = subst (λ k. NextShort s K V steps G L k to more to2) o.3 b in
-      let d = subst (λ k. NextShort s K V steps G L iter0 k more to2) o.4 c in
+  pub opened_short : (fs : List (Frame (Bor M × Bor N))) (g left taken : ℕ) (rest : P) (to : Writing) (more : ℕ) (end : P) (to2 : Writing) → Opened s K V steps G L iter0 from0 fs g left taken rest to → NextShort s K V steps g left rest to more end to2 → NextShort s K V steps G L iter0 from0 (taken + more) end to2
+  opened_short [] g left taken rest to more end to2 o h =
+      let a = subst (λ k. NextShort s K V steps k left rest to more end to2) o.0 h in
+      let b = subst (λ k. NextShort s K V steps G k rest to more end to2) o.1 a in
+      let c = subst (λ k. NextShort s K V steps G L k to more end to2) o.3 b in
+      let d = subst (λ k. NextShort s K V steps G L iter0 k more end to2) o.4 c in
       let z : more ≡ taken + more = omega (arith, o.2) in
-      subst (λ k. NextShort s K V steps G L iter0 from0 k to2) z d
-  opened_short (f ∷ fs) g left taken rest to more to2 o h =
-      let r = row_child_short s K V steps g o.0 left o.2 o.3 (map now_of f.0) f.1 rest to more to2 some o.6 (omega (arith, length-map f.0 now_of, o.7)) o.4 h in
+      subst (λ k. NextShort s K V steps G L iter0 from0 k end to2) z d
+  opened_short (f ∷ fs) g left taken rest to more end to2 o h =
+      let r = row_child_short s K V steps g o.0 left o.2 o.3 (map now_of f.0) f.1 rest to more end to2 some o.6 (omega (arith, length-map f.0 now_of, o.7)) o.4 h in
       let z : o.1 + (length o.4.items + more) ≡ taken + more = omega (arith, o.8) in
-      subst (λ k. NextShort s K V steps G L iter0 from0 k to2) z (opened_short fs (suc g) o.0 o.1 o.2 o.3 (length o.4.items + more) to2 o.5 r)
+      subst (λ k. NextShort s K V steps G L iter0 from0 k end to2) z (opened_short fs (suc g) o.0 o.1 o.2 o.3 (length o.4.items + more) end to2 o.5 r)
 
   -- the items come to an end where the innermost node's entry is to come
-  pub done_short : (f : Frame (Bor M × Bor N)) (fs : List (Frame (Bor M × Bor N))) (g left taken : ℕ) (root : Option ℕ) (rest : P) (to : Writing) → length f.0 < s.E → Done s K V steps G L iter0 from0 (f ∷ fs) g left taken root rest to → Drains steps rest [] → NextShort s K V steps G L iter0 from0 taken to
-  done_short f fs g left taken root rest to few d none =
+  pub done_short : (f : Frame (Bor M × Bor N)) (fs : List (Frame (Bor M × Bor N))) (g left taken : ℕ) (root : Option ℕ) (rest : P) (end : P) (to : Writing) → length f.0 < s.E → Done s K V steps G L iter0 from0 (f ∷ fs) g left taken root rest to → steps rest None end → NextShort s K V steps G L iter0 from0 taken end to
+  done_short f fs g left taken root rest end to few d none =
       let o = d.5 in
-      let r = row_entry_short s K V steps g o.0 d.0 o.2 o.3 (map now_of f.0) f.1 d.2 d.3 root rest to some o.6 (omega (arith, length-map f.0 now_of, few)) o.4 d.4 none in
+      let r = row_entry_short s K V steps g o.0 d.0 o.2 o.3 (map now_of f.0) f.1 d.2 d.3 root rest end to some o.6 (omega (arith, length-map f.0 now_of, few)) o.4 d.4 none in
       let z : o.1 + (length o.4.items + length d.4.items) ≡ taken = omega (arith, d.7, o.8) in
-      subst (λ k. NextShort s K V steps G L iter0 from0 k to) z (opened_short fs (suc g) o.0 o.1 o.2 o.3 (length o.4.items + length d.4.items) to o.5 r)
+      subst (λ k. NextShort s K V steps G L iter0 from0 k end to) z (opened_short fs (suc g) o.0 o.1 o.2 o.3 (length o.4.items + length d.4.items) end to o.5 r)
 
   -- the innermost node is stopped
   pub done_stopped : {X : Type 0} (f : Frame (Bor M × Bor N)) (fs : List (Frame (Bor M × Bor N))) (g left taken : ℕ) (at : Option ℕ) (rest : P) (to : Writing) (fault : Fault X) (to2 : Writing) → length f.0 ≡ s.E → Done s K V steps G L iter0 from0 (f ∷ fs) g left taken at rest to →

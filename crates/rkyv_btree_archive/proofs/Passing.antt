@@ -1,6 +1,6 @@
 -- A tree's children, one after another as they come, with what they write.
-use Rattle.std.proofs.Common.{◌≡◌, ℕ, zero, suc, ◌+◌, ◌*◌, ◌-◌, ◌^◌, ◌<◌, ◌≤◌, min, List, [], ◌∷◌, ◌++◌, length, map, Bor, Option, Some, arith, refl, sym, ap, ◌∙◌, subst, inl, inr}
-use Rattle.std.specs.Iterator.{Yields, Drains}
+use Rattle.std.proofs.Common.{◌≡◌, ℕ, zero, suc, ◌+◌, ◌*◌, ◌-◌, ◌^◌, ◌<◌, ◌≤◌, min, List, [], ◌∷◌, ◌++◌, length, map, Bor, Option, Some, None, arith, refl, sym, ap, ◌∙◌, subst, inl, inr}
+use Rattle.std.specs.Iterator.{Yields, YieldsThen}
 use Rattle.std.proofs.lemmas.List.{length-append, append_assoc, append-nil, nil_from_length, length-map, map-append}
 use Rattle.rkyv_btree_portable.specs.InPlace.{OwnBytes}
 use Rattle.rkyv_btree_format.specs.Layout.{NodeLayout, inner_size}
@@ -13,18 +13,12 @@ use Rattle.rkyv_btree_writer.specs.declared.fault.Fault.{Fault}
 use Rattle.rkyv_btree_image.specs.Begun.{RowBegun, ChildBegun}
 use Rattle.rkyv_btree_image.specs.Entries.{now_of}
 use Rattle.rkyv_btree_image.proofs.Begun.{written_begun}
-use Rattle.rkyv_btree_image.proofs.Building.{Drains-behind}
+use Rattle.rkyv_btree_image.proofs.Building.{Yields-both, then-behind}
 use Rattle.rkyv_btree_image.specs.Image.{inner_image}
 use Rattle.rkyv_btree_image.specs.Written.{NodeWritten, NodeStopped, RowWritten, ChildWritten, RowStopped, ChildStopped}
 use Rattle.rkyv_btree_shape.specs.mirror.Pairs.{row_from, pairs_list, Leads}
 use Rattle.rkyv_btree_archive.specs.mirror.Passing.{PairsWritten, NextWritten, NextStopped, NextShort, RowTaken}
 use Rattle.rkyv_btree_shape.proofs.Pairs.{pairs_push, pairs_close, row_from_entries, row_from_list, pairs_list_push, pairs_count, shorter_begins, row_splits, row_leads, is_inner, capped, not_bare, row_fits, next_some, some_pairs}
-
--- ---- what an iterator gave
-
-pub Yields-both : {S A : Type 0} (steps : S → Option A → S → Type 0) (s : S) (xs : List A) (t : S) (ys : List A) (u : S) → Yields steps s xs t → Yields steps t ys u → Yields steps s (xs ++ ys) u
-Yields-both steps s [] t ys u y z = subst (λ v. Yields steps v ys u) (sym y) z
-Yields-both steps s (x ∷ xs) t ys u y z = (y.0, y.1, Yields-both steps y.0 xs t ys u y.2 z)
 
 module _ {M N R S : Type 0} (s : NodeLayout) (K : Archival M R) (V : Archival N S) where
   pub pairs_written_push : (from : Writing) (ps : List (Child (M × N) × (M × N))) (roots : List (Option ℕ)) (mid : Writing) (c : Child (M × N)) (x : M × N) (root : Option ℕ) (to : Writing) → PairsWritten s K V from ps roots mid → ChildWritten s K V mid c root to → PairsWritten s K V from (ps ++ (c, x) ∷ []) (roots ++ root ∷ []) to
@@ -183,13 +177,13 @@ module _ {M N R S : Type 0} (s : NodeLayout) (K : Archival M R) (V : Archival N 
         }
 
     -- a child's items come to an end
-    pub row_child_short : (g first left : ℕ) (iter : P) (from : Writing) (xs : List (M × N)) (roots : List (Option ℕ)) (rest : P) (to : Writing) (more : ℕ) (to2 : Writing) → 1 ≤ s.E → 1 ≤ first + g → length xs ≤ s.E →
-        (r : RowTaken s K V steps g first left iter from xs roots rest to) → NextShort s K V steps g left rest to more to2 → NextShort s K V steps (suc g) first iter from (length r.items + more) to2
-    row_child_short g first left iter from xs roots rest to more to2 some high few r h =
+    pub row_child_short : (g first left : ℕ) (iter : P) (from : Writing) (xs : List (M × N)) (roots : List (Option ℕ)) (rest : P) (to : Writing) (more : ℕ) (end : P) (to2 : Writing) → 1 ≤ s.E → 1 ≤ first + g → length xs ≤ s.E →
+        (r : RowTaken s K V steps g first left iter from xs roots rest to) → NextShort s K V steps g left rest to more end to2 → NextShort s K V steps (suc g) first iter from (length r.items + more) end to2
+    row_child_short g first left iter from xs roots rest to more end to2 some high few r h =
         let both = length-append r.items h.items in
         record {
           items = r.items ++ h.items;
-          all = Drains-behind steps iter r.items rest h.items r.taken h.all;
+          all = then-behind steps iter r.items rest h.items end r.taken h.all;
           counted = omega (arith, both, h.counted);
           few = omega (arith, both, h.few, row_room g first left iter from xs roots rest to (s.E - length xs) r (omega arith));
           none = λ empty. h.none (nil_from_length h.items (omega (arith, both, ap length empty))) ∙ none_before g first left iter from xs roots rest to r (omega (arith, both, ap length empty));
@@ -207,16 +201,16 @@ module _ {M N R S : Type 0} (s : NodeLayout) (K : Archival M R) (V : Archival N 
             go (p ∷ ps) h n = absurd (omega (arith, n, empty, length-append (child_list p.0) (p.1 ∷ pairs_list ps)))
 
     -- its items come to an end where an entry is to come
-    pub row_entry_short : (g first left : ℕ) (iter : P) (from : Writing) (xs : List (M × N)) (roots : List (Option ℕ)) (rest : P) (to : Writing) (root : Option ℕ) (rest2 : P) (to2 : Writing) → 1 ≤ s.E → 1 ≤ first + g → length xs < s.E →
-        (r : RowTaken s K V steps g first left iter from xs roots rest to) → (w : NextWritten s K V steps g left rest to root rest2 to2) → Drains steps rest2 [] → NextShort s K V steps (suc g) first iter from (length r.items + length w.items) to2
-    row_entry_short g first left iter from xs roots rest to root rest2 to2 some high few r w none =
+    pub row_entry_short : (g first left : ℕ) (iter : P) (from : Writing) (xs : List (M × N)) (roots : List (Option ℕ)) (rest : P) (to : Writing) (root : Option ℕ) (rest2 : P) (end : P) (to2 : Writing) → 1 ≤ s.E → 1 ≤ first + g → length xs < s.E →
+        (r : RowTaken s K V steps g first left iter from xs roots rest to) → (w : NextWritten s K V steps g left rest to root rest2 to2) → steps rest2 None end → NextShort s K V steps (suc g) first iter from (length r.items + length w.items) end to2
+    row_entry_short g first left iter from xs roots rest to root rest2 end to2 some high few r w none =
         let both = length-append r.items w.items in
         let counted = written_count g left rest to root rest2 to2 w in
         let n = row_count g first left iter from xs roots rest to r in
         let room = row_room g first left iter from xs roots rest to (s.E - length xs) r (omega arith) in
         record {
           items = r.items ++ w.items;
-          all = subst (Drains steps iter) (append-nil (r.items ++ w.items)) (Drains-behind steps iter (r.items ++ w.items) rest2 [] (Yields-both steps iter r.items rest w.items rest2 r.taken w.taken) none);
+          all = (rest2, Yields-both steps iter r.items rest w.items rest2 r.taken w.taken, none);
           counted = omega (arith, both);
           few = omega (arith, both, counted, room, some_pairs s.E g (s.E - length xs) ((s.E - length xs) * (s.E + 1) ^ g + min 0 ((s.E - length xs) * (s.E * (s.E + 1) ^ g))) 0 (omega arith) refl);
           none = λ empty. absurd (there_are (length r.pairs) refl (omega (arith, both, ap length empty)) (omega (arith, both, ap length empty)) counted);

@@ -1,6 +1,5 @@
 -- What the builder's lists hold of the open nodes, from step to step.
-use Rattle.std.proofs.Common.{◌≡◌, ℕ, zero, suc, ◌+◌, ◌*◌, ◌-◌, ◌^◌, ◌<◌, ◌≤◌, min, List, [], ◌∷◌, ◌++◌, length, map, take, drop, replicate, Bor, Option, Some, arith, refl, sym, ap, ◌∙◌, subst, inl, inr}
-use Rattle.std.specs.Iterator.{Drains}
+use Rattle.std.proofs.Common.{◌≡◌, ℕ, zero, suc, ◌+◌, ◌*◌, ◌-◌, ◌^◌, ◌<◌, ◌≤◌, min, List, [], ◌∷◌, ◌++◌, length, map, take, drop, replicate, Bor, Option, Some, None, arith, refl, sym, ap, ◌∙◌, subst, inl, inr}
 use Rattle.std.proofs.lemmas.List.{length-append, append_assoc, take_at, drop_at}
 use Rattle.std.proofs.Math.Nat.{mul-le-mul_left, mul-le-mul_right}
 use Rattle.rkyv_btree_portable.specs.InPlace.{OwnBytes}
@@ -49,15 +48,15 @@ module _ {M N R S P : Type 0} (s : NodeLayout) (K : Archival M R) (V : Archival 
       }
 
   -- why the first child isn't
-  pub first_fault : {X : Type 0} (claim g : ℕ) (fault : Fault X) (to : Writing) → g ≤ G → (g < G → 1 ≤ L + g) → NextFault s K V steps claim 0 g L iter0 from0 fault to → NextFault s K V steps claim 0 G L iter0 from0 fault to
-  first_fault {X} claim g fault to low high h = go h
+  pub first_fault : {X : Type 0} (claim g : ℕ) (fault : Fault X) (end : P) (to : Writing) → g ≤ G → (g < G → 1 ≤ L + g) → NextFault s K V steps claim 0 g L iter0 from0 fault end to → NextFault s K V steps claim 0 G L iter0 from0 fault end to
+  first_fault {X} claim g fault end to low high h = go h
     where
       o : Opened s K V steps G L iter0 from0 (opening (G - g) []) g L 0 iter0 from0
       o = opened_many s K V steps G L iter0 from0 some (G - g) [] G g L 0 iter0 from0 (omega arith) (λ h. high (omega arith)) (opened_none s K V steps G L iter0 from0 some)
 
-      go : NextFault s K V steps claim 0 g L iter0 from0 fault to → NextFault s K V steps claim 0 G L iter0 from0 fault to
+      go : NextFault s K V steps claim 0 g L iter0 from0 fault end to → NextFault s K V steps claim 0 G L iter0 from0 fault end to
       go (inl h) = inl (opened_stopped s K V steps G L iter0 from0 some (opening (G - g) []) g L 0 iter0 from0 fault to o h)
-      go (inr h) = inr (h.0, 0 + h.1, h.2, h.3, omega (arith, h.4), opened_short s K V steps G L iter0 from0 some (opening (G - g) []) g L 0 iter0 from0 h.1 to o h.5)
+      go (inr h) = inr (h.0, 0 + h.1, h.2, h.3, omega (arith, h.4), opened_short s K V steps G L iter0 from0 some (opening (G - g) []) g L 0 iter0 from0 h.1 end to o h.5)
 
   -- ---- the innermost open node
   record Innermost (g left taken : ℕ) (waiting : List (Bor M × Bor N)) (children : List (Option ℕ)) (front : List ℕ) (first : ℕ) (root : Option ℕ) (rest : P) (to : Writing) : Type 0 where
@@ -147,11 +146,11 @@ module _ {M N R S P : Type 0} (s : NodeLayout) (K : Archival M R) (V : Archival 
       done_stopped s K V steps G L iter0 from0 some i.f i.fs g left taken at rest to fault to2 (omega (arith, all, n, i.first_is)) i.done node2
 
   -- its next entry doesn't come
-  pub entry_short : (g left taken : ℕ) (waiting : List (Bor M × Bor N)) (children : List (Option ℕ)) (starts front : List ℕ) (first : ℕ) (root : Option ℕ) (rest : P) (to : Writing) → Stands s K V steps G L iter0 from0 g left taken waiting children starts root rest to → starts ≡ front ++ first ∷ [] → length waiting < first + s.E → Drains steps rest [] → NextShort s K V steps G L iter0 from0 taken to
-  entry_short g left taken waiting children starts front first root rest to h e less none =
+  pub entry_short : (g left taken : ℕ) (waiting : List (Bor M × Bor N)) (children : List (Option ℕ)) (starts front : List ℕ) (first : ℕ) (root : Option ℕ) (rest : P) (end : P) (to : Writing) → Stands s K V steps G L iter0 from0 g left taken waiting children starts root rest to → starts ≡ front ++ first ∷ [] → length waiting < first + s.E → steps rest None end → NextShort s K V steps G L iter0 from0 taken end to
+  entry_short g left taken waiting children starts front first root rest end to h e less none =
       let i = innermost g left taken waiting children starts front first root rest to h e in
       let n = ap length i.waiting_is ∙ length-append (waiting_of i.fs) i.f.0 in
-      done_short s K V steps G L iter0 from0 some i.f i.fs g left taken root rest to (omega (arith, less, n, i.first_is)) i.done none
+      done_short s K V steps G L iter0 from0 some i.f i.fs g left taken root rest end to (omega (arith, less, n, i.first_is)) i.done none
 
   -- its next entry comes, and nodes are opened down to the next leaf
   pub record Goes (g left taken : ℕ) (waiting : List (Bor M × Bor N)) (children : List (Option ℕ)) (starts : List ℕ) (rest : P) (to : Writing) : Type 0 where
@@ -200,9 +199,9 @@ module _ {M N R S P : Type 0} (s : NodeLayout) (K : Archival M R) (V : Archival 
         starts_is = h.starts_is;
       }
 
-  pub next_fault : {X : Type 0} (claim g left taken : ℕ) (waiting : List (Bor M × Bor N)) (children : List (Option ℕ)) (starts : List ℕ) (rest : P) (to : Writing) (fault : Fault X) (to2 : Writing) → Goes g left taken waiting children starts rest to → NextFault s K V steps claim taken g left rest to fault to2 → NextFault s K V steps claim 0 G L iter0 from0 fault to2
-  next_fault claim g left taken waiting children starts rest to fault to2 h (inl k) = inl (opened_stopped s K V steps G L iter0 from0 some h.frames g left taken rest to fault to2 h.opened k)
-  next_fault claim g left taken waiting children starts rest to fault to2 h (inr k) = inr (k.0, taken + k.1, k.2, k.3, omega (arith, k.4), opened_short s K V steps G L iter0 from0 some h.frames g left taken rest to k.1 to2 h.opened k.5)
+  pub next_fault : {X : Type 0} (claim g left taken : ℕ) (waiting : List (Bor M × Bor N)) (children : List (Option ℕ)) (starts : List ℕ) (rest : P) (to : Writing) (fault : Fault X) (end : P) (to2 : Writing) → Goes g left taken waiting children starts rest to → NextFault s K V steps claim taken g left rest to fault end to2 → NextFault s K V steps claim 0 G L iter0 from0 fault end to2
+  next_fault claim g left taken waiting children starts rest to fault end to2 h (inl k) = inl (opened_stopped s K V steps G L iter0 from0 some h.frames g left taken rest to fault to2 h.opened k)
+  next_fault claim g left taken waiting children starts rest to fault end to2 h (inr k) = inr (k.0, taken + k.1, k.2, k.3, omega (arith, k.4), opened_short s K V steps G L iter0 from0 some h.frames g left taken rest to k.1 end to2 h.opened k.5)
 
   -- no node is open any more
   pub stands_whole : (g left taken : ℕ) (waiting : List (Bor M × Bor N)) (children : List (Option ℕ)) (starts : List ℕ) (root : Option ℕ) (rest : P) (to : Writing) → Stands s K V steps G L iter0 from0 g left taken waiting children starts root rest to → starts ≡ [] → NextWritten s K V steps G L iter0 from0 root rest to

@@ -1,7 +1,7 @@
 -- Texts written, and texts whose write is refused.
 use Rattle.std.proofs.Common.{◌≡◌, ℕ, ◌<◌, true, List, [], refl}
 use Rattle.rkyv_btree_writer.specs.declared.fault.Fault.{Fault}
-use Rattle.rkyv_btree_writer.specs.declared.fault.Fault.TheVariants.{Length, LengthOverflow, PositionOverflow, OffsetOverflow, Writer, Memory, Entry}
+use Rattle.rkyv_btree_writer.specs.declared.fault.Fault.TheVariants.{Length, LengthOverflow, PositionOverflow, OffsetOverflow, Writer, Memory, Entry, OutOfOrder}
 use Rattle.rkyv_btree_writer.specs.Archiving.{IsUnserialised}
 use Rattle.rkyv_btree_writer.specs.TextArchival.{text_writes, text_archival}
 use Rattle.rkyv_btree_writer.specs.Writing.{Writing, Appended, Wrote, Refused, position, last_end}
@@ -18,3 +18,4 @@ text_refused {X} {E} text x s t OffsetOverflow past r = (text_writes (text x), (
 text_refused text x s t (Writer error) past r = (text_writes (text x), (refl, past), stopped-one s (record { bytes = text x; reaches = true }) (Writer error) t r)
 text_refused text x s t (Memory error) past r = absurd r
 text_refused text x s t (Entry fault) past r = absurd r
+text_refused text x s t (OutOfOrder index) past r = absurd r

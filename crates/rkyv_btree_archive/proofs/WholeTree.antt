@@ -1,6 +1,6 @@
 -- The leaf that comes next, and the whole tree.
 use Rattle.std.proofs.Common.{◌≡◌, ℕ, ◌+◌, ◌-◌, ◌^◌, ◌<◌, ◌≤◌, min, List, [], ◌∷◌, length, map, Bor, Option, Some, None, arith, refl, sym, ap, ◌∙◌, subst, inl, inr, alloc_error}
-use Rattle.std.specs.Iterator.{Yields, Drains}
+use Rattle.std.specs.Iterator.{Yields, YieldsThen}
 use Rattle.std.proofs.lemmas.List.{length-map}
 use Rattle.std.proofs.Math.Nat.{pow-zero}
 use Rattle.rkyv_btree_format.specs.Layout.{NodeLayout, layout_of, leaf_size}
@@ -16,7 +16,8 @@ use Rattle.rkyv_btree_shape.proofs.Smallest.{there_is, plan_is}
 use Rattle.rkyv_btree_writer.specs.Archiving.{Archival, BeginsWith}
 use Rattle.rkyv_btree_writer.specs.Writing.{Writing}
 use Rattle.rkyv_btree_writer.specs.declared.fault.Fault.{Fault}
-use Rattle.rkyv_btree_writer.specs.declared.fault.Fault.TheVariants.{Length, LengthOverflow, PositionOverflow, OffsetOverflow, Writer, Memory, Entry}
+use Rattle.rkyv_btree_writer.specs.declared.fault.IteratorLengthMismatch.{IteratorLengthMismatch}
+use Rattle.rkyv_btree_writer.specs.declared.fault.Fault.TheVariants.{Length, LengthOverflow, PositionOverflow, OffsetOverflow, Writer, Memory, Entry, OutOfOrder}
 use Rattle.rkyv_btree_image.specs.Begun.{ChildBegun}
 use Rattle.rkyv_btree_image.specs.Entries.{now_of}
 use Rattle.rkyv_btree_image.specs.Image.{leaf_image}
@@ -26,9 +27,11 @@ use Rattle.rkyv_btree_image.proofs.Building.{some_claimed}
 use Rattle.rkyv_btree_image.proofs.Kept.{same_begins, went_begins}
 use Rattle.rkyv_btree_image.specs.Serialising.{BeginClaimed, Miscounted, StoppedBuilding, BuildFault}
 use Rattle.rkyv_btree_image.specs.Written.{NodeWritten, NodeStopped, ChildWritten, ChildStopped}
-use Rattle.rkyv_btree_image.proofs.Untold.{uncounted, unasked}
+use Rattle.rkyv_btree_image.proofs.Untold.{uncounted, unordered, unasked}
 use Rattle.rkyv_btree_image.proofs.TreesKept.{stops_begin, begun_went}
 use Rattle.rkyv_btree_archive.specs.mirror.Passing.{NextWritten, NextStopped, NextShort, NextFault}
+use Rattle.rkyv_btree_archive.specs.mirror.Ended.{CountsTo, FaultAt}
+use Rattle.rkyv_btree_archive.proofs.Ended.{ended_of_fault}
 use Rattle.rkyv_btree_archive.proofs.Passing.{next_same}
 
 -- what a leaf takes
@@ -72,8 +75,8 @@ module _ {M N R S P : Type 0} (s : NodeLayout) (K : Archival M R) (V : Archival 
     stopped = λ c later next e. subst (λ (z : Child (M × N)). ChildStopped s K V {E = X} from z fault to) (next_same s K V steps g left (child (leaf (map now_of items))) c later (leaf_next s.E g left n (map now_of items) is (length-map items now_of ∙ l) some few) next e) h;
   }
 
-  pub next_leaf_short : (g left n : ℕ) (iter : P) (from : Writing) (items : List (Bor M × Bor N)) → IsLeafOf s.E g left n → Drains steps iter items → length items < n → NextShort s K V steps g left iter from (length items) from
-  next_leaf_short g left n iter from items is d few = record {
+  pub next_leaf_short : (g left n : ℕ) (iter : P) (from : Writing) (items : List (Bor M × Bor N)) (end : P) → IsLeafOf s.E g left n → YieldsThen steps iter items None end → length items < n → NextShort s K V steps g left iter from (length items) end from
+  next_leaf_short g left n iter from items end is d few = record {
     items = items;
     all = d;
     counted = refl;
@@ -130,8 +133,8 @@ module _ {M N R S P : Type 0} (K V : Kind) (E : ℕ) (KA : Archival M R) (VA : A
   pub each_stopped : {X : Type 0} (iter : P) (from : Writing) (fault : Fault X) (to : Writing) → (h : NextStopped (layout_of K V E) KA VA steps G L iter from fault to) → (xs : List (M × N)) → BeginClaimed h.items claim xs → ChildStopped (layout_of K V E) KA VA from (planned_alone E xs) fault to
   each_stopped iter from fault to h xs b = let p = planned_next E G L claim is xs b.count in h.stopped (planned_alone E xs) b.later p.0 (sym b.parts ∙ sym p.1)
 
-  pub each_begun : (iter : P) (from : Writing) (count : ℕ) (to : Writing) → (h : NextShort (layout_of K V E) KA VA steps G L iter from count to) → (xs : List (M × N)) → BeginClaimed h.items claim xs → ChildBegun (layout_of K V E) KA VA from (planned_alone E xs) to
-  each_begun iter from count to h xs b = let p = planned_next E G L claim is xs b.count in h.begun (planned_alone E xs) b.later p.0 (sym b.parts ∙ sym p.1)
+  pub each_begun : (iter : P) (from : Writing) (count : ℕ) (end : P) (to : Writing) → (h : NextShort (layout_of K V E) KA VA steps G L iter from count end to) → (xs : List (M × N)) → BeginClaimed h.items claim xs → ChildBegun (layout_of K V E) KA VA from (planned_alone E xs) to
+  each_begun iter from count end to h xs b = let p = planned_next E G L claim is xs b.count in h.begun (planned_alone E xs) b.later p.0 (sym b.parts ∙ sym p.1)
 
   stopped_few : {X : Type 0} (iter : P) (from : Writing) (fault : Fault X) (to : Writing) → (h : NextStopped (layout_of K V E) KA VA steps G L iter from fault to) → length h.items ≤ claim
   stopped_few iter from fault to h = omega (arith, h.few, is.all, is.most_last)
@@ -151,45 +154,53 @@ module _ {M N R S P : Type 0} (K V : Kind) (E : ℕ) (KA : Archival M R) (VA : A
   stopped_fault iter from (Writer error) to h = stopped_of iter from (Writer error) to h
   stopped_fault {X} iter from (Memory error) to h = inr (stopped_of {X = X} iter from (Memory error) to h)
   stopped_fault {X} iter from (Entry fault) to h = stopped_of {X = X} iter from (Entry fault) to h
+  stopped_fault {X} iter from (OutOfOrder index) to h = let one = some_stopped {X = X} iter from (OutOfOrder index) to h in absurd (unordered X (layout_of K V E) KA VA from (planned_alone E one.0) to index one.1)
 
-  pub short_fault : (iter : P) (from : Writing) (number : ℕ) (to : Writing) → NextShort (layout_of K V E) KA VA steps G L iter from number to → Miscounted K V E KA VA steps iter claim claim number from to
-  short_fault iter from number to h =
-      let less : length h.items < claim = omega (arith, h.few, is.all, is.most_last) in
-      record {
-        items = h.items;
-        all = h.all;
-        differs = λ e. omega (arith, e, less);
-        claimed = refl;
-        counted = h.counted;
-        none = h.none;
-        few = λ some few. let one = some_claimed h.items claim some (omega (arith, less)) in (one.0, one.1, each_begun iter from number to h one.0 one.1);
-        many = λ more. absurd (omega (arith, more, less));
-      }
+  short_fault : (iter : P) (from : Writing) (number : ℕ) (end : P) (to : Writing) → NextShort (layout_of K V E) KA VA steps G L iter from number end to → CountsTo K V E KA VA steps iter end claim claim number from to
+  short_fault iter from number end to h =
+      let less : length h.items < claim = omega (arith, h.few, is.all, is.most_last) in (
+        record {
+          items = h.items;
+          all = (end, h.all);
+          differs = λ e. omega (arith, e, less);
+          claimed = refl;
+          counted = h.counted;
+          none = h.none;
+          few = λ some few. let one = some_claimed h.items claim some (omega (arith, less)) in (one.0, one.1, each_begun iter from number end to h one.0 one.1);
+          many = λ more. absurd (omega (arith, more, less));
+        },
+        refl,
+      )
+
+  stopped_uncounted : {X : Type 0} (iter : P) (from : Writing) (fault : Fault X) (to : Writing) (m : IteratorLengthMismatch) → fault ≡ Length m → NextStopped (layout_of K V E) KA VA steps G L iter from fault to → ⊥
+  stopped_uncounted {X} iter from fault to m e h =
+      let one = some_stopped iter from fault to h in
+      uncounted X (layout_of K V E) KA VA from (planned_alone E one.0) to m (subst (λ (f : Fault X). ChildStopped (layout_of K V E) KA VA from (planned_alone E one.0) f to) e one.1)
 
   -- why the whole tree isn't built
-  pub whole_fault : {X : Type 0} (iter : P) (from : Writing) (fault : Fault X) (to : Writing) → NextFault (layout_of K V E) KA VA steps claim 0 G L iter from fault to → BuildFault K V E KA VA steps iter claim from fault to
-  whole_fault iter from fault to (inl h) = stopped_fault iter from fault to h
-  whole_fault {X} iter from fault to (inr h) =
+  pub whole_fault : {X : Type 0} (iter : P) (from : Writing) (fault : Fault X) (end : P) (to : Writing) → NextFault (layout_of K V E) KA VA steps claim 0 G L iter from fault end to → FaultAt K V E KA VA steps iter claim from fault end to
+  whole_fault iter from fault end to (inl h) = ended_of_fault K V E KA VA steps iter claim from fault end to (λ m e. stopped_uncounted iter from fault to m e h) (stopped_fault iter from fault to h)
+  whole_fault {X} iter from fault end to (inr h) =
       let m = h.0 in
-      let short = short_fault iter from h.1 to h.5 in
+      let short = short_fault iter from h.1 end to h.5 in
       let expected : claim ≡ m.expected = sym h.3 in
       let actual : h.1 ≡ m.actual = omega (arith, h.4) in
-      let a = subst (λ k. Miscounted K V E KA VA steps iter claim k h.1 from to) expected short in
-      let b = subst (λ k. Miscounted K V E KA VA steps iter claim m.expected k from to) actual a in
-      subst (λ f. BuildFault K V E KA VA steps iter claim from f to) (sym h.2) b
+      let a = subst (λ k. CountsTo K V E KA VA steps iter end claim k h.1 from to) expected short in
+      let b = subst (λ k. CountsTo K V E KA VA steps iter end claim m.expected k from to) actual a in
+      subst (λ f. FaultAt K V E KA VA steps iter claim from f end to) (sym h.2) b
 
   -- ---- what it leaves
-  pub whole_memory : (X : Type 0) (iter : P) (from : Writing) (fault : Fault X) (to : Writing) → fault ≡ Memory alloc_error → NeverGrows KA → NeverGrows VA → NextFault (layout_of K V E) KA VA steps claim 0 G L iter from fault to → to ≡ from
-  whole_memory X iter from fault to e k v (inl h) = let one = some_stopped iter from fault to h in unasked X (layout_of K V E) KA VA from (planned_alone E one.0) to fault e k v one.1
-  whole_memory X iter from fault to e k v (inr h) = absurd (cc (e, h.2))
+  pub whole_memory : (X : Type 0) (iter : P) (from : Writing) (fault : Fault X) (end : P) (to : Writing) → fault ≡ Memory alloc_error → NeverGrows KA → NeverGrows VA → NextFault (layout_of K V E) KA VA steps claim 0 G L iter from fault end to → to ≡ from
+  whole_memory X iter from fault end to e k v (inl h) = let one = some_stopped iter from fault to h in unasked X (layout_of K V E) KA VA from (planned_alone E one.0) to fault e k v one.1
+  whole_memory X iter from fault end to e k v (inr h) = absurd (cc (e, h.2))
 
 module _ {M N R S P : Type 0} (K V : Kind) (E : ℕ) (KA : Archival M R) (VA : Archival N S) (steps : P → Option (Bor M × Bor N) → P → Type 0) (G L claim : ℕ) (is : IsClaim E G L claim) where
-  short_kept : (iter : P) (from : Writing) (number : ℕ) (to : Writing) → (h : NextShort (layout_of K V E) KA VA steps G L iter from number to) → (items : List (Bor M × Bor N)) → h.items ≡ items → BeginsWith to from
-  short_kept iter from number to h [] e = same_begins from to (h.none e)
-  short_kept iter from number to h (x ∷ items) e =
+  short_kept : (iter : P) (from : Writing) (number : ℕ) (end : P) (to : Writing) → (h : NextShort (layout_of K V E) KA VA steps G L iter from number end to) → (items : List (Bor M × Bor N)) → h.items ≡ items → BeginsWith to from
+  short_kept iter from number end to h [] e = same_begins from to (h.none e)
+  short_kept iter from number end to h (x ∷ items) e =
       let one = some_claimed h.items claim (omega (arith, ap length e)) (omega (arith, h.few, is.all, is.most_last)) in
-      went_begins from to (begun_went (layout_of K V E) KA VA from (planned_alone E one.0) to (each_begun K V E KA VA steps G L claim is iter from number to h one.0 one.1))
+      went_begins from to (begun_went (layout_of K V E) KA VA from (planned_alone E one.0) to (each_begun K V E KA VA steps G L claim is iter from number end to h one.0 one.1))
 
-  pub whole_kept : {X : Type 0} (iter : P) (from : Writing) (fault : Fault X) (to : Writing) → NextFault (layout_of K V E) KA VA steps claim 0 G L iter from fault to → BeginsWith to from
-  whole_kept iter from fault to (inl h) = let one = some_stopped K V E KA VA steps G L claim is iter from fault to h in stops_begin (layout_of K V E) KA VA from (planned_alone E one.0) fault to one.1
-  whole_kept iter from fault to (inr h) = short_kept iter from h.1 to h.5 h.5.items refl
+  pub whole_kept : {X : Type 0} (iter : P) (from : Writing) (fault : Fault X) (end : P) (to : Writing) → NextFault (layout_of K V E) KA VA steps claim 0 G L iter from fault end to → BeginsWith to from
+  whole_kept iter from fault end to (inl h) = let one = some_stopped K V E KA VA steps G L claim is iter from fault to h in stops_begin (layout_of K V E) KA VA from (planned_alone E one.0) fault to one.1
+  whole_kept iter from fault end to (inr h) = short_kept iter from h.1 end to h.5 h.5.items refl

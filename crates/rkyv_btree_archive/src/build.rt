@@ -9,15 +9,17 @@ ghost use Rattle.rkyv_btree_format.specs.Layout.{layout_of, are_fitting};
 ghost use Rattle.rkyv_btree_shape.specs.Logarithm.{ilog};
 ghost use Rattle.rkyv_btree_portable.specs.Rounding.{round_up};
 ghost use Rattle.rkyv_btree_image.specs.OneTree.{BuildsOneTree};
+ghost use Rattle.rkyv_btree_archive.specs.mirror.Ended.{FaultAt};
 ghost use Rattle.rkyv_btree_archive.specs.mirror.Scratch.{IsFree, IsReserved};
+ghost use Rattle.rkyv_btree_archive.specs.mirror.Source.{Gives};
 ghost use Rattle.rkyv_btree_image.specs.Kept.{NeverGrows, OnlyAppended};
 ghost use Rattle.rkyv_btree_image.specs.Miscounts.{IsMiscount};
-ghost use Rattle.rkyv_btree_image.specs.Serialising.{Serialised, BuildFault, BuildsTree, FailsToBuild, RootFault};
+ghost use Rattle.rkyv_btree_image.specs.Serialising.{Serialised, BuildsTree, FailsToBuild, RootFault};
 ghost use Rattle.rkyv_btree_image.specs.SmallestMaps.{BuildsSmallest};
 ghost use Rattle.rkyv_btree_writer.specs.Writing.{position, Wrote, last_end};
 
 use crate::archive::{Archive, Serialize};
-use crate::items::none_left;
+use crate::items::{AnyOrder, Look, Source, none_left};
 use crate::map::ArchivedBTreeMap;
 use crate::tree::{Lists, write_tree};
 use crate::writes::reserve_scratch;
@@ -87,11 +89,12 @@ fn levels_of<const E: usize>(len: usize) -> (usize, usize)
     (above, len + 1 - (E + 1).pow(above as u32))
 }
 
-/// Writes the tree of an iterator's items, and returns the position of its root node. `len` is the declared number of items.
-fn build_some<'x, KU, VU, K, V, W, A, I, const E: usize>(
+/// Writes the tree of an iterator's items, and returns the position of its root node. `len` is the declared number of items, and
+/// isn't 0.
+fn build_some<'x, KU, VU, K, V, W, A, I, L, const E: usize>(
     alloc: A,
     len: usize,
-    mut iter: I,
+    source: &mut Source<I, L>,
     writer: &mut W,
 ) -> Result<BTreeMapResolver, Fault<W::Error>>
 where
@@ -102,17 +105,20 @@ where
     W: Writer,
     A: Allocator + Copy,
     I: Iterator<Item = (&'x KU, &'x VU)>,
+    L: Look<'x, KU> + Drop,
     requires fitting { IsTrue (are_fitting K.kind V.kind E) }
     requires some { 0 < len }
     requires small { len ≤ 4294967295 }
-    requires can { I.can_next iter }
-    requires ends { UpTo (I.remaining iter) 18446744073709551615 }
+    requires can { I.can_next source.old.items }
+    requires ends { UpTo (I.remaining source.old.items) 18446744073709551615 }
     ensures ok { IfOk result (λ resolver.
-        Serialised K.kind V.kind E KU.archival VU.archival I.next_gives iter len
-        (W.state writer.old) resolver (W.state writer.new)) }
+        Serialised K.kind V.kind E KU.archival VU.archival
+        (Gives I.next_gives L.passes L.stops) source.old len (W.state writer.old) resolver
+        (W.state writer.new)) }
     ensures err { IfErr result (λ fault.
-        BuildFault K.kind V.kind E KU.archival VU.archival I.next_gives iter len
-        (W.state writer.old) fault (W.state writer.new)) }
+        FaultAt K.kind V.kind E KU.archival VU.archival
+        (Gives I.next_gives L.passes L.stops) source.old len (W.state writer.old) fault source.new
+        (W.state writer.new)) }
     ensures went { OnOk result (OnlyAppended (W.state writer.old) (W.state writer.new)) }
     ensures memory { NeverGrows KU.archival → NeverGrows VU.archival →
         IsErrOf result (Fault.Memory alloc_error) → W.state writer.new ≡ W.state writer.old }
@@ -123,15 +129,65 @@ where
     let Ok(lists) = reserve::<KU, VU, K, V, A, E>(alloc, above) else {
         return Err(Fault::Memory(AllocError));
     };
-    let root = write_tree::<KU, VU, K, V, W, A, I, E>(
-        alloc, above, on_last, len, lists, &mut iter, writer,
+    let root = write_tree::<KU, VU, K, V, W, A, I, L, E>(
+        alloc, above, on_last, len, lists, source, writer,
     )?;
-    if let Err(miscount) = none_left(iter, len) {
+    if let Err(miscount) = none_left::<KU, VU, I, L>(source, len) {
         return Err(Fault::Length(miscount));
     }
     Ok(BTreeMapResolver {
         root: root.unwrap_or(0),
     })
+}
+
+/// Writes the tree of an iterator's items, if there are any, and returns the position of its root node. `len` is the declared
+/// number of items.
+pub(crate) fn build_from<'x, KU, VU, K, V, W, A, I, L, const E: usize>(
+    alloc: A,
+    len: usize,
+    source: &mut Source<I, L>,
+    writer: &mut W,
+) -> Result<BTreeMapResolver, Fault<W::Error>>
+where
+    KU: Archive<Archived = K> + Serialize<W, A> + 'x,
+    VU: Archive<Archived = V> + Serialize<W, A> + 'x,
+    K: Portable,
+    V: Portable,
+    W: Writer,
+    A: Allocator + Copy,
+    I: Iterator<Item = (&'x KU, &'x VU)>,
+    L: Look<'x, KU> + Drop,
+    requires fitting { IsTrue (are_fitting K.kind V.kind E) }
+    requires can { I.can_next source.old.items }
+    requires ends { UpTo (I.remaining source.old.items) 18446744073709551615 }
+    ensures ok { IfOk result (λ resolver.
+        Serialised K.kind V.kind E KU.archival VU.archival
+        (Gives I.next_gives L.passes L.stops) source.old len (W.state writer.old) resolver
+        (W.state writer.new)) }
+    ensures err { IfErr result (λ fault.
+        FaultAt K.kind V.kind E KU.archival VU.archival
+        (Gives I.next_gives L.passes L.stops) source.old len (W.state writer.old) fault source.new
+        (W.state writer.new)) }
+    ensures end { OnOk result (0 < len → position (W.state writer.new) ≤ last_end) }
+    ensures went { OnOk result (OnlyAppended (W.state writer.old) (W.state writer.new)) }
+    ensures kept { OnErr result (BeginsWith (W.state writer.new) (W.state writer.old)) }
+    ensures memory { NeverGrows KU.archival → NeverGrows VU.archival →
+        IsErrOf result (Fault.Memory alloc_error) → W.state writer.new ≡ W.state writer.old }
+    ensures past { last_end < len → IsErrOf result Fault.LengthOverflow }
+    ensures past_kept { last_end < len → W.state writer.new ≡ W.state writer.old }
+    ensures none { len ≡ 0 → IfErr result IsMiscount }
+    ensures none_kept { len ≡ 0 → W.state writer.new ≡ W.state writer.old }
+{
+    if len > LAST_END as usize {
+        return Err(Fault::LengthOverflow);
+    }
+    if len == 0 {
+        if let Err(miscount) = none_left::<KU, VU, I, L>(source, 0) {
+            return Err(Fault::Length(miscount));
+        }
+        return Ok(BTreeMapResolver { root: 0 });
+    }
+    build_some::<KU, VU, K, V, W, A, I, L, E>(alloc, len, source, writer)
 }
 
 impl<K: Portable, V: Portable, const E: usize> ArchivedBTreeMap<K, V, E> {
@@ -187,17 +243,14 @@ impl<K: Portable, V: Portable, const E: usize> ArchivedBTreeMap<K, V, E> {
         // With a declared length of 0 the only error is a wrong count, and nothing is written.
         ensures none { len ≡ 0 → IfErr result IsMiscount }
         ensures none_kept { len ≡ 0 → W.state writer.new ≡ W.state writer.old }
+        // Keys in any order are serialized: no error is `OutOfOrder`.
+        ensures any_order { (index : ℕ) → IsErrOf result (Fault.OutOfOrder index) → ⊥ }
     {
-        if len > LAST_END as usize {
-            return Err(Fault::LengthOverflow);
-        }
-        if len == 0 {
-            if let Err(miscount) = none_left(iter, 0) {
-                return Err(Fault::Length(miscount));
-            }
-            return Ok(BTreeMapResolver { root: 0 });
-        }
-        build_some::<KU, VU, K, V, W, A, I, E>(alloc, len, iter, writer)
+        let mut source = Source {
+            items: iter,
+            look: AnyOrder {},
+        };
+        build_from::<KU, VU, K, V, W, A, I, AnyOrder, E>(alloc, len, &mut source, writer)
     }
 }
 

@@ -1,33 +1,100 @@
 //! Taking items from an iterator, and counting those that are left.
-ghost use Rattle.std.specs.Prelude.{◌≡◌, ◌+◌, ◌-◌, ◌<◌, ◌≤◌, List, [], length, true, false, vec_capacity, OnOk, IfErr};
-ghost use Rattle.std.specs.Iterator.{Yields, Drains, IsFinite, UpTo, size};
+ghost use Rattle.std.specs.Prelude.{◌≡◌, ◌+◌, ◌-◌, ◌<◌, ◌≤◌, List, [], None, length, true, false, vec_capacity, OnOk, IfErr, ⊤};
+ghost use Rattle.std.specs.Borrow.{Bor};
+ghost use Rattle.std.specs.Iterator.{MakesProgress, Yields, YieldsThen, IsFinite, UpTo, size};
+ghost use Rattle.rkyv_btree_archive.specs.mirror.Source.{Gives};
 
 use crate::waiting::push;
 use rkyv_btree_writer::fault::IteratorLengthMismatch;
 use std::alloc::Allocator;
 
-/// Takes items until there are `count`, and returns whether the iterator yielded that many.
-pub fn take_items<'x, M, N, A: Allocator, I: Iterator<Item = (&'x M, &'x N)>>(
+/// What building tests of each item's key when it takes the item.
+pub trait Look<'x, M> {
+    /// Holds of the state before a key that passes, the key, and the state after.
+    ghost passes: { Self → Bor M → Self → Type 0 };
+
+    /// Holds of the state before a key that doesn't pass, the key, and the state after.
+    ghost stops: { Self → Bor M → Self → Type 0 };
+
+    /// Returns whether the key passes.
+    fn look(&mut self, key: &'x M) -> bool
+        ensures passes { result ≡ true → passes self.old key.entry self.new }
+        ensures stops { result ≡ false → stops self.old key.entry self.new };
+}
+
+/// Passes keys in any order.
+#[derive(Drop)]
+pub struct AnyOrder {}
+
+impl<'x, M> Look<'x, M> for AnyOrder {
+    ghost passes = { λ _ _ _. ⊤ };
+
+    ghost stops = { λ _ _ _. ⊥ };
+
+    fn look(&mut self, _key: &'x M) -> bool {
+        true
+    }
+}
+
+/// The items of an iterator, up to one whose key doesn't pass.
+#[derive(Drop)]
+pub struct Source<I, L> {
+    pub items: I,
+    pub look: L,
+}
+
+impl<I: Drop, L: Drop> Source<I, L> {
+    /// Returns the next item, if there is one and its key passes.
+    pub fn next<'x, M: 'x, N: 'x>(&mut self) -> Option<(&'x M, &'x N)>
+    where
+        I: Iterator<Item = (&'x M, &'x N)>,
+        L: Look<'x, M>,
+        requires { I.can_next self.old.items }
+        ensures steps { Gives I.next_gives L.passes L.stops self.old result self.new }
+        ensures goes { MakesProgress (λ s. I.can_next s.items) (λ s. I.remaining s.items) self.old
+            result self.new }
+    {
+        let item = self.items.next()?;
+        if self.look.look(item.0) {
+            Some(item)
+        } else {
+            None
+        }
+    }
+}
+
+/// Takes items until there are `count`, and returns whether there were that many.
+pub fn take_items<
+    'x,
+    M: 'x,
+    N: 'x,
+    A: Allocator,
+    I: Iterator<Item = (&'x M, &'x N)>,
+    L: Look<'x, M> + Drop,
+>(
     items: &mut Vec<(&'x M, &'x N), A>,
     count: usize,
-    iter: &mut I,
+    source: &mut Source<I, L>,
 ) -> bool
     requires empty { items.old.items ≡ [] }
     requires room { count ≤ vec_capacity items.old }
-    requires can { I.can_next iter.old }
-    requires ends { IsFinite (I.remaining iter.old) }
-    ensures all { result ≡ true → Yields I.next_gives iter.old items.new.items iter.new }
-    ensures few { result ≡ false → Drains I.next_gives iter.old items.new.items }
+    requires can { I.can_next source.old.items }
+    requires ends { IsFinite (I.remaining source.old.items) }
+    ensures all { result ≡ true →
+        Yields (Gives I.next_gives L.passes L.stops) source.old items.new.items source.new }
+    ensures few { result ≡ false →
+        YieldsThen (Gives I.next_gives L.passes L.stops) source.old items.new.items None
+        source.new }
     ensures len { result ≡ true → length items.new.items ≡ count }
     ensures short { result ≡ false → length items.new.items < count }
-    ensures can { result ≡ true → I.can_next iter.new }
-    ensures ends { result ≡ true → IsFinite (I.remaining iter.new) }
+    ensures can { result ≡ true → I.can_next source.new.items }
+    ensures ends { result ≡ true → IsFinite (I.remaining source.new.items) }
     ensures left { result ≡ true →
-        size (I.remaining iter.new) + count ≤ size (I.remaining iter.old) }
+        size (I.remaining source.new.items) + count ≤ size (I.remaining source.old.items) }
     ensures capacity { vec_capacity items.old ≤ vec_capacity items.new }
 {
     while items.len() < count {
-        match iter.next() {
+        match source.next::<M, N>() {
             Some(item) => push(items, item),
             None => return false,
         }
@@ -35,20 +102,32 @@ pub fn take_items<'x, M, N, A: Allocator, I: Iterator<Item = (&'x M, &'x N)>>(
     true
 }
 
-/// Fails if an iterator that has yielded `len` items yields more. The error has the count of all of them.
-pub fn none_left<T: Drop, I: Iterator<Item = T>>(
-    iter: I,
+/// Takes all items that are left. Fails if a source that has yielded `len` items yields more. The error has the count of all of
+/// them.
+pub fn none_left<
+    'x,
+    M: 'x,
+    N: 'x,
+    I: Iterator<Item = (&'x M, &'x N)>,
+    L: Look<'x, M> + Drop,
+>(
+    source: &mut Source<I, L>,
     len: usize,
 ) -> Result<(), IteratorLengthMismatch>
-    requires can { I.can_next iter }
-    requires ends { UpTo (I.remaining iter) (18446744073709551615 - len) }
-    ensures ok { OnOk result (Drains I.next_gives iter []) }
+    requires can { I.can_next source.old.items }
+    requires ends { UpTo (I.remaining source.old.items) (18446744073709551615 - len) }
+    ensures ok { OnOk result
+        (YieldsThen (Gives I.next_gives L.passes L.stops) source.old [] None source.new) }
     ensures expected { IfErr result (λ miscount. miscount.expected ≡ len) }
     ensures more { IfErr result (λ miscount. len < miscount.actual) }
-    ensures actual { IfErr result (λ miscount.
-        (left : List T) × Drains I.next_gives iter left × (miscount.actual ≡ len + length left)) }
+    ensures actual { IfErr result (λ miscount. (left : List (Bor M × Bor N))
+        × YieldsThen (Gives I.next_gives L.passes L.stops) source.old left None source.new
+        × (miscount.actual ≡ len + length left)) }
 {
-    let more = iter.count();
+    let mut more = 0;
+    while let Some(_) = source.next::<M, N>() {
+        more += 1;
+    }
     if more != 0 {
         return Err(IteratorLengthMismatch {
             expected: len,

@@ -10,6 +10,7 @@ mod node;
 pub mod pair;
 pub mod set;
 pub mod std_types;
+pub mod strict;
 pub mod text;
 mod tree;
 pub mod util;

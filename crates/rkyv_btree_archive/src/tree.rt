@@ -7,10 +7,11 @@ ghost use Rattle.rkyv_btree_format.specs.Layout.{layout_of, are_fitting};
 ghost use Rattle.rkyv_btree_archive.specs.mirror.Scratch.{IsFree, IsReserved};
 ghost use Rattle.rkyv_btree_shape.specs.mirror.Filled.{most, IsLeafOf};
 ghost use Rattle.rkyv_btree_archive.specs.mirror.Passing.{NextWritten, NextFault};
+ghost use Rattle.rkyv_btree_archive.specs.mirror.Source.{Gives};
 ghost use Rattle.rkyv_btree_writer.specs.Writing.{position, last_end};
 
 use crate::archive::{Archive, Serialize};
-use crate::items::take_items;
+use crate::items::{Look, Source, take_items};
 use crate::waiting::{push, wait, write_above};
 use crate::writes::{Scratch, write_leaf};
 use rkyv_btree_portable::check::Portable;
@@ -81,13 +82,13 @@ pub(crate) struct Lists<'x, KU: Archive, VU: Archive, A: Allocator> {
 
 /// Takes the items of a tree, writes the tree, and returns the position of its root node. The tree has `above` levels above its
 /// last one, which has `on_last` entries.
-pub(crate) fn write_tree<'x, KU, VU, K, V, W, A, I, const E: usize>(
+pub(crate) fn write_tree<'x, KU, VU, K, V, W, A, I, L, const E: usize>(
     alloc: A,
     above: usize,
     on_last: usize,
     claim: usize,
     lists: Lists<'x, KU, VU, A>,
-    iter: &mut I,
+    source: &mut Source<I, L>,
     writer: &mut W,
 ) -> Result<Option<u32>, Fault<W::Error>>
 where
@@ -98,6 +99,7 @@ where
     W: Writer,
     A: Allocator + Copy,
     I: Iterator<Item = (&'x KU, &'x VU)>,
+    L: Look<'x, KU> + Drop,
     requires fitting { IsTrue (are_fitting K.kind V.kind E) }
     requires claim { (E + 1) ^ above + on_last ≡ claim + 1 }
     requires some { 1 ≤ on_last }
@@ -108,19 +110,21 @@ where
     requires children { IsReserved lists.children (E * above) }
     requires starts { IsReserved lists.starts above }
     requires leaf { IsReserved lists.leaf E }
-    requires can { I.can_next iter.old }
-    requires ends { IsFinite (I.remaining iter.old) }
+    requires can { I.can_next source.old.items }
+    requires ends { IsFinite (I.remaining source.old.items) }
     ensures ok { IfOk result (λ root.
-        NextWritten (layout_of K.kind V.kind E) KU.archival VU.archival I.next_gives above
-        on_last iter.old (W.state writer.old) root iter.new (W.state writer.new)) }
+        NextWritten (layout_of K.kind V.kind E) KU.archival VU.archival
+        (Gives I.next_gives L.passes L.stops) above on_last source.old (W.state writer.old) root
+        source.new (W.state writer.new)) }
     ensures err { IfErr result (λ fault.
-        NextFault (layout_of K.kind V.kind E) KU.archival VU.archival I.next_gives claim 0
-        above on_last iter.old (W.state writer.old) fault (W.state writer.new)) }
+        NextFault (layout_of K.kind V.kind E) KU.archival VU.archival
+        (Gives I.next_gives L.passes L.stops) claim 0 above on_last source.old
+        (W.state writer.old) fault source.new (W.state writer.new)) }
     ensures left { OnOk result
-        (size (I.remaining iter.new) + claim ≤ size (I.remaining iter.old)) }
+        (size (I.remaining source.new.items) + claim ≤ size (I.remaining source.old.items)) }
     ensures last { OnOk result (position (W.state writer.new) ≤ last_end) }
-    ensures can { OnOk result (I.can_next iter.new) }
-    ensures ends { OnOk result (IsFinite (I.remaining iter.new)) }
+    ensures can { OnOk result (I.can_next source.new.items) }
+    ensures ends { OnOk result (IsFinite (I.remaining source.new.items)) }
 {
     let Lists {
         mut scratch,
@@ -131,7 +135,7 @@ where
     } = lists;
     let mut levels = open_nodes(above, on_last, &mut starts, 0);
     let first_len = leaf_len::<E>(levels, on_last);
-    if !take_items(&mut leaf, first_len, iter) {
+    if !take_items(&mut leaf, first_len, source) {
         return Err(Fault::Length(IteratorLengthMismatch {
             expected: claim,
             actual: leaf.len(),
@@ -157,7 +161,7 @@ where
             starts.truncate(starts.len() - 1);
             levels += 1;
         } else {
-            let Some(entry) = iter.next() else {
+            let Some(entry) = source.next::<KU, VU>() else {
                 return Err(Fault::Length(IteratorLengthMismatch {
                     expected: claim,
                     actual: taken,
@@ -171,7 +175,7 @@ where
                 child = None;
             } else {
                 leaf.clear();
-                if !take_items(&mut leaf, len, iter) {
+                if !take_items(&mut leaf, len, source) {
                     return Err(Fault::Length(IteratorLengthMismatch {
                         expected: claim,
                         actual: taken + leaf.len(),

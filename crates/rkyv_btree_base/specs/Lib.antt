@@ -54,6 +54,8 @@ pub use Rattle.rkyv_btree_image.specs.TreeArchival
 pub use Rattle.rkyv_btree_image.specs.Whole
 pub use Rattle.rkyv_btree_image.specs.Archives
 pub use Rattle.rkyv_btree_image.specs.SmallestMaps
+pub use Rattle.rkyv_btree_image.specs.Increasing
+pub use Rattle.rkyv_btree_image.specs.StrictBuilding
 pub use Rattle.rkyv_btree_image.specs.Alike
 pub mod laws
 pub mod mirror

@@ -1,6 +1,6 @@
 -- What building leaves, from what its parts leave.
-use Rattle.std.proofs.Common.{◌≡◌, ◌≢◌, ℕ, ◌+◌, ◌-◌, ◌<◌, ◌≤◌, ◌∙◌, Bool, IsTrue, List, [], ◌∷◌, ◌++◌, length, map, replicate, take, Bor, Option, unwrap_or, refl, sym, subst, ap, arith}
-use Rattle.std.specs.Iterator.{Yields, Drains}
+use Rattle.std.proofs.Common.{◌≡◌, ◌≢◌, ℕ, ◌+◌, ◌-◌, ◌<◌, ◌≤◌, ◌∙◌, Bool, IsTrue, List, [], ◌∷◌, ◌++◌, length, map, replicate, take, Bor, Option, None, unwrap_or, refl, sym, subst, ap, arith}
+use Rattle.std.specs.Iterator.{Yields, YieldsThen, Drains}
 use Rattle.std.proofs.lemmas.List.{length-append, length-map, length-replicate, append-nil, nil_from_length, take_at}
 use Rattle.rkyv_btree_writer.specs.Archiving.{Archival, IsArchived, Matches}
 use Rattle.rkyv_btree_portable.specs.Bytes.{Holds}
@@ -18,7 +18,7 @@ use Rattle.rkyv_btree_image.specs.Entries.{now_of}
 use Rattle.rkyv_btree_image.specs.Written.{ChildWritten}
 use Rattle.rkyv_btree_format.proofs.Sizes.{room_of}
 use Rattle.rkyv_btree_writer.specs.declared.fault.Fault.{Fault}
-use Rattle.rkyv_btree_writer.specs.declared.fault.Fault.TheVariants.{Length, LengthOverflow, PositionOverflow, OffsetOverflow, Writer, Memory, Entry}
+use Rattle.rkyv_btree_writer.specs.declared.fault.Fault.TheVariants.{Length, LengthOverflow, PositionOverflow, OffsetOverflow, Writer, Memory, Entry, OutOfOrder}
 use Rattle.rkyv_btree_image.proofs.EntriesWritten.{meant, since}
 use Rattle.rkyv_btree_shape.proofs.Mapped.{plan_mapped, list_mapped, height_mapped}
 use Rattle.rkyv_btree_shape.specs.Mapped.{mapped}
@@ -26,17 +26,19 @@ use Rattle.rkyv_btree_shape.proofs.Smallest.{plan_is_left_complete, left_complet
 use Rattle.rkyv_btree_image.proofs.TreesWritten.{tree_grown, tree_spelled}
 use Rattle.rkyv_btree_writer.proofs.WriteRuns.{stopped-behind, stopped-one}
 
--- what was taken, and then the rest
-pub Drains-behind : {S A : Type 0} (steps : S → Option A → S → Type 0) (s : S) (xs : List A) (t : S) (ys : List A) → Yields steps s xs t → Drains steps t ys → Drains steps s (xs ++ ys)
-Drains-behind steps s [] t ys y d = subst (λ u. Drains steps u ys) (sym y) d
-Drains-behind steps s (x ∷ xs) t ys y d =
-    let r = Drains-behind steps y.0 xs t ys y.2 d in
-    (r.0, (r.1.0, (y.0, y.1, r.1.1), r.1.2))
+-- what was taken, and then more
+pub Yields-both : {S A : Type 0} (steps : S → Option A → S → Type 0) (s : S) (xs : List A) (t : S) (ys : List A) (u : S) → Yields steps s xs t → Yields steps t ys u → Yields steps s (xs ++ ys) u
+Yields-both steps s [] t ys u y z = subst (λ v. Yields steps v ys u) (sym y) z
+Yields-both steps s (x ∷ xs) t ys u y z = (y.0, y.1, Yields-both steps y.0 xs t ys u y.2 z)
+
+-- what was taken, and then the rest to its end
+pub then-behind : {S A : Type 0} (steps : S → Option A → S → Type 0) (s : S) (xs : List A) (t : S) (ys : List A) (end : S) → Yields steps s xs t → YieldsThen steps t ys None end → YieldsThen steps s (xs ++ ys) None end
+then-behind steps s xs t ys end y d = (d.0, Yields-both steps s xs t ys d.0 y d.1, d.2)
 
 -- what was taken is all, where nothing is left
 pub drained : {S A : Type 0} (steps : S → Option A → S → Type 0) (s : S) (xs : List A) (t : S) (ys : List A) (n : ℕ) → Yields steps s xs t → Drains steps t ys → n ≡ length ys → n ≡ 0 → Drains steps s xs
 drained steps s xs t ys n y d is none =
-    subst (Drains steps s) (ap (λ zs. xs ++ zs) (nil_from_length ys (sym is ∙ none)) ∙ append-nil xs) (Drains-behind steps s xs t ys y d)
+    subst (Drains steps s) (ap (λ zs. xs ++ zs) (nil_from_length ys (sym is ∙ none)) ∙ append-nil xs) (d.0, then-behind steps s xs t ys d.0 y d.1)
 
 -- some items are the first of a list of as many entries as claimed
 pub some_claimed : {M N : Type 0} (items : List (Bor M × Bor N)) (claim : ℕ) → 0 < length items → length items ≤ claim → (xs : List (M × N)) × BeginClaimed items claim xs
@@ -50,21 +52,21 @@ some_claimed (x ∷ items) claim some few =
 
 module _ {M N R S P : Type 0} (K V : Kind) (E : ℕ) (KA : Archival M R) (VA : Archival N S) (steps : P → Option (Bor M × Bor N) → P → Type 0) where
   -- it gave more, and the tree of the first was written
-  pub miscounted_of : (iter : P) (claim more : ℕ) (s t : Writing) (xs : List (Bor M × Bor N)) (rest : P) (ys : List (Bor M × Bor N)) (place : Option ℕ) →
-      Yields steps iter xs rest → Drains steps rest ys → more ≡ length ys → more ≢ 0 → length xs ≡ claim → ChildWritten (layout_of K V E) KA VA s (planned_alone E (map now_of xs)) place t → Miscounted K V E KA VA steps iter claim claim (claim + more) s t
-  miscounted_of iter claim more s t xs rest ys place y d is many n written =
+  pub miscounted_of : (iter : P) (claim more : ℕ) (s t : Writing) (xs : List (Bor M × Bor N)) (rest : P) (ys : List (Bor M × Bor N)) (end : P) (place : Option ℕ) →
+      Yields steps iter xs rest → YieldsThen steps rest ys None end → more ≡ length ys → more ≢ 0 → length xs ≡ claim → ChildWritten (layout_of K V E) KA VA s (planned_alone E (map now_of xs)) place t → (m : Miscounted K V E KA VA steps iter claim claim (claim + more) s t) × (m.all.0 ≡ end)
+  miscounted_of iter claim more s t xs rest ys end place y d is many n written =
       let all = length-append xs ys in
       let taken : take claim (xs ++ ys) ≡ xs = take_at xs ys claim n in
-      record {
+      (record {
         items = xs ++ ys;
-        all = Drains-behind steps iter xs rest ys y d;
+        all = (end, then-behind steps iter xs rest ys end y d);
         differs = λ e. many (omega (arith, all, e));
         claimed = refl;
         counted = omega (arith, all);
         none = λ empty. absurd (many (omega (arith, all, ap length empty)));
         few = λ some less. absurd (omega (arith, all));
         many = λ more. (place, subst (λ (zs : List (Bor M × Bor N)). ChildWritten (layout_of K V E) KA VA s (planned_alone E (map now_of zs)) place t) (sym taken) written);
-      }
+      }, refl)
 
 module _ {M N R S : Type 0} (K V : Kind) (E : ℕ) (k : IsLawful K) (v : IsLawful V) (fits : IsTrue (are_fitting K V E)) (KA : Archival M R) (VA : Archival N S) (key : Matches KA.kind K) (value : Matches VA.kind V) (ka : IsArchived KA) (va : IsArchived VA) where
   pub meaning_is : (xs : List (Bor M × Bor N)) → map (meant K V E k v fits KA VA key value ka va) (map now_of xs) ≡ map (meaning_of K V KA VA key value) xs
@@ -109,6 +111,7 @@ stopped_root root len s m t (Length mismatch) wrote r = r
 stopped_root root len s m t LengthOverflow wrote r = absurd r
 stopped_root root len s m t (Memory error) wrote r = r
 stopped_root root len s m t (Entry fault) wrote r = r
+stopped_root root len s m t (OutOfOrder index) wrote r = r
 
 -- a map that isn't written behind its padding
 pub root_refused : {X : Type 0} (root len : ℕ) (s m t : Writing) (bytes : List ℕ) (fault : Fault X) → bytes ≡ root_bytes (round_up (position s) 4) root len → Wrote s (padding 4 (position s)) m → ((reaches : Bool) → Refused fault m (record { bytes = bytes; reaches = reaches }) t) → RootFault root len s fault t

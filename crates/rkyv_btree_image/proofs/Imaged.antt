@@ -13,7 +13,7 @@ use Rattle.rkyv_btree_writer.specs.Writing.{Writing, Write, position, Wrote, Sto
 use Rattle.rkyv_btree_image.specs.Entries.{IsSerialised, AreSerialised, AreUnserialised, AreResolved, AreUnresolved, EntriesUnresolved}
 use Rattle.rkyv_btree_image.specs.Written.{NodeWritten, NodeStopped, in_entries, in_padding, past_end, in_own_bytes, in_node, TreeWritten, RowWritten, ChildWritten, TreeStopped, RowStopped, ChildStopped}
 use Rattle.rkyv_btree_writer.specs.declared.fault.Fault.{Fault}
-use Rattle.rkyv_btree_writer.specs.declared.fault.Fault.TheVariants.{Length, LengthOverflow, PositionOverflow, OffsetOverflow, Writer, Memory, Entry}
+use Rattle.rkyv_btree_writer.specs.declared.fault.Fault.TheVariants.{Length, LengthOverflow, PositionOverflow, OffsetOverflow, Writer, Memory, Entry, OutOfOrder}
 use Rattle.rkyv_btree_writer.specs.declared.fault.ResolveFault.{ResolveFault}
 use Rattle.rkyv_btree_writer.specs.declared.fault.ResolveFault.TheVariants as resolving
 use Rattle.rkyv_btree_image.proofs.Leaves.{leaf_bytes_length}
@@ -45,6 +45,7 @@ module _ {X : Type 0} (kind : Kind) (meaning : X → kind.Value) (IsIn : X → T
   never x s (Writer error) t h = stopped-none s h.0 (Writer error) t h.1 h.2
   never x s (Memory error) t h = h.0
   never x s (Entry fault) t h = h.0
+  never x s (OutOfOrder index) t h = h
 
   resolved : (at : ℕ) (xs : List X) (rs : List (Unit {0})) (owns : List (List ℕ)) → AreResolved (plain_archival kind meaning IsIn own) at xs rs owns → owns ≡ map own xs
   resolved at [] rs owns h = h.1

@@ -4,7 +4,7 @@ use Rattle.std.proofs.lemmas.List.{append_assoc, append-nil}
 use Rattle.rkyv_btree_writer.specs.Archiving.{Archival, BeginsWith, IsUnserialised}
 use Rattle.rkyv_btree_writer.specs.Writing.{Writing, Write, Wrote, Refused, Stopped, appended}
 use Rattle.rkyv_btree_writer.specs.declared.fault.Fault.{Fault}
-use Rattle.rkyv_btree_writer.specs.declared.fault.Fault.TheVariants.{Length, LengthOverflow, PositionOverflow, OffsetOverflow, Writer, Memory, Entry}
+use Rattle.rkyv_btree_writer.specs.declared.fault.Fault.TheVariants.{Length, LengthOverflow, PositionOverflow, OffsetOverflow, Writer, Memory, Entry, OutOfOrder}
 use Rattle.rkyv_btree_image.specs.Kept.{OnlyAppended}
 
 pub same_begins : (s t : Writing) → t ≡ s → BeginsWith t s
@@ -40,6 +40,7 @@ module _ {E : Type 0} where
   refused_begins LengthOverflow s next t h = absurd h
   refused_begins (Memory error) s next t h = absurd h
   refused_begins (Entry fault) s next t h = absurd h
+  refused_begins (OutOfOrder index) s next t h = absurd h
 
   pub stopped_begins : (s : Writing) (writes : List Write) (fault : Fault E) (t : Writing) → Stopped s writes fault t → BeginsWith t s
   stopped_begins s writes fault t h = then_begins s h.mid t (wrote_begins s h.made h.mid h.wrote) (refused_begins fault h.mid h.next t h.refused)
@@ -52,3 +53,4 @@ module _ {E : Type 0} where
   unserialised_begins T x s (Writer error) t h = stopped_begins s h.0 (Writer error) t h.2
   unserialised_begins T x s (Memory error) t h = h.1
   unserialised_begins T x s (Entry fault) t h = h.1
+  unserialised_begins T x s (OutOfOrder index) t h = absurd h

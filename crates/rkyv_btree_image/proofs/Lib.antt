@@ -29,5 +29,7 @@ pub mod ImagesDetermined
 pub mod TreeSerialised
 pub mod SmallestMaps
 pub mod OneTree
+pub mod Increasing
+pub mod Within
 pub mod Sets
 pub mod Whole

@@ -1,5 +1,5 @@
 -- A set is built as its map is, of the entries that go with its keys.
-use Rattle.std.proofs.Common.{◌≡◌, ℕ, List, [], ◌∷◌, map, Bor, Option, Some, None, inl, inr, refl, sym, ap, subst, ◌∙◌}
+use Rattle.std.proofs.Common.{◌≡◌, ℕ, List, [], ◌∷◌, map, Bor, Option, Some, None, refl, sym, ap, subst, ◌∙◌}
 use Rattle.std.specs.Fn.{Mut, Called}
 use Rattle.std.specs.Iterator.{Yields, Drains}
 use Rattle.std.specs.Iterator.Adapters.{map_source, map_callee, map_steps}
@@ -9,21 +9,12 @@ use Rattle.rkyv_btree_writer.specs.Archiving.{Archival, Matches, itself}
 use Rattle.rkyv_btree_portable.specs.Kind.{Kind}
 use Rattle.rkyv_btree_portable.specs.Scalars.{unit_kind}
 use Rattle.rkyv_btree_format.specs.Layout.{layout_of}
-use Rattle.rkyv_btree_image.specs.Serialising.{meaning_of, Built, Spelled, Serialised, StoppedBuilding, Miscounted, BuildFault}
+use Rattle.rkyv_btree_image.specs.Serialising.{meaning_of, Built, Spelled, Serialised, BuildFault}
 use Rattle.rkyv_btree_image.specs.Sets.{unit_archival, entries_by, BuildsSet}
 use Rattle.rkyv_btree_image.specs.Entries.{now_of}
+use Rattle.rkyv_btree_image.proofs.Within.{drains_within, fault_within}
 use Rattle.rkyv_btree_writer.specs.Writing.{Writing}
 use Rattle.rkyv_btree_writer.specs.declared.fault.Fault.{Fault}
-use Rattle.rkyv_btree_writer.specs.declared.fault.Fault.TheVariants.{Length, LengthOverflow, PositionOverflow, OffsetOverflow, Writer, Memory, Entry}
-
--- an iterator whose calls are those of another one in it gives what that gives
-module _ {S P A : Type 0} (outer : S → Option A → S → Type 0) (inner : P → Option A → P → Type 0) (within : S → P) (each : (s : S) (item : Option A) (t : S) → outer s item t → inner (within s) item (within t)) where
-  yields_within : (s : S) (items : List A) (t : S) → Yields outer s items t → Yields inner (within s) items (within t)
-  yields_within s [] t y = ap within y
-  yields_within s (x ∷ items) t y = (within y.0, each _ _ _ y.1, yields_within y.0 items t y.2)
-
-  drains_within : (s : S) (items : List A) → Drains outer s items → Drains inner (within s) items
-  drains_within s items d = (within d.0, (within d.1.0, yields_within s items d.1.0 d.1.1, each _ _ _ d.1.2))
 
 -- the keys of entries are what the steps of keys give
 module _ {M P : Type 0} (steps : P → Option (Bor M) → P → Type 0) where
@@ -63,18 +54,6 @@ module _ {M R P F : Type 0} (K : Kind) (E : ℕ) (KA : Archival M R) (steps : P 
             subst (λ (m : List (K.Value × Unit {0})). Spelled K unit_kind E (state before) m root (state after)) (entries_mean K KA key items) (map_built.spelled some key (itself unit_kind));
       }
 
-  stopped_within : {X : Type 0} (from : Writing) (fault : Fault X) (t : Writing) → StoppedBuilding K unit_kind E KA unit_archival (map_steps steps call) iter claim from fault t → StoppedBuilding K unit_kind E KA unit_archival (entries_by steps) (map_source iter) claim from fault t
-  stopped_within from fault t h = record { items = h.items; rest = map_source h.rest; taken = yields_within (map_steps steps call) (entries_by steps) map_source (mapped steps call gives) iter h.items h.rest h.taken; entries = h.entries; claimed = h.claimed; stopped = h.stopped }
-
-  miscounted_within : (expected actual : ℕ) (from t : Writing) → Miscounted K unit_kind E KA unit_archival (map_steps steps call) iter claim expected actual from t → Miscounted K unit_kind E KA unit_archival (entries_by steps) (map_source iter) claim expected actual from t
-  miscounted_within expected actual from t h = record { items = h.items; all = drains_within (map_steps steps call) (entries_by steps) map_source (mapped steps call gives) iter h.items h.all; differs = h.differs; claimed = h.claimed; counted = h.counted; none = h.none; few = h.few; many = h.many }
-
   -- and what stops the one stops the other
   pub set_refused : {X : Type 0} (from : Writing) (fault : Fault X) (t : Writing) → BuildFault K unit_kind E KA unit_archival (map_steps steps call) iter claim from fault t → BuildFault K unit_kind E KA unit_archival (entries_by steps) (map_source iter) claim from fault t
-  set_refused from (Length m) t h = miscounted_within m.expected m.actual from t h
-  set_refused {X} from LengthOverflow t h = elim h [ inl past ↦ inl past | inr stopped ↦ inr (stopped_within {X = X} from LengthOverflow t stopped) ]
-  set_refused {X} from PositionOverflow t h = stopped_within {X = X} from PositionOverflow t h
-  set_refused {X} from OffsetOverflow t h = stopped_within {X = X} from OffsetOverflow t h
-  set_refused from (Writer error) t h = stopped_within from (Writer error) t h
-  set_refused {X} from (Memory error) t h = elim h [ inl none ↦ inl none | inr stopped ↦ inr (stopped_within {X = X} from (Memory error) t stopped) ]
-  set_refused {X} from (Entry fault) t h = stopped_within {X = X} from (Entry fault) t h
+  set_refused from fault t h = fault_within K unit_kind E KA unit_archival (map_steps steps call) (entries_by steps) map_source (mapped steps call gives) iter claim from fault t h

@@ -16,7 +16,7 @@ use Rattle.rkyv_btree_image.proofs.TreeArchived.{alone_shape}
 use Rattle.rkyv_btree_image.proofs.TreeShort.{alone_list}
 use Rattle.rkyv_btree_image.proofs.TreesImaged.{child_imaged}
 use Rattle.rkyv_btree_image.proofs.TreesStopped.{child_stops, child_refuses}
-use Rattle.rkyv_btree_image.proofs.Untold.{uncounted}
+use Rattle.rkyv_btree_image.proofs.Untold.{uncounted, unordered}
 use Rattle.rkyv_btree_image.specs.Entries.{now_of}
 use Rattle.rkyv_btree_image.specs.Imaged.{EntryIn, ChildImage}
 use Rattle.rkyv_btree_image.specs.Miscounts.{IsMiscount}
@@ -35,7 +35,7 @@ use Rattle.rkyv_btree_writer.specs.Causes.{HasCauses}
 use Rattle.rkyv_btree_writer.specs.Fields.{HasLong}
 use Rattle.rkyv_btree_writer.specs.Writing.{Writing, Write, EndInReach, position, last_end}
 use Rattle.rkyv_btree_writer.specs.declared.fault.Fault.{Fault}
-use Rattle.rkyv_btree_writer.specs.declared.fault.Fault.TheVariants.{Length, LengthOverflow, PositionOverflow, OffsetOverflow, Writer, Memory, Entry}
+use Rattle.rkyv_btree_writer.specs.declared.fault.Fault.TheVariants.{Length, LengthOverflow, PositionOverflow, OffsetOverflow, Writer, Memory, Entry, OutOfOrder}
 
 -- what an iterator over a list of pairs gives are its pairs, by references
 given : {M N : Type 0} (xs : List (M × N)) (items : List (Bor M × Bor N)) (rest : List (M × N)) → Yields (TakesFirst deref_pair) xs items rest → xs ≡ map now_of items ++ rest
@@ -115,6 +115,7 @@ module _ {M N R S : Type 0} (E : ℕ) (K : Archival M R) (V : Archival N S) (k :
     tree_stopped some (Writer error) h = child_stops K.kind V.kind E k v fits K V (itself K.kind) (itself V.kind) key value kc vc (Writer error) tt s (planned_alone E (entries x)) t (alone_shape E (room_of K.kind V.kind E k v fits).some (entries x)) h
     tree_stopped some (Memory error) h = (some, (growing_entry F (nodes E K V) K V s (planned_alone E (entries x)) t error h).1)
     tree_stopped some (Entry fault) h = child_refuses F (nodes E K V) K V fault s (planned_alone E (entries x)) t (alone_shape E (room_of K.kind V.kind E k v fits).some (entries x)) h
+    tree_stopped some (OutOfOrder index) h = absurd (unordered F (nodes E K V) K V s (planned_alone E (entries x)) t index h)
 
     -- building that fails for an iterator that gives the entries and no others, and a claim of as many
     module _ {P : Type 0} (A B : Kind) (same : layout_of A B E ≡ nodes E K V) (steps : P → Option (Bor M × Bor N) → P → Type 0) (iter : P) (claim : ℕ) (count : claim ≡ length (entries x)) (drains : (items : List (Bor M × Bor N)) → Drains steps iter items → map now_of items ≡ entries x)
@@ -136,6 +137,7 @@ module _ {M N R S : Type 0} (E : ℕ) (K : Archival M R) (V : Archival N S) (k :
       tree_unserialised (Memory error) none (inl h) = (positive claim (length (entries x)) count none, same_begins s t h)
       tree_unserialised (Memory error) none (inr h) = tree_stopped (positive claim (length (entries x)) count none) (Memory error) (stopped (Memory error) h)
       tree_unserialised (Entry fault) none h = tree_stopped (positive claim (length (entries x)) count none) (Entry fault) (stopped (Entry fault) h)
+      tree_unserialised (OutOfOrder index) none h = absurd h
 
 -- so it is of an iterator over the entries themselves, and for the archived kinds
 module _ {M N R S : Type 0} (E : ℕ) (A B : Kind) (K : Archival M R) (V : Archival N S) (match : Matches K.kind A) (match2 : Matches V.kind B) (k : IsLawful K.kind) (v : IsLawful V.kind) (fits : IsTrue (are_fitting A B E)) where

@@ -13,7 +13,7 @@ use Rattle.rkyv_btree_writer.specs.Padding.{padding}
 use Rattle.rkyv_btree_writer.specs.Writing.{Writing, Write, position, Wrote, Stopped}
 use Rattle.rkyv_btree_writer.specs.declared.fault.EntryFault.{EntryFault}
 use Rattle.rkyv_btree_writer.specs.declared.fault.Fault.{Fault}
-use Rattle.rkyv_btree_writer.specs.declared.fault.Fault.TheVariants.{Length, LengthOverflow, PositionOverflow, OffsetOverflow, Writer, Memory, Entry}
+use Rattle.rkyv_btree_writer.specs.declared.fault.Fault.TheVariants.{Length, LengthOverflow, PositionOverflow, OffsetOverflow, Writer, Memory, Entry, OutOfOrder}
 use Rattle.rkyv_btree_writer.specs.declared.fault.ResolveFault.{ResolveFault}
 use Rattle.rkyv_btree_writer.specs.declared.fault.ResolveFault.TheVariants as resolving
 use Rattle.rkyv_btree_writer.proofs.WriteRuns.{stopped-front, stopped-behind, stopped-one}
@@ -95,6 +95,7 @@ stops_in T OffsetOverflow is x from to h = h
 stops_in T (Writer error) is x from to h = h
 stops_in T (Memory error) is x from to h = absurd is
 stops_in T (Entry fault) is x from to h = absurd is
+stops_in T (OutOfOrder index) is x from to h = absurd is
 
 unresolved_size : (cause : ResolveFault) (size : ℕ) → length (unresolved_write cause size).bytes ≡ size
 unresolved_size resolving.LengthOverflow size = length-zeros size

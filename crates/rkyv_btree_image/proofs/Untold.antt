@@ -1,12 +1,12 @@
--- A tree isn't stopped by a fault that neither its entries nor its writes tell: a wrong count, or refused memory where no
--- entry asks for any.
-use Rattle.std.proofs.Common.{◌≡◌, ◌⊎◌, inl, inr, subst, alloc_error}
+-- A tree isn't stopped by a fault that neither its entries nor its writes tell: a wrong count, keys out of order, or refused
+-- memory where no entry asks for any.
+use Rattle.std.proofs.Common.{◌≡◌, ℕ, ◌⊎◌, inl, inr, subst, alloc_error}
 use Rattle.rkyv_btree_format.specs.Layout.{NodeLayout}
 use Rattle.rkyv_btree_shape.specs.Tree.{Child}
 use Rattle.rkyv_btree_writer.specs.Archiving.{Archival}
 use Rattle.rkyv_btree_writer.specs.Writing.{Writing}
 use Rattle.rkyv_btree_writer.specs.declared.fault.Fault.{Fault}
-use Rattle.rkyv_btree_writer.specs.declared.fault.Fault.TheVariants.{Length, Memory}
+use Rattle.rkyv_btree_writer.specs.declared.fault.Fault.TheVariants.{Length, Memory, OutOfOrder}
 use Rattle.rkyv_btree_writer.specs.declared.fault.IteratorLengthMismatch.{IteratorLengthMismatch}
 use Rattle.rkyv_btree_writer.specs.declared.fault.ResolveFault.{ResolveFault}
 use Rattle.rkyv_btree_writer.specs.declared.fault.ResolveFault.TheVariants as resolving
@@ -23,6 +23,10 @@ counted_apart : {X : Type 0} (m : IteratorLengthMismatch) (cause : ResolveFault)
 counted_apart m resolving.LengthOverflow e = absurd (cc e)
 counted_apart m resolving.OffsetOverflow e = absurd (cc e)
 
+ordered_apart : {X : Type 0} (index : ℕ) (cause : ResolveFault) → OutOfOrder index ≡ as_fault {E = X} cause → ⊥
+ordered_apart index resolving.LengthOverflow e = absurd (cc e)
+ordered_apart index resolving.OffsetOverflow e = absurd (cc e)
+
 module _ (X : Type 0) {M N R S : Type 0} (s : NodeLayout) (KA : Archival M R) (VA : Archival N S) (from : Writing) (c : Child (M × N)) (t : Writing) where
   -- a wrong count
   pub uncounted : (m : IteratorLengthMismatch) → ChildStopped s KA VA {E = X} from c (Length m) t → ⊥
@@ -35,6 +39,22 @@ module _ (X : Type 0) {M N R S : Type 0} (s : NodeLayout) (KA : Archival M R) (V
         value = λ x s t h. h;
         own_key = λ x r at cause e u. counted_apart {X = X} m cause e;
         own_value = λ x r at cause e u. counted_apart {X = X} m cause e;
+        write = λ s next t h. h;
+        position = λ e. absurd (cc e);
+      })
+      from c t h).4
+
+  -- keys out of order
+  pub unordered : (index : ℕ) → ChildStopped s KA VA {E = X} from c (OutOfOrder index) t → ⊥
+  unordered index h =
+      let fault : Fault X = OutOfOrder index in
+      neither
+      (child_told s KA VA fault (λ x. ⊥) (λ x. ⊥)
+      (record {
+        key = λ x s t h. h;
+        value = λ x s t h. h;
+        own_key = λ x r at cause e u. ordered_apart {X = X} index cause e;
+        own_value = λ x r at cause e u. ordered_apart {X = X} index cause e;
         write = λ s next t h. h;
         position = λ e. absurd (cc e);
       })

@@ -14,7 +14,7 @@ use Rattle.rkyv_btree_writer.specs.Archiving.{Archival, IsArchived, Matches, Ser
 use Rattle.rkyv_btree_writer.specs.Padding.{padding, zeros_write}
 use Rattle.rkyv_btree_writer.specs.Writing.{Writing, AllReach, Refused, Stopped, appended, position}
 use Rattle.rkyv_btree_writer.specs.declared.fault.Fault.{Fault}
-use Rattle.rkyv_btree_writer.specs.declared.fault.Fault.TheVariants.{Length, LengthOverflow, PositionOverflow, OffsetOverflow, Writer, Memory, Entry}
+use Rattle.rkyv_btree_writer.specs.declared.fault.Fault.TheVariants.{Length, LengthOverflow, PositionOverflow, OffsetOverflow, Writer, Memory, Entry, OutOfOrder}
 
 module _ {X R : Type 0} (T : Archival X R) (kind : Kind) (k : IsLawful kind) (same : Matches T.kind kind) (law : IsArchived T) (fits : IsTrue kind.is_fitting) where
   pub archive_of_placed : (x : X) (s t : Writing) (r : R) (at : ℕ) → Serialises T x fresh s r → IsPlaced T kind x r s at t → IsArchiveOf kind t.contents (same.to (T.meaning x))
@@ -72,6 +72,7 @@ module _ {X R E : Type 0} (T : Archival X R) (kind : Kind) (x : X) (r : R) (s : 
   unpadded_unplaced positive LengthOverflow t h = absurd h.refused
   unpadded_unplaced positive (Memory error) t h = tt
   unpadded_unplaced positive (Entry fault) t h = h.refused
+  unpadded_unplaced positive (OutOfOrder index) t h = h.refused
 
   pub unput_unplaced : (own : List ℕ) → length own ≡ kind.size → (m t : Writing) → position m ≡ round_up (position s) kind.align → (fault : Fault E) → ((reaches : Bool) → Refused fault m (record { bytes = own; reaches = reaches }) t) → IsUnplaced T kind x r (round_up (position s) kind.align) fault
   unput_unplaced own size m t at PositionOverflow h = omega (arith, (h true).1, size, at)
@@ -81,6 +82,7 @@ module _ {X R E : Type 0} (T : Archival X R) (kind : Kind) (x : X) (r : R) (s : 
   unput_unplaced own size m t at LengthOverflow h = absurd (h true)
   unput_unplaced own size m t at (Memory error) h = tt
   unput_unplaced own size m t at (Entry fault) h = h true
+  unput_unplaced own size m t at (OutOfOrder index) h = h true
 
 -- a refused write of the own bytes
 pub unput_unwritten : {X R E : Type 0} (T : Archival X R) (kind : Kind) (x : X) (r : R) (s t : Writing) (own : List ℕ) → T.Resolves x r (position s) own → (fault : Fault E) → ((reaches : Bool) → Refused fault s (record { bytes = own; reaches = reaches }) t) → IsUnwritten T kind x r s fault t
@@ -91,3 +93,4 @@ unput_unwritten T kind x r s t own resolved (Length mismatch) h = absurd (h true
 unput_unwritten T kind x r s t own resolved LengthOverflow h = absurd (h true)
 unput_unwritten T kind x r s t own resolved (Memory error) h = absurd (h true)
 unput_unwritten T kind x r s t own resolved (Entry fault) h = absurd (h true)
+unput_unwritten T kind x r s t own resolved (OutOfOrder index) h = absurd (h true)

@@ -15,7 +15,7 @@ use Rattle.rkyv_btree_image.specs.Entries.{now_of}
 use Rattle.rkyv_btree_image.specs.Written.{ChildWritten, ChildStopped}
 use Rattle.rkyv_btree_writer.specs.Writing.{Writing, position, Stopped, last_end}
 use Rattle.rkyv_btree_writer.specs.declared.fault.Fault.{Fault}
-use Rattle.rkyv_btree_writer.specs.declared.fault.Fault.TheVariants.{Length, LengthOverflow, PositionOverflow, OffsetOverflow, Writer, Memory, Entry}
+use Rattle.rkyv_btree_writer.specs.declared.fault.Fault.TheVariants.{Length, LengthOverflow, PositionOverflow, OffsetOverflow, Writer, Memory, Entry, OutOfOrder}
 
 -- what an item means
 abbrev pub meaning_of : {M N R S : Type 0} (K V : Kind) (KA : Archival M R) (VA : Archival N S) → Matches KA.kind K
@@ -90,6 +90,7 @@ module _ {M N R S P : Type 0} (K V : Kind) (E : ℕ) (KA : Archival M R) (VA : A
   BuildFault iter claim from (Writer error) t = StoppedBuilding iter claim from (Writer error) t
   BuildFault {X} iter claim from (Memory error) t = (t ≡ from) ⊎ StoppedBuilding {X = X} iter claim from (Memory error) t
   BuildFault {X} iter claim from (Entry fault) t = StoppedBuilding {X = X} iter claim from (Entry fault) t
+  BuildFault iter claim from (OutOfOrder index) t = ⊥
 
 module _ {M N R S P Q : Type 0} (K V : Kind) (E : ℕ) (KA : Archival M R) (VA : Archival N S)
     (steps : P → Option (Bor M × Bor N) → P → Type 0) (iter : P) (claim : ℕ) (state : Q → Writing) (before after : Q) where
@@ -110,3 +111,4 @@ RootFault {X} root len from OffsetOverflow t = Stopped {E = X} from (root_image 
 RootFault root len from (Writer error) t = Stopped from (root_image (position from) root len) (Writer error) t
 RootFault root len from (Memory error) t = ⊥
 RootFault root len from (Entry fault) t = ⊥
+RootFault root len from (OutOfOrder index) t = ⊥

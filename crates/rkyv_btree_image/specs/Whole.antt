@@ -6,7 +6,7 @@ use Rattle.rkyv_btree_writer.specs.Archiving.{Archival, IsUnresolved, Serialises
 use Rattle.rkyv_btree_writer.specs.Padding.{padding}
 use Rattle.rkyv_btree_writer.specs.Writing.{Writing, position, Failed, Wrote, Stopped, last_end}
 use Rattle.rkyv_btree_writer.specs.declared.fault.Fault.{Fault}
-use Rattle.rkyv_btree_writer.specs.declared.fault.Fault.TheVariants.{Length, LengthOverflow, PositionOverflow, OffsetOverflow, Writer, Memory, Entry}
+use Rattle.rkyv_btree_writer.specs.declared.fault.Fault.TheVariants.{Length, LengthOverflow, PositionOverflow, OffsetOverflow, Writer, Memory, Entry, OutOfOrder}
 use Rattle.rkyv_btree_writer.specs.declared.fault.ResolveFault.TheVariants as resolving
 
 -- where the own bytes stand
@@ -41,6 +41,7 @@ module _ {X R : Type 0} (T : Archival X R) (kind : Kind) where
   IsUnplaced x r at (Memory error) = Unit {0}
   IsUnplaced x r at (Length mismatch) = ⊥
   IsUnplaced x r at (Entry fault) = ⊥
+  IsUnplaced x r at (OutOfOrder index) = ⊥
 
   -- the own bytes aren't written at s: the writer has failed at them, or is as it was
   abbrev pub IsUnwritten : {E : Type 0} → X → R → Writing → Fault E → Writing → Type 0

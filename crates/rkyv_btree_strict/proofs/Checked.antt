@@ -8,7 +8,7 @@ use Rattle.rkyv_btree_base.specs.Refusal.{Refusal}
 use Rattle.rkyv_btree_base.specs.Refusal.TheVariants.{OutOfOrder}
 use Rattle.rkyv_btree_base.specs.Refusals.{RefusesMap}
 use Rattle.rkyv_btree_base.specs.Spells.{Accepted}
-use Rattle.rkyv_btree_strict.specs.Increasing.{Increasing, IsOutOfOrder}
+use Rattle.rkyv_btree_base.specs.Increasing.{Increasing, IsOutOfOrder}
 use Rattle.rkyv_btree_strict.specs.Strict.{RefusesStrict, no_map, out_of_order}
 use Rattle.rkyv_btree_view.specs.Map.{IsMap}
 

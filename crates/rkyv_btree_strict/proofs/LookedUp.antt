@@ -12,7 +12,7 @@ use Rattle.rkyv_btree_base.specs.Kind.{Kind}
 use Rattle.rkyv_btree_base.specs.Layout.{layout_of, key_at}
 use Rattle.rkyv_btree_base.specs.Read.{entry_at, map_tree, read_map}
 use Rattle.rkyv_btree_base.specs.Tree.{list}
-use Rattle.rkyv_btree_strict.specs.Increasing.{Increasing}
+use Rattle.rkyv_btree_base.specs.Increasing.{Increasing}
 use Rattle.rkyv_btree_view.specs.Lookup.{found_at, Only}
 use Rattle.rkyv_btree_view.specs.Query.{IsCut, ComparesAs}
 use Rattle.rkyv_btree_view.specs.laws.Increasing.{increasing_finds}

@@ -1,37 +1,16 @@
 -- Which lists increase, and which entry is the first out of order.
 use Rattle.std.proofs.Common.{◌≡◌, ℕ, suc, ◌+◌, List, [], ◌∷◌, ◌++◌, length, Option, Some, None, refl, sym, ap, ◌∙◌, subst, arith, append_assoc, length-append}
 use Rattle.std.specs.Cmp.{IsTotalOrder}
-use Rattle.std.specs.List.{AllByRecursion}
 use Rattle.std.specs.List.Sorted.{IsStrictlySortedBy}
-use Rattle.std.specs.Map.{keys_of}
 use Rattle.std.specs.Ordering.{match_ordering}
 use Rattle.std.specs.Prelude.{MatchOption}
 use Rattle.std.specs.declared.cmp.Ordering.{Ordering}
 use Rattle.std.specs.declared.cmp.Ordering.TheVariants.{Less, Equal, Greater}
-use Rattle.rkyv_btree_strict.specs.Increasing.{Increasing, EachIsGreater, IsOutOfOrder}
+use Rattle.rkyv_btree_base.proofs.Increasing.{alone, increasing_snoc, nothing}
+use Rattle.rkyv_btree_base.specs.Increasing.{Increasing, EachIsGreater, IsOutOfOrder}
 use Rattle.rkyv_btree_strict.specs.mirror.Order.{unordered_after, unordered}
 
--- what is less than a key is less than those that are greater than it
-less_than_all : {A : Type 0} {order : A → A → Ordering} (total : IsTotalOrder order) (x y : A) (ks : List A) → order x y ≡ Less → AllByRecursion (λ k. order y k ≡ Less) ks → AllByRecursion (λ k. order x k ≡ Less) ks
-less_than_all total x y [] less h = tt
-less_than_all total x y (k ∷ ks) less h = (total.trans x y k less h.0, less_than_all total x y ks less h.1)
-
-nothing : {A : Type 0} (B : Type 0) (order : A → A → Ordering) → Increasing {A = A} {B = B} order []
-unfolding IsStrictlySortedBy
-nothing B order = tt
-
 module _ {A B : Type 0} {order : A → A → Ordering} (total : IsTotalOrder order) where
-  all_snoc : (x : A) (front : List (A × B)) (last e : A × B) → AllByRecursion (λ k. order x k ≡ Less) (keys_of (front ++ last ∷ [])) → order last.0 e.0 ≡ Less
-      → AllByRecursion (λ k. order x k ≡ Less) (keys_of ((front ++ last ∷ []) ++ e ∷ []))
-  all_snoc x [] last e h less = (h.0, (total.trans x last.0 e.0 h.0 less, tt))
-  all_snoc x (f ∷ front) last e h less = (h.0, all_snoc x front last e h.1 less)
-
-  -- one more entry, with a greater key
-  increasing_snoc : (front : List (A × B)) (last e : A × B) → Increasing order (front ++ last ∷ []) → order last.0 e.0 ≡ Less → Increasing order ((front ++ last ∷ []) ++ e ∷ [])
-  unfolding IsStrictlySortedBy
-  increasing_snoc [] last e h less = ((less, tt), (tt, tt))
-  increasing_snoc (f ∷ front) last e h less = (all_snoc f.0 front last e h.0 less, increasing_snoc front last e h.1 less)
-
   joined : (front : List (A × B)) (last e : A × B) (m : List (A × B)) → (front ++ last ∷ []) ++ e ∷ m ≡ front ++ last ∷ e ∷ m
   joined front last e m = append_assoc front (last ∷ []) (e ∷ m)
 
@@ -45,19 +24,15 @@ module _ {A B : Type 0} {order : A → A → Ordering} (total : IsTotalOrder ord
         | Less ↦ λ less.
             let more : index + 1 ≡ length (front ++ last ∷ []) + 1 = omega (arith, length-append front (last ∷ [])) in
             subst (λ (l : List (A × B)). MatchOption (unordered_after order e.0 m (index + 1)) (Increasing order l) (IsOutOfOrder order l)) (joined front last e m)
-            (found_after (front ++ last ∷ []) e m (index + 1) (increasing_snoc front last e h less) more)
+            (found_after (front ++ last ∷ []) e m (index + 1) (increasing_snoc total front last e h less) more)
         | Equal ↦ λ is. record { front = front; before = last; entry = e; back = m; parts = refl; number = number; first = h; not_greater = λ less. cc }
         | Greater ↦ λ is. record { front = front; before = last; entry = e; back = m; parts = refl; number = number; first = h; not_greater = λ less. cc }
       ] refl
 
-  alone : (e : A × B) → Increasing order (e ∷ [])
-  unfolding IsStrictlySortedBy
-  alone e = (tt, tt)
-
   -- what it finds in a list
   pub found : (m : List (A × B)) → MatchOption (unordered order m) (Increasing order m) (IsOutOfOrder order m)
   found [] = nothing B order
-  found (e ∷ m) = found_after [] e m 1 (alone e) refl
+  found (e ∷ m) = found_after [] e m 1 (alone order e) refl
 
   -- in a list that increases each key is greater than the one before it
   less_next : (m front back : List (A × B)) (before e : A × B) → m ≡ front ++ before ∷ e ∷ back → Increasing order m → order before.0 e.0 ≡ Less

@@ -8,7 +8,7 @@ use Rattle.std.specs.Range.Bound.{bound_map}
 use Rattle.std.specs.declared.cmp.Ordering.{Ordering}
 use Rattle.std.specs.declared.ops.Bound.{Bound}
 use Rattle.std.specs.declared.ops.Bound.TheVariants.{Included, Excluded, Unbounded}
-use Rattle.rkyv_btree_strict.specs.Increasing.{Increasing}
+use Rattle.rkyv_btree_base.specs.Increasing.{Increasing}
 use Rattle.rkyv_btree_view.specs.Query.{IsCut}
 use Rattle.rkyv_btree_view.specs.Set.{KeysOrderedFor}
 use Rattle.rkyv_btree_view.specs.laws.Increasing.{increasing_ordered}

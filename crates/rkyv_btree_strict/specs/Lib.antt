@@ -1,5 +1,4 @@
 -- The definitions of maps and sets whose keys increase.
-pub mod Increasing
 pub mod Stays
 pub mod Strict
 pub mod mirror

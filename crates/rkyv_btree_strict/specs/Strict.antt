@@ -8,7 +8,7 @@ use Rattle.rkyv_btree_base.specs.Refusal.TheVariants.{OutOfOrder}
 use Rattle.rkyv_btree_base.specs.Refusals.{RefusesMap}
 use Rattle.rkyv_btree_base.specs.Spells.{Accepted}
 use Rattle.rkyv_btree_portable.specs.declared.check.Window.{Window}
-use Rattle.rkyv_btree_strict.specs.Increasing.{Increasing, IsOutOfOrder}
+use Rattle.rkyv_btree_base.specs.Increasing.{Increasing, IsOutOfOrder}
 use Rattle.rkyv_btree_view.specs.Map.{IsMap}
 use Rattle.rkyv_btree_walk.specs.Bounds.{is_from, is_to}
 

@@ -9,7 +9,7 @@ ghost use Rattle.rkyv_btree_base.specs.Scalars.{u16_kind, u32_kind, u64_kind, u8
 ghost use Rattle.rkyv_btree_base.specs.Text.{text_kind};
 ghost use Rattle.rkyv_btree_convert.specs.RoundTrip.{both_mean};
 ghost use Rattle.rkyv_btree_convert.specs.StdMaps.{OrdersAlike};
-ghost use Rattle.rkyv_btree_strict.specs.Increasing.{Increasing, EachIsGreater, IsOutOfOrder};
+ghost use Rattle.rkyv_btree_base.specs.Increasing.{Increasing, EachIsGreater, IsOutOfOrder};
 ghost use Rattle.rkyv_btree_strict.specs.Stays.{PutsKeepStrict, SetsKeepStrict, VisitsKeepStrict};
 
 use rkyv_btree_base::check::{InPlace, Portable};

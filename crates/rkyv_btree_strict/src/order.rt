@@ -1,7 +1,7 @@
 //! The order of a map's keys.
 ghost use Rattle.std.specs.Prelude.{◌≡◌, ◌↔◌, IsTrue, MatchOption};
 ghost use Rattle.std.specs.declared.cmp.Ordering.TheVariants.{Less};
-ghost use Rattle.rkyv_btree_strict.specs.Increasing.{Increasing, IsOutOfOrder};
+ghost use Rattle.rkyv_btree_base.specs.Increasing.{Increasing, IsOutOfOrder};
 ghost use Rattle.rkyv_btree_view.specs.View.{entries_of, reads};
 
 use rkyv_btree_base::check::Portable;

@@ -6,7 +6,7 @@ ghost use Rattle.rkyv_btree_base.specs.Refusal.{Refusal};
 ghost use Rattle.rkyv_btree_base.specs.Whole.{IsArchiveOf, own_at};
 ghost use Rattle.rkyv_btree_convert.specs.Whole.{IsUnopened};
 ghost use Rattle.rkyv_btree_portable.specs.declared.check.Window.{Window};
-ghost use Rattle.rkyv_btree_strict.specs.Increasing.{Increasing};
+ghost use Rattle.rkyv_btree_base.specs.Increasing.{Increasing};
 ghost use Rattle.rkyv_btree_strict.specs.Strict.{IsStrictIn, IsStrictMap, RefusesStrict};
 ghost use Rattle.rkyv_btree_view.specs.View.{entries_of};
 

@@ -7,7 +7,7 @@ ghost use Rattle.std.specs.Option.{option_map};
 ghost use Rattle.std.specs.Prelude.{◌≡◌, ◌↔◌, [], length, is_some, IsTrue, IsOk, IfOk, IfErr, Err, ℕ, ⊤};
 ghost use Rattle.std.specs.Range.Bound.{bound_map};
 ghost use Rattle.rkyv_btree_base.specs.Refusal.TheVariants.{OutOfOrder};
-ghost use Rattle.rkyv_btree_strict.specs.Increasing.{Increasing, IsOutOfOrder};
+ghost use Rattle.rkyv_btree_base.specs.Increasing.{Increasing, IsOutOfOrder};
 ghost use Rattle.rkyv_btree_strict.specs.Strict.{entries_within};
 ghost use Rattle.rkyv_btree_view.specs.Items.{ShowsAll};
 ghost use Rattle.rkyv_btree_view.specs.Lookup.{ByNative};

@@ -12,7 +12,7 @@ ghost use Rattle.rkyv_btree_base.specs.Refusal.{Refusal};
 ghost use Rattle.rkyv_btree_base.specs.Scalars.{unit_kind};
 ghost use Rattle.rkyv_btree_base.specs.Whole.{IsArchiveOf, own_at};
 ghost use Rattle.rkyv_btree_convert.specs.Whole.{IsUnopened};
-ghost use Rattle.rkyv_btree_strict.specs.Increasing.{Increasing};
+ghost use Rattle.rkyv_btree_base.specs.Increasing.{Increasing};
 ghost use Rattle.rkyv_btree_strict.specs.Strict.{keys_within, IsStrictMap, RefusesStrict};
 ghost use Rattle.rkyv_btree_view.specs.Items.{ShowsAll};
 ghost use Rattle.rkyv_btree_view.specs.Lookup.{ByNative};

@@ -10,7 +10,7 @@ use Rattle.rkyv_btree_writer.specs.Fields.{Field, FirstUnfit, HasLong}
 use Rattle.rkyv_btree_writer.specs.Writing.{Writing, position, Write, AllReach, appended, Stopped, Wrote, EndInReach}
 use Rattle.rkyv_btree_writer.specs.declared.fault.EntryFault.{EntryFault}
 use Rattle.rkyv_btree_writer.specs.declared.fault.Fault.{Fault}
-use Rattle.rkyv_btree_writer.specs.declared.fault.Fault.TheVariants.{Length, LengthOverflow, PositionOverflow, OffsetOverflow, Writer, Memory, Entry}
+use Rattle.rkyv_btree_writer.specs.declared.fault.Fault.TheVariants.{Length, LengthOverflow, PositionOverflow, OffsetOverflow, Writer, Memory, Entry, OutOfOrder}
 use Rattle.rkyv_btree_writer.specs.declared.fault.ResolveFault.{ResolveFault}
 
 -- the second kind's bytes mean what the first's do, and lie alike
@@ -82,6 +82,7 @@ IsUnserialised {X} {R} {E} T x s OffsetOverflow t = StopsIn {E = E} T x s Offset
 IsUnserialised T x s (Writer error) t = StopsIn T x s (Writer error) t
 IsUnserialised T x s (Memory error) t = T.Grows x × BeginsWith t s
 IsUnserialised T x s (Entry fault) t = T.Refuses x (position s) fault × BeginsWith t s
+IsUnserialised T x s (OutOfOrder index) t = ⊥
 
 -- values that lie in their own bytes alone, of which some may refuse themselves: nothing is written before
 abbrev pub own_archival : {X : Type 0} (kind : Kind) → (X → kind.Value) → (X → Type 0) → (X → List ℕ) → (X → ℕ → EntryFault → Type 0) → Archival X (Unit {0})

@@ -1,7 +1,7 @@
 -- Writers, and what writes leave.
 use Rattle.std.specs.Prelude.{◌≡◌, ℕ, ◌+◌, ◌%◌, ◌^◌, ◌<◌, ◌≤◌, ◌⊎◌, Bool, true, false, List, [], ◌∷◌, ◌++◌, length}
 use Rattle.rkyv_btree_writer.specs.declared.fault.Fault.{Fault}
-use Rattle.rkyv_btree_writer.specs.declared.fault.Fault.TheVariants.{Length, LengthOverflow, PositionOverflow, OffsetOverflow, Writer, Memory, Entry}
+use Rattle.rkyv_btree_writer.specs.declared.fault.Fault.TheVariants.{Length, LengthOverflow, PositionOverflow, OffsetOverflow, Writer, Memory, Entry, OutOfOrder}
 
 -- a writer: the position of its first byte, its bytes, and how many writes have failed, modulo 2 ^ 64
 pub record Writing : Type 0 where
@@ -65,6 +65,7 @@ Refused (Length mismatch) s next t = ⊥
 Refused LengthOverflow s next t = ⊥
 Refused (Memory error) s next t = ⊥
 Refused (Entry fault) s next t = ⊥
+Refused (OutOfOrder index) s next t = ⊥
 
 -- from state s some of the writes were made, and the next was refused
 pub record Stopped {E : Type 0} (s : Writing) (writes : List Write) (fault : Fault E) (t : Writing) : Type 0 where

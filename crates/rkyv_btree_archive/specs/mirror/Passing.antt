@@ -1,8 +1,8 @@
 -- What the builder does that takes a tree's entries one by one: the child that comes next, by the levels that it has above the
 -- tree's last one, and by the entries of the last level that are still to come.
-use Rattle.std.specs.Prelude.{◌≡◌, ℕ, suc, ◌+◌, ◌-◌, ◌*◌, ◌^◌, ◌<◌, ◌≤◌, ◌⊎◌, min, List, [], ◌∷◌, ◌++◌, length, map, Option}
+use Rattle.std.specs.Prelude.{◌≡◌, ℕ, suc, ◌+◌, ◌-◌, ◌*◌, ◌^◌, ◌<◌, ◌≤◌, ◌⊎◌, min, List, [], ◌∷◌, ◌++◌, length, map, Option, None}
 use Rattle.std.specs.Borrow.{Bor}
-use Rattle.std.specs.Iterator.{Yields, Drains}
+use Rattle.std.specs.Iterator.{Yields, YieldsThen}
 use Rattle.rkyv_btree_format.specs.Layout.{NodeLayout}
 use Rattle.rkyv_btree_shape.specs.Tree.{Child, child_list}
 use Rattle.rkyv_btree_shape.specs.mirror.Filled.{Filled, most, IsNext}
@@ -55,21 +55,21 @@ module _ {M N R S P : Type 0} (s : NodeLayout) (K : Archival M R) (V : Archival 
     pub stopped : (c : Child (M × N)) (later : List (M × N)) → IsNext s.E g left c
         → map now_of items ++ later ≡ child_list c → ChildStopped s K V from c fault to
 
-  -- its items came to an end, and its writing had begun, whatever its later entries would have been
-  pub record NextShort (g left : ℕ) (iter : P) (from : Writing) (count : ℕ) (to : Writing) : Type 0 where
+  -- its items came to an end, at a state of the iterator, and its writing had begun, whatever its later entries would have been
+  pub record NextShort (g left : ℕ) (iter : P) (from : Writing) (count : ℕ) (end : P) (to : Writing) : Type 0 where
     pub items : List (Bor M × Bor N)
-    pub all : Drains steps iter items
+    pub all : YieldsThen steps iter items None end
     pub counted : count ≡ length items
     pub few : length items + 1 < (s.E + 1) ^ g + min left (most s.E g)
     pub none : items ≡ [] → to ≡ from
     pub begun : (c : Child (M × N)) (later : List (M × N)) → IsNext s.E g left c → map now_of items ++ later ≡ child_list c → ChildBegun s K V from c to
 
   -- why it isn't written, where so many items had been taken before
-  abbrev pub NextFault : {X : Type 0} → ℕ → ℕ → ℕ → ℕ → P → Writing → Fault X → Writing → Type 0
-  NextFault claim before g left iter from fault to =
+  abbrev pub NextFault : {X : Type 0} → ℕ → ℕ → ℕ → ℕ → P → Writing → Fault X → P → Writing → Type 0
+  NextFault claim before g left iter from fault end to =
       NextStopped g left iter from fault to
       ⊎ ((m : IteratorLengthMismatch) × (count : ℕ) × (fault ≡ Length m) × (m.expected ≡ claim)
-      × (m.actual ≡ before + count) × NextShort g left iter from count to)
+      × (m.actual ≡ before + count) × NextShort g left iter from count end to)
 
 -- ---- the inner nodes that are open, the innermost first: the entries and the children of each that wait
 abbrev pub Frame : Type 0 → Type 0

@@ -2,6 +2,7 @@ use Rattle.std.proofs.Common.{◌+◌, ◌*◌, ◌-◌, ◌≤◌, length, vec_
 use Rattle.std.specs.Iterator.{IsFinite, size}
 use Rattle.rkyv_btree_format.specs.Layout.{layout_of}
 use Rattle.rkyv_btree_archive.specs.mirror.Scratch.{IsFree}
+use Rattle.rkyv_btree_archive.specs.mirror.Source.{Gives}
 use Rattle.rkyv_btree_archive.proofs.Stands.{Stands}
 use Rattle.rkyv_btree_writer.specs.Writing.{position, last_end}
 use Rattle.rkyv_btree_archive.proofs.tree.write_tree.Given as goal
@@ -10,16 +11,16 @@ abbrev pub invariant-loop-first : goal.invariant-loop-first
 invariant-loop-first g l =
     let E = g.row.E in
     record {
-      stands : Stands (layout_of g.K.Portable.kind g.V.Portable.kind E) g.KU.Archive.archival g.VU.Archive.archival g.I.Iterator.next_gives l.above l.fn.on_last l.fn.iter (g.W.Writer.state l.fn.writer)
-          l.levels l.left l.taken l.waiting.items l.children.items l.starts.items l.child l.iter (g.W.Writer.state l.writer);
+      stands : Stands (layout_of g.K.Portable.kind g.V.Portable.kind E) g.KU.Archive.archival g.VU.Archive.archival (Gives g.I.Iterator.next_gives g.L.Look.passes g.L.Look.stops) l.above l.fn.on_last l.fn.source (g.W.Writer.state l.fn.writer)
+          l.levels l.left l.taken l.waiting.items l.children.items l.starts.items l.child l.source (g.W.Writer.state l.writer);
       free : IsFree (layout_of g.K.Portable.kind g.V.Portable.kind E) l.scratch;
       waiting_room : E * l.above ≤ vec_capacity l.waiting;
       child_room : E * l.above ≤ vec_capacity l.children;
       start_room : l.above ≤ vec_capacity l.starts;
       leaf_room : E ≤ vec_capacity l.leaf;
-      can : g.I.Iterator.can_next l.iter;
-      ends : IsFinite (g.I.Iterator.remaining l.iter);
-      sized : size (g.I.Iterator.remaining l.iter) + l.taken ≤ size (g.I.Iterator.remaining l.fn.iter);
+      can : g.I.Iterator.can_next l.source.items;
+      ends : IsFinite (g.I.Iterator.remaining l.source.items);
+      sized : size (g.I.Iterator.remaining l.source.items) + l.taken ≤ size (g.I.Iterator.remaining l.fn.source.items);
       last : position (g.W.Writer.state l.writer) ≤ last_end;
     }
 

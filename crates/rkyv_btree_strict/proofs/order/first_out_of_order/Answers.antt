@@ -5,7 +5,7 @@ use Rattle.std.specs.Prelude.{MatchOption}
 use Rattle.std.specs.declared.cmp.Ordering.{Ordering}
 use Rattle.std.specs.declared.cmp.Ordering.TheVariants.{Less, Equal, Greater}
 use Rattle.rkyv_btree_strict.proofs.Ordered.{found}
-use Rattle.rkyv_btree_strict.specs.Increasing.{Increasing, IsOutOfOrder}
+use Rattle.rkyv_btree_base.specs.Increasing.{Increasing, IsOutOfOrder}
 use Rattle.rkyv_btree_strict.specs.mirror.Order.{unordered, unordered_after}
 use Rattle.rkyv_btree_view.specs.View.{entries_of}
 use Rattle.rkyv_btree_strict.proofs.order.first_out_of_order.Goals as goal

@@ -4,7 +4,7 @@ use Rattle.std.specs.Prelude.{Err}
 use Rattle.rkyv_btree_base.specs.Refusal.TheVariants.{OutOfOrder}
 use Rattle.rkyv_btree_strict.proofs.Checked.{increasing_there, only_for_order, only_of_map, out_there, read_there, widest}
 use Rattle.rkyv_btree_strict.proofs.Ordered.{not_both, one_index}
-use Rattle.rkyv_btree_strict.specs.Increasing.{Increasing, IsOutOfOrder}
+use Rattle.rkyv_btree_base.specs.Increasing.{Increasing, IsOutOfOrder}
 use Rattle.rkyv_btree_strict.specs.Strict.{no_map, out_of_order}
 use Rattle.rkyv_btree_base.specs.Layout.{are_fitting}
 use Rattle.rkyv_btree_view.specs.Map.{IsMap}

@@ -4,7 +4,7 @@ use Rattle.rkyv_btree_portable.specs.Rounding.{round_up}
 use Rattle.rkyv_btree_writer.specs.Padding.{padding}
 use Rattle.rkyv_btree_writer.specs.Writing.{Writing, Write, position, Appended, Wrote, Stopped}
 use Rattle.rkyv_btree_writer.specs.declared.fault.Fault.{Fault}
-use Rattle.rkyv_btree_writer.specs.declared.fault.Fault.TheVariants.{Length, LengthOverflow, PositionOverflow, OffsetOverflow, Writer, Memory, Entry}
+use Rattle.rkyv_btree_writer.specs.declared.fault.Fault.TheVariants.{Length, LengthOverflow, PositionOverflow, OffsetOverflow, Writer, Memory, Entry, OutOfOrder}
 use Rattle.rkyv_btree_writer.proofs.WriteRuns.{wrote-one, wrote-both, stopped-one, stopped-front, stopped-behind}
 use Rattle.rkyv_btree_image.specs.Image.{root_bytes, root_reaches, root_image}
 use Rattle.rkyv_btree_image.specs.Serialising.{RootFault}
@@ -32,6 +32,7 @@ padding_refused root len s t (Length mismatch) h = absurd h.refused
 padding_refused root len s t LengthOverflow h = absurd h.refused
 padding_refused root len s t (Memory error) h = absurd h.refused
 padding_refused root len s t (Entry fault) h = absurd h.refused
+padding_refused root len s t (OutOfOrder index) h = absurd h.refused
 
 too_late : (pos at size : ℕ) → pos ≡ at → 4294967295 - 8 < pos → size ≡ 8 → 4294967295 < at + size
 too_late pos at size is late eight = omega arith

@@ -1,0 +1,120 @@
+-- Nothing is built of no items, and a tree of some.
+use Rattle.std.proofs.Common.{◌≡◌, ℕ, ◌+◌, ◌<◌, ◌≤◌, List, [], length, map, take, Bor, Option, None, inl, refl, sym, ◌∙◌, subst, arith}
+use Rattle.std.specs.Iterator.{YieldsThen}
+use Rattle.std.proofs.lemmas.Result.{on_ok_weaker}
+use Rattle.rkyv_btree_image.proofs.Kept.{same_begins, went_nowhere}
+use Rattle.rkyv_btree_image.proofs.SmallestMaps.{builds_none}
+use Rattle.rkyv_btree_portable.specs.Kind.{Kind}
+use Rattle.rkyv_btree_format.specs.Layout.{layout_of}
+use Rattle.rkyv_btree_shape.specs.Plan.{planned_alone}
+use Rattle.rkyv_btree_writer.specs.Archiving.{Archival}
+use Rattle.rkyv_btree_writer.specs.Writing.{Writing}
+use Rattle.rkyv_btree_image.specs.Entries.{now_of}
+use Rattle.rkyv_btree_image.specs.Written.{ChildWritten}
+use Rattle.rkyv_btree_archive.specs.mirror.Ended.{CountsTo}
+use Rattle.rkyv_btree_archive.specs.mirror.Source.{Gives}
+use Rattle.rkyv_btree_archive.proofs.build.build_from.Goals as goal
+
+-- where none is claimed, items are too many
+uncalled : {M N R S P : Type 0} (K V : Kind) (E : ℕ) (KA : Archival M R) (VA : Archival N S) (steps : P → Option (Bor M × Bor N) → P → Type 0) (iter end : P) (claim expected actual : ℕ) (from : Writing) (left : List (Bor M × Bor N)) →
+    claim ≡ 0 → YieldsThen steps iter left None end → expected ≡ 0 → 0 < actual → actual ≡ 0 + length left → CountsTo K V E KA VA steps iter end claim expected actual from from
+uncalled K V E KA VA steps iter end claim expected actual from left zero all none some counted = (
+  record {
+    items = left;
+    all = (end, all);
+    differs = λ e. omega (arith, zero, some, counted, e);
+    claimed = none ∙ sym zero;
+    counted = omega (arith, counted);
+    none = λ empty. refl;
+    few = λ some less. absurd (omega (arith, zero, less));
+    many = λ more. (None, subst (λ n. ChildWritten (layout_of K V E) KA VA from (planned_alone E (map now_of (take n left))) None from) (sym zero) (refl, refl));
+  },
+  refl,
+)
+
+in_time : (n : ℕ) → n ≤ 4294967295 → 4294967295 < n → ⊥
+in_time n few late = omega arith
+
+pub returns-then-len-clause-err : goal.returns-then-len-clause-err
+returns-then-len-clause-err g c = inl (omega arith, refl)
+
+pub returns-clause-err : goal.returns-clause-err
+returns-clause-err g c = c.build_some.ensures.err
+
+pub returns-then-len-eq0-clause-ok : goal.returns-then-len-eq0-clause-ok
+returns-then-len-eq0-clause-ok g c =
+    builds_none g.K.Portable.kind g.V.Portable.kind g.row.E g.met.K.Portable.laws g.met.V.Portable.laws c.requires.fitting
+    g.KU.Archive.archival g.VU.Archive.archival g.met.KU.Archive.archived g.met.VU.Archive.archived
+    (Gives g.I.Iterator.next_gives g.L.Look.passes g.L.Look.stops) c.args.source.now c.args.len g.W.Writer.state c.args.writer.now [] (c.none_left.new.source, c.in_default.ensures.ok) (omega arith) refl
+
+pub returns-clause-ok : goal.returns-clause-ok
+returns-clause-ok g c = c.build_some.ensures.ok
+
+pub returns-clause-end : goal.returns-clause-end
+returns-clause-end g c = on_ok_weaker c.build_some.result (λ done some. done) c.build_some.ensures.end
+
+pub returns-clause-went : goal.returns-clause-went
+returns-clause-went g c = c.build_some.ensures.went
+
+pub returns-clause-kept : goal.returns-clause-kept
+returns-clause-kept g c = c.build_some.ensures.kept
+
+pub returns-clause-memory : goal.returns-clause-memory
+returns-clause-memory g c = c.build_some.ensures.memory
+
+pub returns-clause-past : goal.returns-clause-past
+returns-clause-past g c = λ late. absurd (in_time c.args.len c.if-len.false late)
+
+pub returns-clause-past_kept : goal.returns-clause-past_kept
+returns-clause-past_kept g c = λ late. absurd (in_time c.args.len c.if-len.false late)
+
+pub returns-then-len-clause-kept : goal.returns-then-len-clause-kept
+returns-then-len-clause-kept g c = same_begins (g.W.Writer.state c.args.writer.now) (g.W.Writer.state c.args.writer.now) refl
+
+pub returns-then-len-clause-memory : goal.returns-then-len-clause-memory
+returns-then-len-clause-memory g c = λ keys values memory. refl
+
+pub returns-then-len-clause-past : goal.returns-then-len-clause-past
+returns-then-len-clause-past g c = λ late. refl
+
+pub returns-then-len-clause-past_kept : goal.returns-then-len-clause-past_kept
+returns-then-len-clause-past_kept g c = λ late. refl
+
+pub returns-then-len-clause-none_kept : goal.returns-then-len-clause-none_kept
+returns-then-len-clause-none_kept g c = λ none. refl
+
+pub returns-in-Err-clause-kept : goal.returns-in-Err-clause-kept
+returns-in-Err-clause-kept g c = same_begins (g.W.Writer.state c.args.writer.now) (g.W.Writer.state c.args.writer.now) refl
+
+pub returns-in-Err-clause-memory : goal.returns-in-Err-clause-memory
+returns-in-Err-clause-memory g c = λ keys values memory. refl
+
+pub returns-in-Err-clause-past : goal.returns-in-Err-clause-past
+returns-in-Err-clause-past g c = λ late. absurd (in_time c.args.len c.if-len.false late)
+
+pub returns-in-Err-clause-past_kept : goal.returns-in-Err-clause-past_kept
+returns-in-Err-clause-past_kept g c = λ late. refl
+
+pub returns-in-Err-clause-none_kept : goal.returns-in-Err-clause-none_kept
+returns-in-Err-clause-none_kept g c = λ none. refl
+
+pub returns-then-len-eq0-clause-went : goal.returns-then-len-eq0-clause-went
+returns-then-len-eq0-clause-went g c = went_nowhere (g.W.Writer.state c.args.writer.now) (g.W.Writer.state c.args.writer.now) refl
+
+pub returns-then-len-eq0-clause-memory : goal.returns-then-len-eq0-clause-memory
+returns-then-len-eq0-clause-memory g c = λ keys values memory. refl
+
+pub returns-then-len-eq0-clause-past : goal.returns-then-len-eq0-clause-past
+returns-then-len-eq0-clause-past g c = λ late. absurd (in_time c.args.len c.if-len.false late)
+
+pub returns-then-len-eq0-clause-past_kept : goal.returns-then-len-eq0-clause-past_kept
+returns-then-len-eq0-clause-past_kept g c = λ late. refl
+
+pub returns-then-len-eq0-clause-none_kept : goal.returns-then-len-eq0-clause-none_kept
+returns-then-len-eq0-clause-none_kept g c = λ none. refl
+
+pub returns-in-Err-clause-err : goal.returns-in-Err-clause-err
+returns-in-Err-clause-err g c =
+    let left = c.in-Err.ensures.actual in
+    uncalled g.K.Portable.kind g.V.Portable.kind g.row.E g.KU.Archive.archival g.VU.Archive.archival (Gives g.I.Iterator.next_gives g.L.Look.passes g.L.Look.stops) c.args.source.now c.none_left.new.source c.args.len _ _ (g.W.Writer.state c.args.writer.now) left.0
+    c.if-len-eq0.true left.1 c.in-Err.ensures.expected c.in-Err.ensures.more left.2

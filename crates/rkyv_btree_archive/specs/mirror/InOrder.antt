@@ -1,0 +1,26 @@
+-- How keys pass that must increase, as the code tests them.
+use Rattle.std.specs.Prelude.{◌≡◌, ℕ, ◌+◌, ◌<◌, ◌⊎◌, true, Option, Some, IfSome, MatchOption}
+use Rattle.std.specs.Borrow.{Bor}
+use Rattle.std.specs.declared.cmp.Ordering.{Ordering}
+use Rattle.std.specs.declared.cmp.Ordering.TheVariants.{Less}
+use Rattle.rkyv_btree_writer.specs.declared.fault.Fault.{Fault}
+use Rattle.rkyv_btree_writer.specs.declared.fault.Fault.TheVariants.{Length, OutOfOrder}
+use Rattle.rkyv_btree_archive.specs.declared.strict.InOrder.{InOrder}
+
+module _ {M : Type 0} (order : M → M → Ordering) where
+  -- the item is claimed, and its key greater than the last one; or it isn't claimed
+  abbrev pub IsNext : InOrder M → Bor M → InOrder M → Type 0
+  IsNext s key t =
+      (t.stopped ≡ s.stopped)
+      × (((s.left ≡ t.left + 1) × (t.last ≡ Some key) × IfSome s.last (λ last. order last.now key.now ≡ Less))
+      ⊎ ((s.left ≡ 0) × (t.left ≡ 0) × (t.last ≡ s.last)))
+
+  -- the item is claimed, and its key isn't greater than the last one
+  abbrev pub IsNotNext : InOrder M → Bor M → InOrder M → Type 0
+  IsNotNext s key t =
+      (0 < s.left) × MatchOption s.last ⊥ (λ last. ¬ (order last.now key.now ≡ Less)) × (t.stopped ≡ true)
+
+-- the fault of a source that was stopped by a key: where items were missing, one was out of order
+abbrev pub met_out_of_order : {X : Type 0} → Fault X → Fault X
+met_out_of_order (Length m) = OutOfOrder m.actual
+met_out_of_order fault = fault
