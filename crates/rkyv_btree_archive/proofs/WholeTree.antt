@@ -25,7 +25,7 @@ use Rattle.rkyv_btree_image.specs.Kept.{NeverGrows}
 use Rattle.rkyv_btree_image.proofs.Begun.{untouched}
 use Rattle.rkyv_btree_image.proofs.Building.{some_claimed}
 use Rattle.rkyv_btree_image.proofs.Kept.{same_begins, went_begins}
-use Rattle.rkyv_btree_image.specs.Serialising.{BeginClaimed, Miscounted, StoppedBuilding, BuildFault}
+use Rattle.rkyv_btree_image.specs.Serialising.{BeginClaimed, StoppedBuilding, BuildFault}
 use Rattle.rkyv_btree_image.specs.Written.{NodeWritten, NodeStopped, ChildWritten, ChildStopped}
 use Rattle.rkyv_btree_image.proofs.Untold.{uncounted, unordered, unasked}
 use Rattle.rkyv_btree_image.proofs.TreesKept.{stops_begin, begun_went}

@@ -1,5 +1,5 @@
 //! The archived set: the map of its keys in which each value is `()`. Its calls are the map's.
-ghost use Rattle.std.specs.Prelude.{◌≡◌, ◌<◌, ◌≤◌, ◌↔◌, true, length, alloc_error, IsOk, OnOk, OnErr, IfOk, IfErr, IsErrOf, IsTrue, Ok, Err};
+ghost use Rattle.std.specs.Prelude.{◌≡◌, ℕ, ◌<◌, ◌≤◌, ◌↔◌, true, length, alloc_error, IsOk, OnOk, OnErr, IfOk, IfErr, IsErrOf, IsTrue, Ok, Err};
 ghost use Rattle.std.specs.Iterator.{UpTo};
 ghost use Rattle.std.specs.Option.{option_map};
 ghost use Rattle.rkyv_btree_writer.specs.Archiving.{BeginsWith};
@@ -9,6 +9,7 @@ ghost use Rattle.rkyv_btree_image.specs.OneTree.{BuildsOneTreeSet};
 ghost use Rattle.rkyv_btree_image.specs.Serialising.{RootFault};
 ghost use Rattle.rkyv_btree_image.specs.Sets.{BuildsSet, FailsToBuildSet};
 ghost use Rattle.rkyv_btree_image.specs.SmallestMaps.{BuildsSmallestSet};
+ghost use Rattle.rkyv_btree_image.specs.StrictBuilding.{BuildsSetInOrder, FailsSetInOrder};
 ghost use Rattle.rkyv_btree_format.specs.Layout.{are_fitting};
 ghost use Rattle.rkyv_btree_portable.specs.Rounding.{round_up};
 ghost use Rattle.rkyv_btree_portable.specs.Scalars.{unit_kind};
@@ -140,8 +141,71 @@ impl<K: Portable, const E: usize> ArchivedBTreeSet<K, E> {
         // With a declared length of 0 the only error is a wrong count, and nothing is written.
         ensures none { len ≡ 0 → IfErr result IsMiscount }
         ensures none_kept { len ≡ 0 → W.state writer.new ≡ W.state writer.old }
+        // Keys in any order are serialized: no error is `OutOfOrder`.
+        ensures any_order { (index : ℕ) → IsErrOf result (Fault.OutOfOrder index) → ⊥ }
     {
         ArchivedBTreeMap::<K, (), E>::serialize_from_ordered_iter::<KU, (), W, A, _>(
+            alloc,
+            len,
+            iter.map(|key| with_unit(key)),
+            writer,
+        )
+    }
+
+    /// Serializes the items of an iterator, which must increase, as the tree of a set, and returns the position of its root node.
+    /// `len` is the declared number of items. It is the map's call with a `()` for each key.
+    ///
+    /// # Errors
+    ///
+    /// Those of `serialize_from_ordered_iter`, and `Fault::OutOfOrder` with the index of the first item that isn't greater than the
+    /// item before it.
+    pub fn serialize_strict_from_ordered_iter<'x, KU, W, A, I>(
+        alloc: A,
+        len: usize,
+        iter: I,
+        writer: &mut W,
+    ) -> Result<BTreeSetResolver, Fault<W::Error>>
+    where
+        KU: Archive<Archived = K> + Serialize<W, A> + Ord + 'x,
+        W: Writer,
+        A: Allocator + Copy,
+        I: Iterator<Item = &'x KU>,
+        requires fitting { IsTrue (are_fitting K.kind unit_kind E) }
+        requires can { I.can_next iter }
+        requires ends { UpTo (I.remaining iter) 18446744073709551615 }
+        // The tree of the keys was written, and they increase.
+        ensures ok { IfOk result
+            (BuildsSetInOrder KU.cmp K.kind E KU.archival I.next_gives iter len
+            W.state writer.old writer.new) }
+        // With the set after it, the tree is accepted, and means the keys. No accepted set with as many keys has fewer nodes,
+        // node bytes or levels.
+        ensures smallest { IfOk result
+            (BuildsSmallestSet K.kind E KU.archival I.next_gives iter len
+            W.state writer.old writer.new) }
+        // The tree is the one left-complete tree of the keys, and what was appended is its image.
+        ensures one_tree { IfOk result
+            (BuildsOneTreeSet K.kind E KU.archival I.next_gives iter len
+            W.state writer.old writer.new) }
+        // Each error's cause is there, and no key before it is out of order.
+        ensures err { IfErr result
+            (FailsSetInOrder KU.cmp K.kind E KU.archival I.next_gives iter len
+            W.state writer.old writer.new) }
+        ensures end { OnOk result (0 < len → position (W.state writer.new) ≤ last_end) }
+        // On success no write has failed, and bytes were only appended.
+        ensures went { OnOk result (OnlyAppended (W.state writer.old) (W.state writer.new)) }
+        // After any error the contents begin with the old ones.
+        ensures kept { OnErr result (BeginsWith (W.state writer.new) (W.state writer.old)) }
+        // After an error of memory the writer is unchanged, if serializing a key takes no memory.
+        ensures memory { NeverGrows KU.archival →
+            IsErrOf result (Fault.Memory alloc_error) → W.state writer.new ≡ W.state writer.old }
+        // A length past 32 bits is always the error `LengthOverflow`, and nothing is written.
+        ensures past { last_end < len → IsErrOf result Fault.LengthOverflow }
+        ensures past_kept { last_end < len → W.state writer.new ≡ W.state writer.old }
+        // With a declared length of 0 the only error is a wrong count, and nothing is written.
+        ensures none { len ≡ 0 → IfErr result IsMiscount }
+        ensures none_kept { len ≡ 0 → W.state writer.new ≡ W.state writer.old }
+    {
+        ArchivedBTreeMap::<K, (), E>::serialize_strict_from_ordered_iter::<KU, (), W, A, _>(
             alloc,
             len,
             iter.map(|key| with_unit(key)),

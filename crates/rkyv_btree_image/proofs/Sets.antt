@@ -2,6 +2,9 @@
 use Rattle.std.proofs.Common.{◌≡◌, ℕ, List, [], ◌∷◌, map, Bor, Option, Some, None, refl, sym, ap, subst, ◌∙◌}
 use Rattle.std.specs.Fn.{Mut, Called}
 use Rattle.std.specs.Iterator.{Yields, Drains}
+use Rattle.std.specs.List.Sorted.{IsStrictlySortedBy}
+use Rattle.std.specs.Map.{keys_of}
+use Rattle.std.specs.declared.cmp.Ordering.{Ordering}
 use Rattle.std.specs.Iterator.Adapters.{map_source, map_callee, map_steps}
 use Rattle.std.specs.declared.iter.Map.{Map}
 use Rattle.std.proofs.lemmas.List.{length-map}
@@ -10,9 +13,10 @@ use Rattle.rkyv_btree_portable.specs.Kind.{Kind}
 use Rattle.rkyv_btree_portable.specs.Scalars.{unit_kind}
 use Rattle.rkyv_btree_format.specs.Layout.{layout_of}
 use Rattle.rkyv_btree_image.specs.Serialising.{meaning_of, Built, Spelled, Serialised, BuildFault}
+use Rattle.rkyv_btree_image.specs.StrictBuilding.{SerialisedInOrder, StrictFault, BuildsSetInOrder}
 use Rattle.rkyv_btree_image.specs.Sets.{unit_archival, entries_by, BuildsSet}
 use Rattle.rkyv_btree_image.specs.Entries.{now_of}
-use Rattle.rkyv_btree_image.proofs.Within.{drains_within, fault_within}
+use Rattle.rkyv_btree_image.proofs.Within.{drains_within, fault_within, strict_within}
 use Rattle.rkyv_btree_writer.specs.Writing.{Writing}
 use Rattle.rkyv_btree_writer.specs.declared.fault.Fault.{Fault}
 
@@ -57,3 +61,15 @@ module _ {M R P F : Type 0} (K : Kind) (E : ℕ) (KA : Archival M R) (steps : P 
   -- and what stops the one stops the other
   pub set_refused : {X : Type 0} (from : Writing) (fault : Fault X) (t : Writing) → BuildFault K unit_kind E KA unit_archival (map_steps steps call) iter claim from fault t → BuildFault K unit_kind E KA unit_archival (entries_by steps) (map_source iter) claim from fault t
   set_refused from fault t h = fault_within K unit_kind E KA unit_archival (map_steps steps call) (entries_by steps) map_source (mapped steps call gives) iter claim from fault t h
+
+  -- the same where keys must increase
+  pub set_built_in_order : {Q : Type 0} (order : M → M → Ordering) (state : Q → Writing) (before after : Q) (root : ℕ) → SerialisedInOrder order K unit_kind E KA unit_archival (map_steps steps call) iter claim (state before) root (state after) → BuildsSetInOrder order K E KA steps (map_source iter) claim state before after root
+  unfolding set_built
+  set_built_in_order order state before after root h = (set_built state before after root h.0, subst (λ (ks : List M). IsStrictlySortedBy order ks) (sym (keys_now h.0.items)) h.1)
+    where
+      keys_now : (items : List (Bor M × Bor (Unit {0}))) → map (λ k. k.now) (map (λ e. e.0) items) ≡ keys_of (map now_of items)
+      keys_now [] = refl
+      keys_now (e ∷ items) = ap (λ (ks : List M). e.0.now ∷ ks) (keys_now items)
+
+  pub set_refused_in_order : {X : Type 0} (order : M → M → Ordering) (from : Writing) (fault : Fault X) (t : Writing) → StrictFault order K unit_kind E KA unit_archival (map_steps steps call) iter claim from fault t → StrictFault order K unit_kind E KA unit_archival (entries_by steps) (map_source iter) claim from fault t
+  set_refused_in_order order from fault t h = strict_within K unit_kind E KA unit_archival (map_steps steps call) (entries_by steps) map_source (mapped steps call gives) iter claim order from fault t h

@@ -1,11 +1,13 @@
 -- What is built of an iterator whose calls are those of another one in it is built of that one.
-use Rattle.std.proofs.Common.{◌≡◌, ℕ, List, [], ◌∷◌, Bor, Option, inl, inr, ap}
+use Rattle.std.proofs.Common.{ℕ, List, [], ◌∷◌, Bor, Option, inl, inr, ap}
 use Rattle.std.specs.Iterator.{Yields, Drains}
+use Rattle.std.specs.declared.cmp.Ordering.{Ordering}
 use Rattle.rkyv_btree_portable.specs.Kind.{Kind}
 use Rattle.rkyv_btree_writer.specs.Archiving.{Archival}
 use Rattle.rkyv_btree_writer.specs.Writing.{Writing}
 use Rattle.rkyv_btree_writer.specs.declared.fault.Fault.{Fault}
 use Rattle.rkyv_btree_writer.specs.declared.fault.Fault.TheVariants.{Length, LengthOverflow, PositionOverflow, OffsetOverflow, Writer, Memory, Entry, OutOfOrder}
+use Rattle.rkyv_btree_image.specs.StrictBuilding.{StoppedInOrder, StrictFault}
 use Rattle.rkyv_btree_image.specs.Serialising.{Serialised, StoppedBuilding, Miscounted, BuildFault}
 
 module _ {S P A : Type 0} (outer : S → Option A → S → Type 0) (inner : P → Option A → P → Type 0) (within : S → P) (each : (s : S) (item : Option A) (t : S) → outer s item t → inner (within s) item (within t)) where
@@ -36,3 +38,28 @@ module _ {M N R S P Q : Type 0} (K V : Kind) (E : ℕ) (KA : Archival M R) (VA :
   fault_within {X} from (Memory error) t h = elim h [ inl none ↦ inl none | inr stopped ↦ inr (stopped_within {X = X} from (Memory error) t stopped) ]
   fault_within {X} from (Entry fault) t h = stopped_within {X = X} from (Entry fault) t h
   fault_within from (OutOfOrder index) t h = absurd h
+
+  -- and where keys must increase
+  module _ (order : M → M → Ordering) where
+    stopped_in_order_within : {X : Type 0} (from : Writing) (fault : Fault X) (t : Writing) → StoppedInOrder order K V E KA VA outer iter claim from fault t → StoppedInOrder order K V E KA VA inner (within iter) claim from fault t
+    unfolding stopped_within
+    stopped_in_order_within from fault t h = (stopped_within from fault t h.0, h.1)
+
+    pub strict_within : {X : Type 0} (from : Writing) (fault : Fault X) (t : Writing) → StrictFault order K V E KA VA outer iter claim from fault t → StrictFault order K V E KA VA inner (within iter) claim from fault t
+    unfolding miscounted_within
+    strict_within from (Length m) t h = (miscounted_within m.expected m.actual from t h.0, h.1)
+    strict_within {X} from LengthOverflow t h = elim h [ inl past ↦ inl past | inr stopped ↦ inr (stopped_in_order_within {X = X} from LengthOverflow t stopped) ]
+    strict_within {X} from PositionOverflow t h = stopped_in_order_within {X = X} from PositionOverflow t h
+    strict_within {X} from OffsetOverflow t h = stopped_in_order_within {X = X} from OffsetOverflow t h
+    strict_within from (Writer error) t h = stopped_in_order_within from (Writer error) t h
+    strict_within {X} from (Memory error) t h = elim h [ inl none ↦ inl none | inr stopped ↦ inr (stopped_in_order_within {X = X} from (Memory error) t stopped) ]
+    strict_within {X} from (Entry fault) t h = stopped_in_order_within {X = X} from (Entry fault) t h
+    strict_within from (OutOfOrder index) t h = record {
+      items = h.items;
+      rest = within h.rest;
+      taken = yields_within outer inner within each iter h.items h.rest h.taken;
+      claimed = h.claimed;
+      last = h.last;
+      out = h.out;
+      begun = h.begun;
+    }

@@ -2,8 +2,10 @@
 use Rattle.std.specs.Prelude.{◌≡◌, ℕ, ◌+◌, ◌<◌, ◌⊎◌, List, length, map, take, Option}
 use Rattle.std.specs.Borrow.{Bor}
 use Rattle.std.specs.Iterator.{Yields}
+use Rattle.std.specs.List.Sorted.{IsStrictlySortedBy}
 use Rattle.std.specs.declared.cmp.Ordering.{Ordering}
 use Rattle.rkyv_btree_portable.specs.Kind.{Kind}
+use Rattle.rkyv_btree_portable.specs.Scalars.{unit_kind}
 use Rattle.rkyv_btree_format.specs.Layout.{layout_of}
 use Rattle.rkyv_btree_shape.specs.Plan.{planned_alone}
 use Rattle.rkyv_btree_writer.specs.Archiving.{Archival}
@@ -13,6 +15,7 @@ use Rattle.rkyv_btree_writer.specs.declared.fault.Fault.TheVariants.{Length, Len
 use Rattle.rkyv_btree_image.specs.Begun.{ChildBegun}
 use Rattle.rkyv_btree_image.specs.Entries.{now_of}
 use Rattle.rkyv_btree_image.specs.Increasing.{Increasing, IsOutOfOrder}
+use Rattle.rkyv_btree_image.specs.Sets.{unit_archival, entries_by, BuildsSet}
 use Rattle.rkyv_btree_image.specs.Serialising.{BeginClaimed, Serialised, StoppedBuilding, Miscounted}
 
 module _ {M N R S P : Type 0} (order : M → M → Ordering) (K V : Kind) (E : ℕ) (KA : Archival M R) (VA : Archival N S)
@@ -60,3 +63,14 @@ module _ {M N R S P Q : Type 0} (order : M → M → Ordering) (K V : Kind) (E :
   -- a fault stopped it
   abbrev pub FailsInOrder : {X : Type 0} → Fault X → Type 0
   FailsInOrder fault = StrictFault order K V E KA VA steps iter claim (state before) fault (state after)
+
+module _ {M R P Q : Type 0} (order : M → M → Ordering) (K : Kind) (E : ℕ) (KA : Archival M R) (steps : P → Option (Bor M) → P → Type 0)
+    (iter : P) (claim : ℕ) (state : Q → Writing) (before after : Q) where
+  -- the tree of the keys, each with a (), was built, and they increase
+  abbrev pub BuildsSetInOrder : ℕ → Type 0
+  BuildsSetInOrder root =
+      (b : BuildsSet K E KA steps iter claim state before after root) × IsStrictlySortedBy order (map (λ k. k.now) b.keys)
+
+  -- a fault stopped that of the map whose entries come by these keys
+  abbrev pub FailsSetInOrder : {X : Type 0} → Fault X → Type 0
+  FailsSetInOrder fault = FailsInOrder order K unit_kind E KA unit_archival (entries_by steps) iter claim state before after fault

@@ -1,5 +1,5 @@
 -- What was built of a list is the smallest of its maps.
-use Rattle.std.proofs.Common.{◌<◌, ⊎_elim}
+use Rattle.std.proofs.Common.{⊎_elim}
 use Rattle.std.proofs.lemmas.Bool.{cases_lt}
 use Rattle.std.proofs.lemmas.Result.{IfOk-weaker, IfErr-weaker}
 use Rattle.rkyv_btree_format.proofs.Sizes.{room_of}
