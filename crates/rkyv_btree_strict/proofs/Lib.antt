@@ -4,3 +4,4 @@ pub mod LookedUp
 pub mod Ordered
 pub mod Stays
 pub mod Within
+pub mod Migrated

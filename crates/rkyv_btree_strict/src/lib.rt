@@ -2,6 +2,7 @@
 #![tactic(auto)]
 
 pub mod laws;
+pub mod migrate;
 mod order;
 pub mod strict;
 pub mod strict_map;

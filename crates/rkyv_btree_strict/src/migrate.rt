@@ -1,0 +1,76 @@
+//! Archives whose keys are in any order, made anew so that they increase.
+ghost use Rattle.std.specs.Prelude.{◌≡◌, ℕ, ◌≤◌, IsTrue, IsErrOf, OnOk, OnErr, IfOk, IfErr};
+ghost use Rattle.rkyv_btree_base.specs.Archiving.{BeginsWith};
+ghost use Rattle.rkyv_btree_base.specs.Kept.{OnlyAppended};
+ghost use Rattle.rkyv_btree_base.specs.Layout.{are_fitting};
+ghost use Rattle.rkyv_btree_base.specs.Writing.{position, last_end};
+ghost use Rattle.rkyv_btree_convert.specs.Maps.{native_map, told_both};
+ghost use Rattle.rkyv_btree_strict.specs.Migrated.{FailsToMigrate, Migrates, MigratesToStrict};
+
+use rkyv_btree_base::archive::{Archive, Serialize};
+use rkyv_btree_base::build::written_maps_are_held;
+use rkyv_btree_base::fault::Fault;
+use rkyv_btree_base::map::ArchivedBTreeMap;
+use rkyv_btree_base::place::Writer;
+use rkyv_btree_convert::deserialize::{Deserialize, DeserializeFault};
+use rkyv_btree_convert::key::DeserializeKey;
+use rkyv_btree_view::view::View;
+use std::alloc::Global;
+use std::collections::BTreeMap;
+
+/// Deserializes a map and serializes the native map, whose keys increase, with the root behind it. Returns the root's position.
+/// Of entries with equal keys the last value remains. A map that is a value is made anew too.
+///
+/// # Errors
+///
+/// `Fault::Entry` if a key or value can't be deserialized, `Fault::Memory` if an allocation fails, and those of serializing. No
+/// error is `OutOfOrder`. After an error the writer's contents begin with the old ones.
+pub fn migrate<T, U, K, V, W>(
+    alloc: Global,
+    view: &View<'_, ArchivedBTreeMap<K, V, 5>>,
+    writer: &mut W,
+) -> Result<u32, Fault<W::Error>>
+where
+    T: Archive<Archived = K> + Serialize<W, Global> + Ord + Drop,
+    U: Archive<Archived = V> + Serialize<W, Global> + PartialEq + Drop,
+    K: DeserializeKey<T>,
+    V: Deserialize<U>,
+    W: Writer,
+    requires fitting { IsTrue (are_fitting K.kind V.kind 5) }
+    // A writer from position 0 on holds a strict map at the returned position. It means the entries of the native map, if native
+    // keys are ordered as what they mean.
+    ensures strict { IfOk result (λ at.
+        MigratesToStrict T.cmp K.kind V.kind T.archival U.archival (told_both K.told V.told)
+        (native_map K.kind V.kind 5 K.native V.native K.told_order view.now.buf.now view.now.pos)
+        (W.state writer.old) at (W.state writer.new)) }
+    // The tree of the native map is written, and no accepted map with as many entries has fewer nodes, node bytes or levels.
+    ensures ok { IfOk result (λ at.
+        Migrates T.cmp K.kind V.kind T.archival U.archival (told_both K.told V.told)
+        (native_map K.kind V.kind 5 K.native V.native K.told_order view.now.buf.now view.now.pos)
+        (W.state writer.old) at (W.state writer.new)) }
+    // Each error's cause is there.
+    ensures err { IfErr result (λ fault.
+        FailsToMigrate T.cmp K.kind V.kind T.archival U.archival (told_both K.told V.told)
+        (native_map K.kind V.kind 5 K.native V.native K.told_order view.now.buf.now view.now.pos)
+        (W.state writer.old) fault (W.state writer.new)) }
+    // The native map's keys increase, so no error is `OutOfOrder`.
+    ensures in_order { (index : ℕ) → IsErrOf result (Fault.OutOfOrder index) → ⊥ }
+    ensures went { OnOk result (OnlyAppended (W.state writer.old) (W.state writer.new)) }
+    ensures kept { OnErr result (BeginsWith (W.state writer.new) (W.state writer.old)) }
+{
+    let map = match ArchivedBTreeMap::<K, V, 5>::deserialize(alloc, view) {
+        Ok(map) => map,
+        Err(DeserializeFault::Memory(error)) => return Err(Fault::Memory(error)),
+        Err(DeserializeFault::Entry(fault)) => return Err(Fault::Entry(fault)),
+    };
+    // The contract of `len` says that the keys of the map increase.
+    let len = map.len();
+    written_maps_are_held();
+    let root = ArchivedBTreeMap::<K, V, 5>::serialize_from_ordered_iter::<T, U, W, Global, _>(
+        alloc,
+        len,
+        map.iter(),
+        writer,
+    )?;
+    ArchivedBTreeMap::<K, V, 5>::write_root(len, root, writer)
+}
