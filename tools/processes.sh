@@ -41,7 +41,7 @@ archive_of() {
     printf '%b' "$1" | "$program" build | od -An -v -t x1 | tr -d '\n' | sed 's/ /\\x/g'
 }
 
-usage='usage: btreearc build | list | get KEY | range LOW HIGH | check | set KEY VALUE'
+usage='usage: btreearc build | list | get KEY | range LOW HIGH | check | set KEY VALUE | build-strict | check-strict | migrate'
 none='\x00\x00\x00\x00'
 one='\x01\x00\x00\x00'
 empty="$one$none"

@@ -26,7 +26,7 @@ use Rattle.rkyv_btree_base.proofs.Smallest.{plan_is_left_complete}
 use Rattle.rkyv_btree_base.specs.Spells.{Accepted}
 use Rattle.rkyv_btree_base.specs.Writing.{Writing, position, Write, AllReach, Wrote, Stopped, appended, last_end}
 use Rattle.rkyv_btree_base.specs.Fault.{Fault}
-use Rattle.rkyv_btree_base.specs.Fault.TheVariants.{Length, LengthOverflow, PositionOverflow, OffsetOverflow, Writer, Memory, Entry}
+use Rattle.rkyv_btree_base.specs.Fault.TheVariants.{Length, LengthOverflow, PositionOverflow, OffsetOverflow, Writer, Memory, Entry, OutOfOrder}
 use Rattle.rkyv_btree_base.proofs.Accepting.{accepted_archive, archive_length}
 use Rattle.rkyv_btree_base.proofs.WriteRuns.{AllReach-both, appended-append, stopped_past, stopped_stray}
 use Rattle.btreearc_commands.specs.Archive.{own, five, tree_writes, root_writes, archive_of, HasArchive, IsUnbuilt}
@@ -60,15 +60,19 @@ pub record TreeIs (entries : List (ℕ × ℕ)) (root : ℕ) (s : Writing) : Typ
   pub wrote : Wrote nothing_written (tree_writes entries) s
   pub root_is : root ≡ unwrap_or (child_root five 0 (planned_alone 5 (map own entries))) 0
 
-pub tree_is : (entries : List (ℕ × ℕ)) (items : List (Bor ℕ × Bor ℕ)) (root : ℕ) (from s : Writing) → from ≡ nothing_written → map pair items ≡ entries → Built five numbers numbers from (map now_of items) root s → TreeIs entries root s
-tree_is entries items root from s start are built =
-    let tree : Built five numbers numbers nothing_written entries root s = subst (λ (xs : List (ℕ × ℕ)). Built five numbers numbers nothing_written xs root s) are (subst (λ (w : Writing). Built five numbers numbers w (map now_of items) root s) start built) in
+-- of the entries themselves
+pub tree_of : (entries : List (ℕ × ℕ)) (root : ℕ) (from s : Writing) → from ≡ nothing_written → Built five numbers numbers from entries root s → TreeIs entries root s
+tree_of entries root from s start built =
+    let tree : Built five numbers numbers nothing_written entries root s = subst (λ (w : Writing). Built five numbers numbers w entries root s) start built in
     let made = child_written u32_kind u32_kind 5 u32_laws u32_laws numbers_fit (λ x. x) (λ x. x) (λ x. x < 2 ^ 32) (λ x. x < 2 ^ 32) (to_le_bytes w32) (to_le_bytes w32) u32_faithful.is_own u32_faithful.is_own nothing_written (planned_alone 5 entries) tree.place s tree.written in
     let same = alone_mapped own 5 entries in
     record {
       wrote = subst (λ (c : Child OwnBytes). Wrote nothing_written (child_image five 0 c) s) (sym same) made.0;
       root_is = tree.root_is ∙ (ap (λ (r : Option ℕ). unwrap_or r 0) made.1 ∙ ap (λ (c : Child OwnBytes). unwrap_or (child_root five 0 c) 0) (sym same));
     }
+
+pub tree_is : (entries : List (ℕ × ℕ)) (items : List (Bor ℕ × Bor ℕ)) (root : ℕ) (from s : Writing) → from ≡ nothing_written → map pair items ≡ entries → Built five numbers numbers from (map now_of items) root s → TreeIs entries root s
+tree_is entries items root from s start are built = tree_of entries root from s start (subst (λ (xs : List (ℕ × ℕ)). Built five numbers numbers from xs root s) are built)
 
 -- the map's writes behind the tree
 roots_are : (entries : List (ℕ × ℕ)) (root : ℕ) (s : Writing) → TreeIs entries root s → root_image (position s) root (length entries) ≡ root_writes entries
@@ -129,10 +133,10 @@ module _ (xs ys : List (ℕ × ℕ)) (same : length xs ≡ length ys) where
       (subst (λ (c : Child OwnBytes). AreAlike (child_image five 0 (mapped_child (λ z. own z.0) (planned_alone 5 p.0))) (child_image five 0 c)) (sym back)
       (child_alike u32_kind u32_kind 5 u32_laws u32_laws numbers_fit (λ z. own z.0) (λ z. own z.1) (λ z. own_is z.0) (λ z. own_is z.1) 0 (planned_alone 5 p.0) (alone_shape p.0)))
 
-module _ {S : Type 0} (rest : S → List (ℕ × ℕ)) (entries : List (ℕ × ℕ)) where
+module _ {S : Type 0} (steps : S → Option (Bor ℕ × Bor ℕ) → S → Type 0) (entries : List (ℕ × ℕ)) where
   -- writing the tree of as many entries was stopped
   abbrev Given : {X : Type 0} → S → Writing → Fault X → Writing → Type 0
-  Given {X} iter from fault t = StoppedBuilding u32_kind u32_kind 5 numbers numbers (YieldsFirstBy pair rest) {X = X} iter (length entries) from fault t
+  Given {X} iter from fault t = StoppedBuilding u32_kind u32_kind 5 numbers numbers steps {X = X} iter (length entries) from fault t
 
   stopped_tree : {X : Type 0} (iter : S) (from : Writing) (fault : Fault X) (t : Writing) → from ≡ nothing_written → (h : Given iter from fault t) → Stopped nothing_written (tree_writes h.entries) fault t
   stopped_tree iter from fault t start h =
@@ -151,18 +155,22 @@ module _ {S : Type 0} (rest : S → List (ℕ × ℕ)) (entries : List (ℕ × �
         length-append (appended (tree_writes entries)) (appended (root_writes entries)),
       )
 
-  pub unbuilt : {X : Type 0} (iter : S) (from : Writing) (fault : Fault X) (t : Writing) → from ≡ nothing_written → rest iter ≡ entries → BuildFault u32_kind u32_kind 5 numbers numbers (YieldsFirstBy pair rest) iter (length entries) from fault t → IsUnbuilt entries fault
-  unbuilt iter from LengthOverflow t start is (inl h) = h.0
-  unbuilt {X} iter from LengthOverflow t start is (inr h) = absurd (stopped_tree {X = X} iter from LengthOverflow t start h).refused
-  unbuilt {X} iter from PositionOverflow t start is h = unbuilt_past {X = X} h.entries t h.claimed.count (stopped_tree {X = X} iter from PositionOverflow t start h)
-  unbuilt {X} iter from OffsetOverflow t start is h = λ all.
+  pub unbuilt : {X : Type 0} (iter : S) (from : Writing) (fault : Fault X) (t : Writing) → from ≡ nothing_written → ((items : List (Bor ℕ × Bor ℕ)) → Drains steps iter items → length items ≡ length entries) → BuildFault u32_kind u32_kind 5 numbers numbers steps iter (length entries) from fault t → IsUnbuilt entries fault
+  unbuilt iter from LengthOverflow t start counts (inl h) = h.0
+  unbuilt {X} iter from LengthOverflow t start counts (inr h) = absurd (stopped_tree {X = X} iter from LengthOverflow t start h).refused
+  unbuilt {X} iter from PositionOverflow t start counts h = unbuilt_past {X = X} h.entries t h.claimed.count (stopped_tree {X = X} iter from PositionOverflow t start h)
+  unbuilt {X} iter from OffsetOverflow t start counts h = λ all.
       stopped_stray {E = X} nothing_written (tree_writes h.entries) t (stopped_tree {X = X} iter from OffsetOverflow t start h)
       (alike_reach (tree_writes entries) (tree_writes h.entries) (trees_alike entries h.entries (sym h.claimed.count)) (reach_front (tree_writes entries) (root_writes entries) all))
-  unbuilt iter from (Writer error) t start is h = tt
-  unbuilt iter from (Memory error) t start is h = tt
-  unbuilt iter from (Length mismatch) t start is h = absurd (h.differs (sym (length-map h.items pair) ∙ ap length (drained_pairs rest iter h.items h.all ∙ is)))
-  unbuilt {X} iter from (Entry fault) t start is h = absurd (stopped_tree {X = X} iter from (Entry fault) t start h).refused
-  unbuilt iter from (OutOfOrder index) t start is h = absurd h
+  unbuilt iter from (Writer error) t start counts h = tt
+  unbuilt iter from (Memory error) t start counts h = tt
+  unbuilt iter from (Length mismatch) t start counts h = absurd (h.differs (counts h.items h.all))
+  unbuilt {X} iter from (Entry fault) t start counts h = absurd (stopped_tree {X = X} iter from (Entry fault) t start h).refused
+  unbuilt iter from (OutOfOrder index) t start counts h = absurd h
+
+-- an iterator that shows what is left gives as many items
+pub shown_count : {S : Type 0} (rest : S → List (ℕ × ℕ)) (entries : List (ℕ × ℕ)) (iter : S) → rest iter ≡ entries → (items : List (Bor ℕ × Bor ℕ)) → Drains (YieldsFirstBy pair rest) iter items → length items ≡ length entries
+shown_count rest entries iter is items all = sym (length-map items pair) ∙ ap length (drained_pairs rest iter items all ∙ is)
 
 -- neither is the map written
 module _ (entries : List (ℕ × ℕ)) (root : ℕ) (s : Writing) (tree : TreeIs entries root s) where

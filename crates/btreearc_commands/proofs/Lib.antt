@@ -9,3 +9,5 @@ pub mod SetOut
 pub mod Spelling
 pub mod Told
 pub mod Written
+pub mod BuiltInOrder
+pub mod Renewed

@@ -1,6 +1,7 @@
 -- The archive of entries: their tree from position 0 on, and behind it the map.
 use Rattle.std.specs.Prelude.{ℕ, ◌<◌, ◌≤◌, List, ◌++◌, length, map, unwrap_or}
 use Rattle.std.specs.Int.{w32, to_le_bytes}
+use Rattle.std.specs.Ordering.{nat_cmp}
 use Rattle.rkyv_btree_base.specs.Image.{child_image, child_root, root_image}
 use Rattle.rkyv_btree_base.specs.InPlace.{OwnBytes}
 use Rattle.rkyv_btree_base.specs.Layout.{NodeLayout, layout_of}
@@ -8,7 +9,8 @@ use Rattle.rkyv_btree_base.specs.Scalars.{u32_kind}
 use Rattle.rkyv_btree_base.specs.Plan.{planned_alone}
 use Rattle.rkyv_btree_base.specs.Writing.{Write, appended, AllReach, last_end}
 use Rattle.rkyv_btree_base.specs.Fault.{Fault}
-use Rattle.rkyv_btree_base.specs.Fault.TheVariants.{Length, LengthOverflow, PositionOverflow, OffsetOverflow, Writer, Memory, Entry}
+use Rattle.rkyv_btree_base.specs.Fault.TheVariants.{Length, LengthOverflow, PositionOverflow, OffsetOverflow, Writer, Memory, Entry, OutOfOrder}
+use Rattle.rkyv_btree_base.specs.Increasing.{IsOutOfOrder}
 use Rattle.btreearc_lines.specs.declared.fault.ProgramFault.{ProgramFault}
 use Rattle.btreearc_lines.specs.declared.fault.ProgramFault.TheVariants.{NotBuilt}
 
@@ -48,7 +50,17 @@ IsUnbuilt entries (Length mismatch) = ⊥
 IsUnbuilt entries (Entry fault) = ⊥
 IsUnbuilt entries (OutOfOrder index) = ⊥
 
+-- why entries have no archive whose keys must increase: an entry is the first out of order; or for one of these causes
+abbrev pub IsUnbuiltInOrder : {X : Type 0} → List (ℕ × ℕ) → Fault X → Type 0
+IsUnbuiltInOrder entries (OutOfOrder index) = IsOutOfOrder nat_cmp entries index
+IsUnbuiltInOrder entries fault = IsUnbuilt entries fault
+
 -- a fault of building an archive
 abbrev pub IsBuildFault : List (ℕ × ℕ) → ProgramFault → Type 0
 IsBuildFault entries (NotBuilt fault) = IsUnbuilt entries fault
 IsBuildFault entries _ = ⊥
+
+-- a fault of building one whose keys must increase
+abbrev pub IsStrictBuildFault : List (ℕ × ℕ) → ProgramFault → Type 0
+IsStrictBuildFault entries (NotBuilt fault) = IsUnbuiltInOrder entries fault
+IsStrictBuildFault entries _ = ⊥

@@ -3,11 +3,13 @@ use Rattle.std.specs.Prelude.{◌≡◌, ℕ, List, [], ◌∷◌, ◌++◌, ◌
 use Rattle.std.specs.Prelude.{IfSome, MatchOption, Result, Ok, Err, codes, decimal}
 use Rattle.std.specs.Io.KnownBytes.{Appends}
 use Rattle.std.specs.Ordering.{nat_cmp}
+use Rattle.rkyv_btree_base.specs.Increasing.{Increasing}
 use Rattle.rkyv_btree.specs.Bounds.{IsRun}
+use Rattle.rkyv_btree.specs.Maps.{last_wins}
 use Rattle.rkyv_btree.specs.Search.{OrderedBy}
-use Rattle.btreearc_commands.specs.Archive.{archive_of, HasArchive, IsUnbuilt}
+use Rattle.btreearc_commands.specs.Archive.{archive_of, HasArchive, IsUnbuilt, IsUnbuiltInOrder}
 use Rattle.btreearc_lines.specs.Grammar.{IsLines, BadLine, text_of}
-use Rattle.btreearc_commands.specs.Opening.{IsArchive, RefusesArchive, found_in_archive, place_in_archive}
+use Rattle.btreearc_commands.specs.Opening.{IsArchive, RefusesArchive, RefusesStrictArchive, found_in_archive, place_in_archive}
 use Rattle.btreearc_commands.specs.Setting.{IsSet}
 use Rattle.btreearc_lines.specs.declared.fault.ProgramFault.{ProgramFault}
 use Rattle.btreearc_lines.specs.declared.fault.ProgramFault.TheVariants.{Line, Refused, NotBuilt, InputFailed, OutputFailed, Memory}
@@ -91,3 +93,37 @@ abbrev pub Sets : ℕ → ℕ → Option (List ℕ) → Option (List ℕ) → Op
 Sets key value input old new (Ok status) =
     IfSome input (λ bytes. (entries : List (ℕ × ℕ)) × IsArchive bytes entries × IsSetOut key value entries bytes old new status)
 Sets key value input old new (Err fault) = FailsOnArchive input old new fault
+
+-- `build-strict` has written the archive of the input's lines, whose keys increase; or it names the fault and has written
+-- nothing, except where a write failed
+abbrev pub BuildsStrict : Option (List ℕ) → Option (List ℕ) → Option (List ℕ) → Result ℕ ProgramFault → Type 0
+BuildsStrict input old new (Ok status) =
+    (status ≡ 0)
+    × IfSome input (λ bytes. (entries : List (ℕ × ℕ)) × IsLines bytes entries × Increasing nat_cmp entries × HasArchive entries
+    × IsArchive (archive_of entries) entries × Appends old new (archive_of entries))
+BuildsStrict input old new (Err (Line n)) = IfSome input (λ bytes. BadLine bytes n) × (new ≡ old)
+BuildsStrict input old new (Err (NotBuilt fault)) = IfSome input (λ bytes. (entries : List (ℕ × ℕ)) × IsLines bytes entries × IsUnbuiltInOrder entries fault) × (new ≡ old)
+BuildsStrict input old new (Err InputFailed) = new ≡ old
+BuildsStrict input old new (Err Memory) = new ≡ old
+BuildsStrict input old new (Err OutputFailed) = IfSome input (λ bytes. (entries : List (ℕ × ℕ)) × IsLines bytes entries)
+BuildsStrict input old new (Err _) = ⊥
+
+-- `check-strict` has written how many entries the input's archive has, and their keys increase; or it has failed
+abbrev pub ChecksStrict : Option (List ℕ) → Option (List ℕ) → Option (List ℕ) → Result ℕ ProgramFault → Type 0
+ChecksStrict input old new (Ok status) =
+    (status ≡ 0) × IfSome input (λ bytes. (entries : List (ℕ × ℕ)) × IsArchive bytes entries × Increasing nat_cmp entries × Appends old new (total (length entries)))
+ChecksStrict input old new (Err (Refused refusal)) = IfSome input (λ bytes. RefusesStrictArchive bytes refusal) × (new ≡ old)
+ChecksStrict input old new (Err fault) = FailsOnArchive input old new fault
+
+-- the entries of a std map in which the last value of each key counts
+abbrev pub last_values : List (ℕ × ℕ) → List (ℕ × ℕ)
+last_values entries = last_wins nat_cmp entries
+
+-- `migrate` has written the archive of the last values of the input's archive; or it has failed
+abbrev pub Migrates : Option (List ℕ) → Option (List ℕ) → Option (List ℕ) → Result ℕ ProgramFault → Type 0
+Migrates input old new (Ok status) =
+    (status ≡ 0)
+    × IfSome input (λ bytes. (entries : List (ℕ × ℕ)) × IsArchive bytes entries × IsArchive (archive_of (last_values entries)) (last_values entries)
+    × Appends old new (archive_of (last_values entries)))
+Migrates input old new (Err (NotBuilt fault)) = IfSome input (λ bytes. (entries : List (ℕ × ℕ)) × IsArchive bytes entries × IsUnbuilt (last_values entries) fault) × (new ≡ old)
+Migrates input old new (Err fault) = FailsOnArchive input old new fault

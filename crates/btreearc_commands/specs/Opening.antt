@@ -9,6 +9,7 @@ use Rattle.rkyv_btree_base.specs.Read.{entry_at, map_tree, read_map}
 use Rattle.rkyv_btree_base.specs.Layout.{layout_of}
 use Rattle.rkyv_btree_base.specs.Spells.{Accepted}
 use Rattle.rkyv_btree.specs.Search.{probe}
+use Rattle.rkyv_btree.specs.Strict.{RefusesStrict}
 use Rattle.btreearc_lines.specs.declared.fault.ProgramFault.{ProgramFault}
 use Rattle.btreearc_lines.specs.declared.fault.ProgramFault.TheVariants.{Refused}
 
@@ -47,3 +48,12 @@ found_in_archive b key = found_at b (root_of b) key
 abbrev pub IsOpenFault : List ℕ → ProgramFault → Type 0
 IsOpenFault bytes (Refused refusal) = RefusesArchive bytes refusal
 IsOpenFault bytes _ = ⊥
+
+-- the refusal of bytes that are no archive whose keys increase
+abbrev pub RefusesStrictArchive : List ℕ → Refusal → Type 0
+RefusesStrictArchive b refusal = RefusesStrict u32_kind u32_kind 5 b 0 (root_of b) (root_of b) refusal
+
+-- a fault of opening one
+abbrev pub IsStrictOpenFault : List ℕ → ProgramFault → Type 0
+IsStrictOpenFault bytes (Refused refusal) = RefusesStrictArchive bytes refusal
+IsStrictOpenFault bytes _ = ⊥

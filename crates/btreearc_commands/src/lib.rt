@@ -5,6 +5,7 @@
 pub mod build;
 pub mod laws;
 pub mod listing;
+pub mod migrating;
 pub mod opening;
 pub mod program;
 pub mod setting;

@@ -1,11 +1,12 @@
 //! The commands over a reader and a writer.
 ghost use Rattle.std.specs.Prelude.{◌≡◌, ℕ, codes, Err, OnOk};
 ghost use Rattle.std.specs.Io.KnownBytes.{IsAtEnd};
-ghost use Rattle.btreearc_commands.specs.Commands.{Builds, Lists, Checks, Gets, Ranges, Sets};
+ghost use Rattle.btreearc_commands.specs.Commands.{Builds, Lists, Checks, Gets, Ranges, Sets, BuildsStrict, ChecksStrict, Migrates};
 ghost use Rattle.btreearc_lines.specs.Words.{IsWord, IsWordAndNumber, IsWordAndNumbers, IsNoCommand};
 
 use crate::build;
 use crate::listing::write_entries;
+use crate::migrating::{migrated, strict_count};
 use crate::opening::open;
 use crate::setting::set_value;
 use btreearc_lines::command::Command;
@@ -43,6 +44,14 @@ pub fn run<R: Read, W: Write>(
     ensures set { (key value : ℕ) → IsWordAndNumbers (codes "set") key value args.now →
         Sets key value (R.remaining input.old) (W.contents output.old) (W.contents output.new)
         result }
+    ensures build_strict { IsWord (codes "build-strict") args.now →
+        BuildsStrict (R.remaining input.old) (W.contents output.old) (W.contents output.new)
+        result }
+    ensures check_strict { IsWord (codes "check-strict") args.now →
+        ChecksStrict (R.remaining input.old) (W.contents output.old) (W.contents output.new)
+        result }
+    ensures migrate { IsWord (codes "migrate") args.now →
+        Migrates (R.remaining input.old) (W.contents output.old) (W.contents output.new) result }
     ensures usage { IsNoCommand args.now → result ≡ Err ProgramFault.Usage }
     ensures unread { IsNoCommand args.now → R.remaining input.new ≡ R.remaining input.old }
     ensures unwritten { IsNoCommand args.now → W.contents output.new ≡ W.contents output.old }
@@ -55,6 +64,9 @@ pub fn run<R: Read, W: Write>(
         Some(Command::Get(key)) => get(alloc, key, input, output),
         Some(Command::Range(low, high)) => range(alloc, low, high, input, output),
         Some(Command::Set(key, value)) => set(alloc, key, value, input, output),
+        Some(Command::BuildStrict) => build_strict(alloc, input, output),
+        Some(Command::CheckStrict) => check_strict(alloc, input, output),
+        Some(Command::Migrate) => migrate(alloc, input, output),
         None => Err(ProgramFault::Usage),
     }
 }
@@ -206,4 +218,71 @@ fn set<R: Read, W: Write>(
     } else {
         Ok(1)
     }
+}
+
+/// Writes the archive of the input's lines, whose keys must increase.
+///
+/// # Errors
+///
+/// `Line` for the first bad line, `NotBuilt`, and `InputFailed`, `OutputFailed` or `Memory`.
+fn build_strict<R: Read, W: Write>(
+    alloc: Global,
+    input: &mut R,
+    output: &mut W,
+) -> Result<u8, ProgramFault>
+    ensures done { BuildsStrict (R.remaining input.old) (W.contents output.old)
+        (W.contents output.new) result }
+    ensures end { OnOk result (IsAtEnd (R.remaining input.new)) }
+{
+    let text = read_all(alloc, input)?;
+    let entries = parse_lines(alloc, &text)?;
+    let archive = build::strict_archive(alloc, &entries)?;
+    write_all(output, &archive)?;
+    Ok(0)
+}
+
+/// Writes how many entries the input's archive has, whose keys must increase.
+///
+/// # Errors
+///
+/// `Refused` for the first fact for which the input is no such archive, and `InputFailed`, `OutputFailed` or `Memory`.
+fn check_strict<R: Read, W: Write>(
+    alloc: Global,
+    input: &mut R,
+    output: &mut W,
+) -> Result<u8, ProgramFault>
+    ensures done { ChecksStrict (R.remaining input.old) (W.contents output.old)
+        (W.contents output.new) result }
+    ensures end { OnOk result (IsAtEnd (R.remaining input.new)) }
+{
+    let archive = read_all(alloc, input)?;
+    let count = strict_count(&archive)?;
+    let mut text = String::new(alloc);
+    if writeln!(text, "ok {count} entries").is_err() {
+        return Err(ProgramFault::Memory);
+    }
+    write_all(output, text.as_str().as_bytes())?;
+    Ok(0)
+}
+
+/// Writes the archive of the last values of the input's archive, in increasing order of their keys.
+///
+/// # Errors
+///
+/// `Refused` for the first fact for which the input is no archive, `NotBuilt`, and `InputFailed`, `OutputFailed` or
+/// `Memory`.
+fn migrate<R: Read, W: Write>(
+    alloc: Global,
+    input: &mut R,
+    output: &mut W,
+) -> Result<u8, ProgramFault>
+    ensures done { Migrates (R.remaining input.old) (W.contents output.old) (W.contents output.new)
+        result }
+    ensures end { OnOk result (IsAtEnd (R.remaining input.new)) }
+{
+    let archive = read_all(alloc, input)?;
+    let map = open(&archive)?;
+    let made = migrated(alloc, &map)?;
+    write_all(output, &made)?;
+    Ok(0)
 }

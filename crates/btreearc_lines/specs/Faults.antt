@@ -7,7 +7,7 @@ use Rattle.btreearc_lines.specs.declared.fault.ProgramFault.TheVariants.{Usage, 
 
 -- the line that is printed for a fault
 abbrev pub line_of : ProgramFault → List ℕ
-line_of Usage = codes "usage: btreearc build | list | get KEY | range LOW HIGH | check | set KEY VALUE"
+line_of Usage = codes "usage: btreearc build | list | get KEY | range LOW HIGH | check | set KEY VALUE | build-strict | check-strict | migrate"
 line_of (Line n) = codes "btreearc: line " ++ (decimal n ++ codes ": not KEY VALUE")
 line_of (Refused refusal) = codes "btreearc: refused: " ++ refusal_text refusal
 line_of (NotBuilt fault) = codes "btreearc: not built: " ++ fault_text fault

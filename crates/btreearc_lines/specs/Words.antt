@@ -3,7 +3,7 @@ use Rattle.std.specs.Prelude.{◌≡◌, ℕ, List, [], ◌∷◌, String, strin
 use Rattle.std.specs.Global.{Global}
 use Rattle.btreearc_lines.specs.Grammar.{IsNumber}
 use Rattle.btreearc_lines.specs.declared.command.Command.{Command}
-use Rattle.btreearc_lines.specs.declared.command.Command.TheVariants.{Build, List as ListEntries, Check, Get, Range, Set}
+use Rattle.btreearc_lines.specs.declared.command.Command.TheVariants.{Build, List as ListEntries, Check, Get, Range, Set, BuildStrict, CheckStrict, Migrate}
 
 -- one word, and this
 abbrev pub IsWord : List ℕ → List (String Global) → Type 0
@@ -35,6 +35,9 @@ Names args Check = IsWord (codes "check") args
 Names args (Get key) = IsWordAndNumber (codes "get") key args
 Names args (Range low high) = IsWordAndNumbers (codes "range") low high args
 Names args (Set key value) = IsWordAndNumbers (codes "set") key value args
+Names args BuildStrict = IsWord (codes "build-strict") args
+Names args CheckStrict = IsWord (codes "check-strict") args
+Names args Migrate = IsWord (codes "migrate") args
 
 -- the words name no command
 abbrev pub IsNoCommand : List (String Global) → Type 0

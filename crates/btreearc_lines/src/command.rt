@@ -16,6 +16,12 @@ pub enum Command {
     Range(u32, u32),
     /// Write the input's archive with the second number as the value of the first, which is a key.
     Set(u32, u32),
+    /// Archive the input's lines, whose keys must increase.
+    BuildStrict,
+    /// Write how many entries the input's archive has, whose keys must increase.
+    CheckStrict,
+    /// Write an archive of the last values of the input's archive, with increasing keys.
+    Migrate,
 }
 
 impl Command {
@@ -33,6 +39,9 @@ impl Command {
                 "build" => Some(Command::Build),
                 "list" => Some(Command::List),
                 "check" => Some(Command::Check),
+                "build-strict" => Some(Command::BuildStrict),
+                "check-strict" => Some(Command::CheckStrict),
+                "migrate" => Some(Command::Migrate),
                 _ => None,
             },
             [word, number] => match word.as_str() {

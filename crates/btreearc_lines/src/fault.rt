@@ -34,7 +34,7 @@ impl fmt::Display for ProgramFault {
         match self {
             ProgramFault::Usage => write!(
                 f,
-                "usage: btreearc build | list | get KEY | range LOW HIGH | check | set KEY VALUE"
+                "usage: btreearc build | list | get KEY | range LOW HIGH | check | set KEY VALUE | build-strict | check-strict | migrate"
             ),
             ProgramFault::Line(line) => write!(f, "btreearc: line {line}: not KEY VALUE"),
             ProgramFault::Refused(refusal) => write!(f, "btreearc: refused: {refusal}"),

@@ -18,6 +18,7 @@ pub use Rattle.rkyv_btree_seal.specs.Put
 pub use Rattle.rkyv_btree_seal.specs.Visits
 pub use Rattle.rkyv_btree_seal.specs.declared.lent.LentKey
 pub use Rattle.rkyv_btree_seal.specs.declared.seal.Seal
+pub use Rattle.rkyv_btree_strict.specs.Migrated
 pub use Rattle.rkyv_btree_strict.specs.Stays
 pub use Rattle.rkyv_btree_strict.specs.Strict
 pub use Rattle.rkyv_btree_view.specs.Items

@@ -113,6 +113,7 @@ pub mod strict {
         natives_are_ordered_alike, neighbours_decide_order, pairs_are_ordered_alike,
         std_maps_are_increasing, visits_keep_strict_maps, writes_keep_strict_maps,
     };
+    pub use rkyv_btree_strict::migrate::migrate;
     pub use rkyv_btree_strict::strict::{access_strict, open_strict, verify_strict};
     pub use rkyv_btree_strict::strict_map::{Strict, StrictView};
 }

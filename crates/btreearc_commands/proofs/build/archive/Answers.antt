@@ -1,8 +1,9 @@
 use Rattle.std.proofs.Common.{◌≡◌, List, ℕ, ◌∙◌, map, refl, sym, ap, subst, arith}
+use Rattle.std.specs.Iterator.{YieldsFirstBy}
 use Rattle.rkyv_btree_base.specs.Archiving.{itself}
 use Rattle.rkyv_btree_base.specs.Scalars.{u32_kind}
 use Rattle.btreearc_commands.specs.Opening.{IsArchive}
-use Rattle.btreearc_commands.proofs.Built.{pair, drained_pairs, tree_is, archive_written, archive_accepted, has_archive, unbuilt, unbuilt_root}
+use Rattle.btreearc_commands.proofs.Built.{pair, drained_pairs, tree_is, archive_written, archive_accepted, has_archive, shown_count, unbuilt, unbuilt_root}
 use Rattle.btreearc_commands.proofs.build.archive.Goals as goal
 
 pub returns-in-Ok-write_root : goal.returns-in-Ok-write_root
@@ -24,7 +25,7 @@ returns-in-Ok-write_root c =
 
 pub returns-in-Err-clause-err : goal.returns-in-Err-clause-err
 returns-in-Err-clause-err c =
-    unbuilt (λ e. e.rest.now) c.args.entries.now _ _ c.in-Err.fault _ c.new-writer.ensures refl c.in-Err.ensures.err
+    unbuilt (YieldsFirstBy pair (λ e. e.rest.now)) c.args.entries.now _ _ c.in-Err.fault _ c.new-writer.ensures (shown_count (λ e. e.rest.now) c.args.entries.now _ refl) c.in-Err.ensures.err
 
 pub returns-in-Err-write_root-clause-err : goal.returns-in-Err-write_root-clause-err
 returns-in-Err-write_root-clause-err c =

@@ -1,0 +1,55 @@
+//! Archives whose keys increase: their check, and how others become such archives.
+ghost use Rattle.std.specs.Prelude.{◌≡◌, ℕ, length, IfOk, IfErr};
+ghost use Rattle.std.specs.Ordering.{nat_cmp};
+ghost use Rattle.rkyv_btree_base.specs.Increasing.{Increasing};
+ghost use Rattle.btreearc_commands.specs.Archive.{archive_of, IsBuildFault};
+ghost use Rattle.btreearc_commands.specs.Commands.{last_values};
+ghost use Rattle.btreearc_commands.specs.Opening.{IsArchive, IsStrictOpenFault, entries_read};
+
+use crate::opening::{Numbers, open};
+use btreearc_lines::fault::ProgramFault;
+use rkyv_btree::deserialize::maps_are_given_by_entries;
+use rkyv_btree::strict::{StrictView, migrate};
+use rkyv_btree::view::View;
+use rkyv_btree_base::numbers::ArchivedU32;
+use rkyv_btree_base::place::VecWriter;
+use std::alloc::Global;
+
+/// How many entries an archive has whose keys increase.
+///
+/// # Errors
+///
+/// `Refused` where `open` returns it, and with the index of the first entry whose key isn't greater than the key before it.
+#[tactic(auto, using(crate::proofs::Built::numbers_fit))]
+pub fn strict_count(archive: &[u8]) -> Result<u32, ProgramFault>
+    ensures count { IfOk result (λ count. (entries : _) × IsArchive archive.now entries
+        × Increasing nat_cmp entries × (count ≡ length entries)) }
+    ensures refused { IfErr result (IsStrictOpenFault archive.now) }
+{
+    match StrictView::of(open(archive)?) {
+        Ok(map) => Ok(map.len()),
+        Err(refusal) => Err(ProgramFault::Refused(refusal)),
+    }
+}
+
+/// The archive of the last values of a map's keys, in increasing order.
+///
+/// # Errors
+///
+/// `NotBuilt` where `archive` returns it for these entries.
+#[tactic(auto, using(crate::proofs::Built::numbers_fit))]
+pub fn migrated(alloc: Global, map: &View<'_, Numbers>) -> Result<Vec<u8>, ProgramFault>
+    ensures ok { let entries = last_values (entries_read map.now.buf.now map.now.pos) in
+        IfOk result (λ bytes. bytes.items ≡ archive_of entries) }
+    ensures accepted { let entries = last_values (entries_read map.now.buf.now map.now.pos) in
+        IfOk result (λ bytes. IsArchive bytes.items entries) }
+    ensures err { IfErr result
+        (IsBuildFault (last_values (entries_read map.now.buf.now map.now.pos))) }
+{
+    maps_are_given_by_entries::<u32, u32, ArchivedU32, ArchivedU32, 5>();
+    let mut writer = VecWriter::new(alloc);
+    match migrate::<u32, u32, ArchivedU32, ArchivedU32, VecWriter>(alloc, map, &mut writer) {
+        Ok(_) => Ok(writer.into_vec()),
+        Err(fault) => Err(ProgramFault::NotBuilt(fault)),
+    }
+}
