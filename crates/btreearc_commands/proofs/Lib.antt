@@ -11,3 +11,4 @@ pub mod Told
 pub mod Written
 pub mod BuiltInOrder
 pub mod Renewed
+pub mod Steady

@@ -20,10 +20,10 @@ use Rattle.rkyv_btree_base.proofs.TreeSerialised.{entries_drained}
 use Rattle.rkyv_btree.specs.Deserializing.{both, all}
 use Rattle.rkyv_btree.specs.Maps.{last_wins, map_given, told_both}
 use Rattle.rkyv_btree.specs.Migrated.{AreNative, Migrates, MigratesToStrict, IsUnmade, FailsToMigrate}
-use Rattle.btreearc_commands.specs.Archive.{archive_of, IsUnbuilt}
+use Rattle.btreearc_commands.specs.Archive.{archive_of, HasArchive, IsUnbuilt}
 use Rattle.btreearc_commands.specs.Commands.{last_values}
 use Rattle.btreearc_commands.specs.Opening.{IsArchive, entries_read, root_of}
-use Rattle.btreearc_commands.proofs.Built.{nothing_written, numbers, tree_of, archive_written, unbuilt, unbuilt_root}
+use Rattle.btreearc_commands.proofs.Built.{nothing_written, numbers, tree_of, archive_written, has_archive, unbuilt, unbuilt_root}
 
 -- numbers are told as they are
 told_same : (entries : List (ℕ × ℕ)) → told_both (λ n. n) (λ n. n) entries ≡ entries
@@ -53,6 +53,10 @@ module _ (native : Result (List (ℕ × ℕ)) EntryFault) (last : List (ℕ × �
   renewed from at to start m =
       let tree = tree_of m.entries m.root from m.mid start m.built in
       archive_written m.entries m.root m.mid to tree m.wrote ∙ ap archive_of (native_last m.entries m.are)
+
+  pub renewed_fits : (from : Writing) (at : ℕ) (to : Writing) → from ≡ nothing_written → Migrates nat_cmp u32_kind u32_kind numbers numbers (told_both (λ n. n) (λ n. n)) native from at to → HasArchive last
+  renewed_fits from at to start m =
+      subst HasArchive (native_last m.entries m.are) (has_archive m.entries m.root m.mid to (tree_of m.entries m.root from m.mid start m.built) m.few m.wrote m.end)
 
   -- which is accepted
   pub renewed_accepted : (from : Writing) (at : ℕ) (to : Writing) → from ≡ nothing_written → Migrates nat_cmp u32_kind u32_kind numbers numbers (told_both (λ n. n) (λ n. n)) native from at to

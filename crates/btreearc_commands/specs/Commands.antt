@@ -123,7 +123,7 @@ last_values entries = last_wins nat_cmp entries
 abbrev pub Migrates : Option (List ℕ) → Option (List ℕ) → Option (List ℕ) → Result ℕ ProgramFault → Type 0
 Migrates input old new (Ok status) =
     (status ≡ 0)
-    × IfSome input (λ bytes. (entries : List (ℕ × ℕ)) × IsArchive bytes entries × IsArchive (archive_of (last_values entries)) (last_values entries)
-    × Appends old new (archive_of (last_values entries)))
+    × IfSome input (λ bytes. (entries : List (ℕ × ℕ)) × IsArchive bytes entries × HasArchive (last_values entries)
+    × IsArchive (archive_of (last_values entries)) (last_values entries) × Appends old new (archive_of (last_values entries)))
 Migrates input old new (Err (NotBuilt fault)) = IfSome input (λ bytes. (entries : List (ℕ × ℕ)) × IsArchive bytes entries × IsUnbuilt (last_values entries) fault) × (new ≡ old)
 Migrates input old new (Err fault) = FailsOnArchive input old new fault

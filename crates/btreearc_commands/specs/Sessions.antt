@@ -4,7 +4,7 @@ use Rattle.std.specs.Io.KnownBytes.{Appends}
 use Rattle.std.specs.List.Sorted.{IsStrictlySortedBy}
 use Rattle.std.specs.Ordering.{nat_cmp}
 use Rattle.rkyv_btree_base.specs.Fault.TheVariants.{Writer, Memory as NoRoom}
-use Rattle.btreearc_commands.specs.Commands.{Builds, Sets}
+use Rattle.btreearc_commands.specs.Commands.{Builds, Sets, BuildsStrict, Migrates}
 use Rattle.btreearc_lines.specs.Grammar.{IsLines}
 use Rattle.btreearc_lines.specs.declared.fault.ProgramFault.{ProgramFault}
 use Rattle.btreearc_lines.specs.declared.fault.ProgramFault.TheVariants.{NotBuilt, InputFailed, OutputFailed, Memory}
@@ -19,6 +19,17 @@ pub record IsBuilt (text : List ℕ) (entries : List (ℕ × ℕ)) (archive : Li
 pub record IsSetIn (key value : ℕ) (archive made : List ℕ) : Type 0 where
   pub before : List ℕ
   pub set : Sets key value (Some archive) (Some before) (Some (before ++ made)) (Ok 0)
+
+-- `build-strict` has written this archive, behind what was there before, for a text whose lines are these entries
+pub record IsBuiltStrict (text : List ℕ) (entries : List (ℕ × ℕ)) (archive : List ℕ) : Type 0 where
+  pub lines : IsLines text entries
+  pub before : List ℕ
+  pub built : BuildsStrict (Some text) (Some before) (Some (before ++ archive)) (Ok 0)
+
+-- `migrate` has made that archive of this one, and has written it behind what was there before
+pub record IsMigratedTo (archive made : List ℕ) : Type 0 where
+  pub before : List ℕ
+  pub migrated : Migrates (Some archive) (Some before) (Some (before ++ made)) (Ok 0)
 
 -- a run has written such bytes and no others, with this status; or reading or a growth failed, and it has written nothing;
 -- or writing failed

@@ -1,14 +1,16 @@
 //! What the commands make of one another's output.
 ghost use Rattle.std.specs.Prelude.{◌≡◌, ℕ, List, [], ◌∷◌, ◌++◌, ◌&&◌, Some, Ok, IfOk, Contains, nat_le, codes, decimal, filter, length};
-ghost use Rattle.btreearc_commands.specs.Commands.{Builds, Lists, Checks, Gets, Ranges, Sets, total};
+ghost use Rattle.btreearc_commands.specs.Commands.{Builds, Lists, Checks, Gets, Ranges, Sets, ChecksStrict, Migrates, last_values, total};
 ghost use Rattle.btreearc_lines.specs.Grammar.{IsLines, lines, text_of};
 ghost use Rattle.btreearc_commands.specs.Opening.{IsArchive};
-ghost use Rattle.btreearc_commands.specs.Sessions.{IsBuilt, IsSetIn, AlwaysWrites, AlwaysPrints, KeysIncrease, keys, with_value};
+ghost use Rattle.btreearc_commands.specs.Sessions.{IsBuilt, IsBuiltStrict, IsMigratedTo, IsSetIn, AlwaysWrites, AlwaysPrints, KeysIncrease, keys, with_value};
 
 use crate::opening::{one_list, refused_is_no_archive};
 use crate::program::run;
 use btreearc_lines::fault::ProgramFault;
+use rkyv_btree::deserialize::last_values_count;
 use rkyv_btree::lookup::{increasing_keys_are_found, what_is_found_is_equal};
+use rkyv_btree::strict::neighbours_decide_order;
 use rkyv_btree_base::numbers::ArchivedU32;
 use std::alloc::Global;
 
@@ -68,6 +70,28 @@ pub fn set_values_are_told()
     archives_tell_their_entries();
     refused_is_no_archive();
     one_list();
+}
+
+/// What `build-strict` and `migrate` write, `check-strict` accepts, and `migrate` writes as it is. Archives of increasing
+/// keys are these.
+pub fn strict_archives_stay()
+    ensures checked { (archive : List ℕ) (entries : List (ℕ × ℕ)) → IsArchive archive entries →
+        KeysIncrease entries → AlwaysPrints (ChecksStrict (Some archive)) (total (length entries)) 0 }
+    ensures built_checked { (text archive : List ℕ) (entries : List (ℕ × ℕ)) →
+        IsBuiltStrict text entries archive →
+        AlwaysPrints (ChecksStrict (Some archive)) (total (length entries)) 0 }
+    ensures built_stays { (text archive : List ℕ) (entries : List (ℕ × ℕ)) →
+        IsBuiltStrict text entries archive → AlwaysPrints (Migrates (Some archive)) archive 0 }
+    ensures migrated_checked { (archive made : List ℕ) (entries : List (ℕ × ℕ)) →
+        IsArchive archive entries → IsMigratedTo archive made →
+        AlwaysPrints (ChecksStrict (Some made)) (total (length (last_values entries))) 0 }
+    ensures migrated_stays { (archive made : List ℕ) → IsMigratedTo archive made →
+        AlwaysPrints (Migrates (Some made)) made 0 }
+{
+    refused_is_no_archive();
+    one_list();
+    last_values_count::<u32, u32, ArchivedU32, ArchivedU32>();
+    neighbours_decide_order::<ArchivedU32, ArchivedU32>();
 }
 
 /// What a command of one word writes for an input.

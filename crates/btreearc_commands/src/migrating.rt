@@ -1,8 +1,8 @@
 //! Archives whose keys increase: their check, and how others become such archives.
-ghost use Rattle.std.specs.Prelude.{◌≡◌, ℕ, length, IfOk, IfErr};
+ghost use Rattle.std.specs.Prelude.{◌≡◌, ℕ, length, IfOk, OnOk, IfErr};
 ghost use Rattle.std.specs.Ordering.{nat_cmp};
 ghost use Rattle.rkyv_btree_base.specs.Increasing.{Increasing};
-ghost use Rattle.btreearc_commands.specs.Archive.{archive_of, IsBuildFault};
+ghost use Rattle.btreearc_commands.specs.Archive.{archive_of, HasArchive, IsBuildFault};
 ghost use Rattle.btreearc_commands.specs.Commands.{last_values};
 ghost use Rattle.btreearc_commands.specs.Opening.{IsArchive, IsStrictOpenFault, entries_read};
 
@@ -41,6 +41,8 @@ pub fn strict_count(archive: &[u8]) -> Result<u32, ProgramFault>
 pub fn migrated(alloc: Global, map: &View<'_, Numbers>) -> Result<Vec<u8>, ProgramFault>
     ensures ok { let entries = last_values (entries_read map.now.buf.now map.now.pos) in
         IfOk result (λ bytes. bytes.items ≡ archive_of entries) }
+    ensures fits { OnOk result
+        (HasArchive (last_values (entries_read map.now.buf.now map.now.pos))) }
     ensures accepted { let entries = last_values (entries_read map.now.buf.now map.now.pos) in
         IfOk result (λ bytes. IsArchive bytes.items entries) }
     ensures err { IfErr result

@@ -11,6 +11,7 @@ use Rattle.std.specs.Ordering.{is_eq, match_ordering, ordering_reverse}
 use Rattle.std.specs.declared.cmp.Ordering.{Ordering}
 use Rattle.std.specs.declared.cmp.Ordering.TheVariants.{Less, Equal, Greater}
 use Rattle.rkyv_btree_convert.specs.Maps.{CountsLast}
+use Rattle.rkyv_btree_convert.proofs.RoundTrip.{ascending_stay}
 
 -- choices of one of two values, the first of which is there
 module _ {X : Type 0} where
@@ -135,4 +136,5 @@ module _ {A B : Type 0} {order : A → A → Ordering} (total : IsTotalOrder ord
     ascending = sorted_all entries [] tt;
     first_key = λ q. key_all q entries [] tt;
     last_value = λ q. value_all q entries [] ∙ or_none (lookup (is_at (order q)) (reverse entries));
+    stay = λ ascend. ascending_stay total entries ascend;
   }

@@ -50,7 +50,7 @@ module _ {A B : Type 0} {order : A → A → Ordering} (total : IsTotalOrder ord
       ∙ append_one m e entries
 
   -- where keys ascend, the last of each is the only one
-  ascending_stay : (entries : List (A × B)) → IsStrictlySortedBy order (keys_of entries) → last_wins order entries ≡ entries
+  pub ascending_stay : (entries : List (A × B)) → IsStrictlySortedBy order (keys_of entries) → last_wins order entries ≡ entries
   ascending_stay entries h = put_ascending entries [] h
 
 -- keys ascend as what is told of them

@@ -54,8 +54,10 @@ module _ (K V : Kind) (E : ℕ) {A B : Type 0} (key : List ℕ → ℕ → Resul
       → ((b : List ℕ) (at : ℕ) → value b at ≡ of_value (V.read b at))
       → (b : List ℕ) (at : ℕ) → native_map order b at ≡ map_given order (map (λ e. both (of_key e.0) (of_value e.1)) (read_map K V E b at))
 
--- the map in which last values count: its keys ascend; of equal keys it has the first, and the value of the last
+-- the map in which last values count: its keys ascend; of equal keys it has the first, and the value of the last; entries whose
+-- keys ascend stay as they are
 pub record CountsLast {A B : Type 0} (order : A → A → Ordering) (entries : List (A × B)) : Type 0 where
   pub ascending : IsStrictlySortedBy order (keys_of (last_wins order entries))
   pub first_key : (k : A) → lookup_key (is_at (order k)) (last_wins order entries) ≡ lookup_key (is_at (order k)) entries
   pub last_value : (k : A) → lookup (is_at (order k)) (last_wins order entries) ≡ lookup (is_at (order k)) (reverse entries)
+  pub stay : IsStrictlySortedBy order (keys_of entries) → last_wins order entries ≡ entries

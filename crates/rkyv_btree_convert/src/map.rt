@@ -196,7 +196,7 @@ pub fn maps_are_given_by_entries<
 {}
 
 /// States that the native map of entries with equal keys has the first key and the last value. Its keys ascend, as in each
-/// native map.
+/// native map. Entries whose keys ascend are the native map's.
 pub fn last_values_count<T: Ord, U: PartialEq, K: DeserializeKey<T>, V: Deserialize<U>>()
     ensures { (entries : List (K.Told × V.Told)) → CountsLast K.told_order entries }
 {}
