@@ -1,6 +1,6 @@
 -- What building from a list of all items leaves.
-use Rattle.std.proofs.Common.{◌≡◌, ℕ, ◌<◌, ◌∙◌, List, [], ◌++◌, length, map, Bor, Option, inr, refl, sym, subst, ap, arith}
-use Rattle.std.specs.Iterator.{Yields, Drains}
+use Rattle.std.proofs.Common.{◌≡◌, ℕ, ◌+◌, ◌<◌, ◌∙◌, List, [], ◌++◌, length, map, take, Bor, Option, None, inr, refl, sym, subst, ap, arith}
+use Rattle.std.specs.Iterator.{Yields, YieldsThen, Drains}
 use Rattle.std.proofs.lemmas.List.{length-append, length-map, append-nil, nil_from_length}
 use Rattle.rkyv_btree_writer.specs.Archiving.{Archival}
 use Rattle.rkyv_btree_portable.specs.Kind.{Kind}
@@ -9,7 +9,7 @@ use Rattle.rkyv_btree_shape.specs.Plan.{planned_alone}
 use Rattle.rkyv_btree_image.specs.Serialising.{BeginClaimed, Miscounted, BuildFault}
 use Rattle.rkyv_btree_writer.specs.Writing.{Writing}
 use Rattle.rkyv_btree_image.specs.Entries.{now_of}
-use Rattle.rkyv_btree_image.specs.Written.{ChildStopped}
+use Rattle.rkyv_btree_image.specs.Written.{ChildWritten, ChildStopped}
 use Rattle.rkyv_btree_image.proofs.Begun.{untouched}
 use Rattle.rkyv_btree_image.proofs.Building.{some_claimed}
 use Rattle.rkyv_btree_image.proofs.Untold.{uncounted, unordered}
@@ -28,16 +28,29 @@ only_claimed items claim n xs b =
 
 module _ {M N R S P : Type 0} (K V : Kind) (E : ℕ) (KA : Archival M R) (VA : Archival N S) (steps : P → Option (Bor M × Bor N) → P → Type 0) where
   -- the iterator gave too few items, and nothing was written
-  pub short_of : (iter : P) (claim count : ℕ) (s : Writing) (items : List (Bor M × Bor N)) → Drains steps iter items → count ≡ length items → length items < claim → Miscounted K V E KA VA steps iter claim claim count s s
-  short_of iter claim count s items all counted short = record {
+  pub short_of : (iter : P) (claim count : ℕ) (s : Writing) (items : List (Bor M × Bor N)) (end : P) → YieldsThen steps iter items None end → count ≡ length items → length items < claim → Miscounted K V E KA VA steps iter claim claim count s s
+  short_of iter claim count s items end then counted short = record {
     items = items;
-    all = all;
+    all = (end, then);
     differs = λ e. omega (arith, e);
     claimed = refl;
     counted = counted;
     none = λ empty. refl;
     few = λ some less. let xs = some_claimed items claim some (omega arith) in (xs.0, xs.1, untouched (layout_of K V E) KA VA s (planned_alone E xs.0));
     many = λ more. absurd (omega arith);
+  }
+
+  -- none were claimed, the iterator gave some, and nothing was written
+  pub unclaimed : (iter : P) (claim expected actual : ℕ) (s : Writing) (items : List (Bor M × Bor N)) → claim ≡ 0 → Drains steps iter items → expected ≡ 0 → 0 < actual → actual ≡ 0 + length items → Miscounted K V E KA VA steps iter claim expected actual s s
+  unclaimed iter claim expected actual s items zero all none some counted = record {
+    items = items;
+    all = all;
+    differs = λ e. omega (arith, zero, some, counted, e);
+    claimed = none ∙ sym zero;
+    counted = omega (arith, counted);
+    none = λ empty. refl;
+    few = λ some less. absurd (omega (arith, zero, less));
+    many = λ more. (None, subst (λ n. ChildWritten (layout_of K V E) KA VA s (planned_alone E (map now_of (take n items))) None s) (sym zero) (refl, refl));
   }
 
   -- of as many items as claimed the list is the only one

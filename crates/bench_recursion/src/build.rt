@@ -17,7 +17,7 @@ ghost use Rattle.rkyv_btree_writer.specs.Writing.{position, last_end};
 
 use crate::tree::write_child;
 use rkyv_btree_archive::archive::{Archive, Serialize};
-use rkyv_btree_archive::items::{none_left, take_items};
+use rkyv_btree_archive::items::{AnyOrder, Source, none_left, take_items};
 use rkyv_btree_archive::writes::{Scratch, reserve_scratch};
 use rkyv_btree_portable::check::Portable;
 use rkyv_btree_shape::height::entries_to_height;
@@ -122,7 +122,7 @@ where
 fn build_some<'x, KU, VU, K, V, W, A, I, const E: usize>(
     alloc: A,
     len: usize,
-    mut iter: I,
+    iter: I,
     writer: &mut W,
 ) -> Result<u32, Fault<W::Error>>
 where
@@ -153,14 +153,18 @@ where
     let Ok(mut lists) = reserve::<KU, VU, K, V, A, E>(alloc, len) else {
         return Err(Fault::Memory(AllocError));
     };
-    if !take_items(&mut lists.items, len, &mut iter) {
+    let mut source = Source {
+        items: iter,
+        look: AnyOrder {},
+    };
+    if !take_items(&mut lists.items, len, &mut source) {
         return Err(Fault::Length(IteratorLengthMismatch {
             expected: len,
             actual: lists.items.len(),
         }));
     }
     let root = write_items::<KU, VU, K, V, W, A, E>(alloc, lists, writer)?;
-    if let Err(miscount) = none_left(iter, len) {
+    if let Err(miscount) = none_left::<KU, VU, I, AnyOrder>(&mut source, len) {
         return Err(Fault::Length(miscount));
     }
     Ok(root.unwrap_or(0))
@@ -221,7 +225,11 @@ where
         return Err(Fault::LengthOverflow);
     }
     if len == 0 {
-        if let Err(miscount) = none_left(iter, 0) {
+        let mut source = Source {
+            items: iter,
+            look: AnyOrder {},
+        };
+        if let Err(miscount) = none_left::<KU, VU, I, AnyOrder>(&mut source, 0) {
             return Err(Fault::Length(miscount));
         }
         return Ok(0);

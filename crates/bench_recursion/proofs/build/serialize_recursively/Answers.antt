@@ -1,10 +1,16 @@
 -- What was built of a list is the smallest of its maps.
-use Rattle.std.proofs.Common.{ℕ, ◌<◌, ◌≤◌, [], inl, refl, arith}
+use Rattle.std.proofs.Common.{ℕ, ◌<◌, ◌≤◌, [], Bor, inl, refl, arith}
+use Rattle.std.specs.Prelude.{⊤}
 use Rattle.std.proofs.lemmas.Result.{IfOk-weaker, on_ok_weaker}
 use Rattle.rkyv_btree_image.proofs.Kept.{same_begins, went_nowhere}
 use Rattle.rkyv_btree_image.proofs.SmallestMaps.{builds_none, builds_smallest}
 use Rattle.rkyv_btree_format.proofs.Sizes.{room_of}
 use Rattle.rkyv_btree_image.proofs.OneTree.{builds_one_tree}
+use Rattle.rkyv_btree_image.proofs.Within.{drains_within}
+use Rattle.rkyv_btree_archive.proofs.Sources.{any_within}
+use Rattle.rkyv_btree_archive.specs.declared.items.AnyOrder.{AnyOrder}
+use Rattle.rkyv_btree_archive.specs.mirror.Source.{Gives}
+use Rattle.bench_recursion.proofs.Building.{unclaimed}
 use Rattle.bench_recursion.proofs.build.serialize_recursively.Goals as goal
 
 in_time : (n : ℕ) → n ≤ 4294967295 → 4294967295 < n → ⊥
@@ -20,7 +26,7 @@ pub returns-then-len-eq0-clause-ok : goal.returns-then-len-eq0-clause-ok
 returns-then-len-eq0-clause-ok g c =
     builds_none g.K.Portable.kind g.V.Portable.kind g.row.E g.met.K.Portable.laws g.met.V.Portable.laws c.requires.fitting
     g.KU.Archive.archival g.VU.Archive.archival g.met.KU.Archive.archived g.met.VU.Archive.archived
-    g.I.Iterator.next_gives c.args.iter c.args.len g.W.Writer.state c.args.writer.now [] c.in_default.ensures.ok (omega arith) refl
+    g.I.Iterator.next_gives c.args.iter c.args.len g.W.Writer.state c.args.writer.now [] (drains_within (Gives g.I.Iterator.next_gives (λ (s : AnyOrder) (key : Bor g.row.KU.Denot) (t : AnyOrder). ⊤) (λ (s : AnyOrder) (key : Bor g.row.KU.Denot) (t : AnyOrder). ⊥)) g.I.Iterator.next_gives (λ s. s.items) (any_within g.I.Iterator.next_gives) _ [] (c.none_left.new.source, c.in_default.ensures.ok)) (omega arith) refl
 
 pub returns-then-len-eq0-clause-smallest : goal.returns-then-len-eq0-clause-smallest
 returns-then-len-eq0-clause-smallest g c =
@@ -69,6 +75,13 @@ returns-then-len-clause-past_kept g c = λ late. refl
 
 pub returns-then-len-clause-none_kept : goal.returns-then-len-clause-none_kept
 returns-then-len-clause-none_kept g c = λ none. refl
+
+pub returns-in-Err-clause-err : goal.returns-in-Err-clause-err
+returns-in-Err-clause-err g c =
+    let left = c.in-Err.ensures.actual in
+    unclaimed g.K.Portable.kind g.V.Portable.kind g.row.E g.KU.Archive.archival g.VU.Archive.archival g.I.Iterator.next_gives c.args.iter c.args.len _ _ (g.W.Writer.state c.args.writer.now) left.0 c.if-len-eq0.true
+    (drains_within (Gives g.I.Iterator.next_gives (λ (s : AnyOrder) (key : Bor g.row.KU.Denot) (t : AnyOrder). ⊤) (λ (s : AnyOrder) (key : Bor g.row.KU.Denot) (t : AnyOrder). ⊥)) g.I.Iterator.next_gives (λ s. s.items) (any_within g.I.Iterator.next_gives) _ left.0 (c.none_left.new.source, left.1))
+    c.in-Err.ensures.expected c.in-Err.ensures.more left.2
 
 pub returns-in-Err-clause-kept : goal.returns-in-Err-clause-kept
 returns-in-Err-clause-kept g c = same_begins (g.W.Writer.state c.args.writer.now) (g.W.Writer.state c.args.writer.now) refl
