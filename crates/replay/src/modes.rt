@@ -26,6 +26,8 @@ pub enum Mode {
     PutAll,
     Damage,
     Strict,
+    BuildStrict,
+    Migrate,
 }
 
 impl Mode {
@@ -46,17 +48,19 @@ impl Mode {
             "put-all" => Some(Mode::PutAll),
             "damage" => Some(Mode::Damage),
             "strict" => Some(Mode::Strict),
+            "build-strict" => Some(Mode::BuildStrict),
+            "migrate" => Some(Mode::Migrate),
             _ => None,
         }
     }
 }
 
-/// Runs a case of a map that is built, opened and checked.
+/// Runs a case of a map that is built, opened, checked and migrated.
 pub fn built<
-    KU: Archive<Archived = K> + Serialize<VecWriter, Global> + Wire,
-    VU: Archive<Archived = V> + Serialize<VecWriter, Global> + Wire,
-    K: CheckBytes + ViewOrd + Shown,
-    V: CheckBytes + Shown,
+    KU: Archive<Archived = K> + Serialize<VecWriter, Global> + Wire + Ord,
+    VU: Archive<Archived = V> + Serialize<VecWriter, Global> + Wire + PartialEq,
+    K: CheckBytes + ViewOrd + Shown + DeserializeKey<KU>,
+    V: CheckBytes + Shown + Deserialize<VU>,
     const E: usize,
 >(alloc: Global, mode: Mode, case: &[u8], out: &mut String) -> anyhow::Result<()> {
     match mode {
@@ -67,6 +71,8 @@ pub fn built<
         Mode::Build => building::build::<KU, VU, K, V, E>(alloc, case, out),
         Mode::Golden => building::golden::<KU, VU, K, V, E>(alloc, case, out),
         Mode::Strict => asking::strict::<K, V, E>(alloc, case, out),
+        Mode::BuildStrict => building::build_strict::<KU, VU, K, V, E>(alloc, case, out),
+        Mode::Migrate => building::migrated::<KU, VU, K, V>(alloc, case, out),
         _ => bail!("no such mode of this type"),
     }
 }
