@@ -4,3 +4,4 @@ pub mod Found
 pub mod Goes
 pub mod Passes
 pub mod Places
+pub mod Valid

@@ -15,6 +15,7 @@ use rkyv_btree_portable::rounding::round_up;
 use rkyv_btree_walk::map::ArchivedMap;
 
 /// The check of the value at position `pos` in the window of all that stands before it.
+#[inline(always)]
 pub(crate) fn check_at<T: CheckBytes>(buf: &[u8], pos: u32) -> Result<(), Refusal>
     requires { IsTrue T.kind.is_fitting }
     ensures stands { IfOk result (λ _. IsTrue (stands T.kind buf.now pos)) }
@@ -29,6 +30,7 @@ pub(crate) fn check_at<T: CheckBytes>(buf: &[u8], pos: u32) -> Result<(), Refusa
 
 /// The alignment of leaves and inner nodes.
 #[tactic(auto, unfolding(rkyv_btree_format::specs::Layout::align, rkyv_btree_format::specs::Layout::node_align))]
+#[inline(always)]
 fn align<K: Portable, V: Portable, M: ArchivedMap<Key = K, Mapped = V>>() -> u32
     ensures value { result ≡ align (layout_of K.kind V.kind M.E) }
     ensures positive { 0 < result }
@@ -39,6 +41,7 @@ fn align<K: Portable, V: Portable, M: ArchivedMap<Key = K, Mapped = V>>() -> u32
 
 /// The size of a leaf.
 #[tactic(auto, unfolding(rkyv_btree_format::specs::Layout::leaf_size))]
+#[inline(always)]
 fn leaf_size<K: Portable, V: Portable, M: ArchivedMap<Key = K, Mapped = V>>() -> u32
     requires { IsTrue (are_fitting K.kind V.kind M.E) }
     ensures { result ≡ leaf_size (layout_of K.kind V.kind M.E) }
@@ -48,6 +51,7 @@ fn leaf_size<K: Portable, V: Portable, M: ArchivedMap<Key = K, Mapped = V>>() ->
 
 /// The size of an inner node.
 #[tactic(auto, unfolding(rkyv_btree_format::specs::Layout::inner_size))]
+#[inline(always)]
 fn inner_size<K: Portable, V: Portable, M: ArchivedMap<Key = K, Mapped = V>>() -> u32
     requires { IsTrue (are_fitting K.kind V.kind M.E) }
     ensures { result ≡ inner_size (layout_of K.kind V.kind M.E) }
@@ -57,6 +61,7 @@ fn inner_size<K: Portable, V: Portable, M: ArchivedMap<Key = K, Mapped = V>>() -
 }
 
 /// Where a node stands to which the pointer at `at` leads, if there is room for a leaf before `hi` and it is aligned.
+#[inline(always)]
 pub(crate) fn node_place<K: Portable, V: Portable, M: ArchivedMap<Key = K, Mapped = V>>(
     buf: &[u8],
     at: u32,
@@ -89,6 +94,7 @@ pub(crate) fn node_place<K: Portable, V: Portable, M: ArchivedMap<Key = K, Mappe
 }
 
 /// How many entries the node at `node` has, if it is a leaf or an inner node that ends before `hi`.
+#[inline(always)]
 pub(crate) fn entries_in<K: Portable, V: Portable, M: ArchivedMap<Key = K, Mapped = V>>(
     buf: &[u8],
     node: u32,

@@ -30,6 +30,7 @@ pub(crate) enum Halt {
 }
 
 /// Compares the query with the key at `pos`, which has to mean something.
+#[inline(always)]
 fn compare_at<'a, Q, K: CheckBytes, W: Shows<'a, K>, C: Fn(&Q, W) -> Compared>(
     buf: &'a [u8],
     pos: u32,
@@ -51,7 +52,8 @@ fn compare_at<'a, Q, K: CheckBytes, W: Shows<'a, K>, C: Fn(&Q, W) -> Compared>(
 }
 
 /// Compares the query with the keys of a node, from the left.
-pub(crate) fn search_keys<
+#[inline(always)]
+fn search_keys<
     'a,
     Q,
     K: CheckBytes,
@@ -101,7 +103,8 @@ pub(crate) enum Next {
 }
 
 /// The search of a node at a place with room for a leaf.
-pub(crate) fn search_node<
+#[inline(always)]
+fn search_node<
     'a,
     Q,
     K: CheckBytes,
@@ -156,7 +159,8 @@ pub(crate) fn search_node<
 }
 
 /// The search of the tree at `root`, where a leaf has room before `hi`, of at most 32 levels.
-pub(crate) fn search_tree<
+#[inline(always)]
+fn search_tree<
     'a,
     Q,
     K: CheckBytes,
@@ -209,6 +213,7 @@ pub(crate) fn search_tree<
 }
 
 /// The entry of the map at `pos` at which a search ends with Equal, by its node and number.
+#[inline(always)]
 pub(crate) fn search<
     'a,
     Q,

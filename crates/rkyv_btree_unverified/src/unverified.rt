@@ -126,6 +126,7 @@ impl<'a, K: CheckBytes, V: CheckBytes, M: ArchivedMap<Key = K, Mapped = V>> Unve
     }
 
     /// Returns the views of the entry at which a search ended, by its node and number.
+    #[inline(always)]
     fn entry_found(self, found: Option<(u32, u32)>) -> Option<(View<'a, K>, View<'a, V>)>
         requires short { length self.buf.now ≤ 4294967295 }
         requires stands { IfSome found (λ e.
@@ -296,7 +297,7 @@ impl<
         ensures all_refused { ByNative K.kind K.compared_at key (λ answer.
             (refusal : Refusal) → LookupGives K.kind V.kind M.E self.entry.buf.now answer K.Refuses V.Refuses self.entry.pos (Err refusal) → result ≡ Err refusal) }
     {
-        match self.get_key_value_by(key) {
+        match self.get_by(key) {
             Err(refusal) => Err(refusal),
             Ok(found) => Ok(found.is_some()),
         }
@@ -403,7 +404,7 @@ impl<
         ensures all_refused { let answer = K.kind.order (reads key.entry) in
             (refusal : Refusal) → LookupGives K.kind V.kind M.E self.entry.buf.now answer K.Refuses V.Refuses self.entry.pos (Err refusal) → result ≡ Err refusal }
     {
-        match self.get_key_value(key) {
+        match self.get(key) {
             Err(refusal) => Err(refusal),
             Ok(found) => Ok(found.is_some()),
         }

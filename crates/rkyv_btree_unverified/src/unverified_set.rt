@@ -123,7 +123,7 @@ impl<'a, K: CheckBytes, const E: usize> Unverified<'a, ArchivedBTreeSet<K, E>> {
         ensures all_refused { ByNative K.kind K.compared_at key (λ answer.
             (refusal : Refusal) → LookupGives K.kind unit_kind E self.entry.buf.now answer K.Refuses ⟦<() as CheckBytes>⟧.Refuses self.entry.pos (Err refusal) → result ≡ Err refusal) }
     {
-        match self.as_map().get_key_value_by(key) {
+        match self.get_by(key) {
             Err(refusal) => Err(refusal),
             Ok(found) => Ok(found.is_some()),
         }
@@ -189,7 +189,7 @@ impl<'a, K: CheckBytes + ViewOrd, const E: usize> Unverified<'a, ArchivedBTreeSe
         ensures all_refused { let answer = K.kind.order (reads key.entry) in
             (refusal : Refusal) → LookupGives K.kind unit_kind E self.entry.buf.now answer K.Refuses ⟦<() as CheckBytes>⟧.Refuses self.entry.pos (Err refusal) → result ≡ Err refusal }
     {
-        match self.as_map().get_key_value(key) {
+        match self.get(key) {
             Err(refusal) => Err(refusal),
             Ok(found) => Ok(found.is_some()),
         }
