@@ -11,6 +11,7 @@ use rkyv_btree_view::view::View;
 use rkyv_btree_walk::map::ArchivedMap;
 
 /// Returns whether the first key is less than the second.
+#[inline(always)]
 fn is_less<K: ViewOrd>(first: &View<'_, K>, second: &View<'_, K>) -> bool
     ensures { IsTrue result ↔ (K.kind.order (reads first.now) (reads second.now) ≡ Less) }
 {

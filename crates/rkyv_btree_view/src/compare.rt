@@ -110,6 +110,7 @@ impl ViewEq for ArchivedText {
 }
 
 impl ViewOrd for ArchivedText {
+    #[inline(always)]
     fn compare(a: &View<'_, ArchivedText>, b: &View<'_, ArchivedText>) -> Ordering {
         a.as_str().cmp(&b.as_str())
     }

@@ -5,7 +5,8 @@ ghost use Rattle.rkyv_btree_base.specs.Refusal.{Refusal};
 
 use rkyv_btree_base::check::{CheckBytes, Portable, Window};
 use rkyv_btree_base::refusal::Refusal;
-use rkyv_btree_base::text::{ArchivedText, text_range};
+use rkyv_btree_base::text::ArchivedText;
+use rkyv_btree_portable::bytes::{num32, pointed_at};
 use rkyv_btree_walk::shows::Shows;
 use std::alloc::AllocError;
 use std::marker::PhantomData;
@@ -74,16 +75,9 @@ impl<'a> View<'a, ArchivedText> {
     pub fn as_str(self) -> &'a str
         ensures { result.now ≡ reads self.entry }
     {
-        let before = Window {
-            lo: 0,
-            hi: self.pos,
-        };
-        // A view stands on a text before it alone, and on UTF-8 alone.
-        match text_range(self.buf, self.pos, before) {
-            Some(text) => unsafe {
-                from_utf8_unchecked(&self.buf[text.lo as usize..text.hi as usize])
-            },
-            None => unreachable!(),
-        }
+        // A view stands on a text whose bytes lie before it, and are UTF-8.
+        let start = pointed_at(self.buf, self.pos) as usize;
+        let len = num32(self.buf, self.pos + 4) as usize;
+        unsafe { from_utf8_unchecked(&self.buf[start..start + len]) }
     }
 }

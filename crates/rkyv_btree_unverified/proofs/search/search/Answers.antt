@@ -1,0 +1,47 @@
+-- The root of an accepted map passes, and its search is that of the map.
+use Rattle.std.proofs.Common.{◌≡◌, ◌∙◌, refl, sym, Ok, Err, Some, None}
+use Rattle.std.proofs.lemmas.Result.{IfOk-weaker}
+use Rattle.rkyv_btree_base.specs.Layout.{layout_of}
+use Rattle.rkyv_btree_walk.specs.mirror.Search.{answers_at, searched, searched_map}
+use Rattle.rkyv_btree_unverified.proofs.Passes.{accepted_passes, root_fits, root_finds}
+use Rattle.rkyv_btree_unverified.specs.Steps.{misplaced, empty, bad_root, root}
+use Rattle.rkyv_btree_unverified.proofs.search.search.Goals as goal
+
+pub returns-in-Ok-node_place-clause-accepts : goal.returns-in-Ok-node_place-clause-accepts
+returns-in-Ok-node_place-clause-accepts g c m h =
+    c.search_tree.ensures.accepts (accepted_passes _ _ _ _ g.met.K.Portable.laws g.met.V.Portable.laws c.requires.fitting _ h.0 _ m h.1 (λ z. c.if-num32-eq0.false (c.num32.ensures ∙ z)) c.in-Ok-node_place.ensures.within.0)
+
+pub returns-in-Ok-node_place-clause-found : goal.returns-in-Ok-node_place-clause-found
+returns-in-Ok-node_place-clause-found g c m h f p =
+    let K = g.K.Portable.kind in let V = g.V.Portable.kind in let E = g.M.ArchivedMap.E in
+    let b = c.args.buf.now in
+    let passes = accepted_passes _ _ _ _ g.met.K.Portable.laws g.met.V.Portable.laws c.requires.fitting _ h.0 _ m h.1 (λ z. c.if-num32-eq0.false (c.num32.ensures ∙ z)) c.in-Ok-node_place.ensures.within.0 in
+    let same = root_finds K V E b g.met.K.Portable.laws g.met.V.Portable.laws c.requires.fitting c.args.pos h.0 m h.1 (λ z. c.if-num32-eq0.false (c.num32.ensures ∙ z)) c.in-Ok-node_place.root c.in-Ok-node_place.ensures.within.0 (answers_at K V E b (f c.args.key.now)) in
+    IfOk-weaker c.search_tree.result (λ found. found ≡ (searched (layout_of K V E) b (answers_at K V E b (f c.args.key.now)) 32 c.in-Ok-node_place.root).0) (λ found. found ≡ (searched_map (layout_of K V E) b (answers_at K V E b (f c.args.key.now)) c.args.pos).0) (λ x e. e ∙ same) (c.search_tree.ensures.found passes f p)
+
+pub returns-in-Err-node_place-clause-accepts : goal.returns-in-Err-node_place-clause-accepts
+returns-in-Err-node_place-clause-accepts g c m h =
+    let fits = root_fits _ _ _ _ g.met.K.Portable.laws g.met.V.Portable.laws c.requires.fitting _ h.0 m h.1 (λ z. c.if-num32-eq0.false (c.num32.ensures ∙ z)) in
+    c.in-Err-node_place.ensures.accepts fits.0 fits.1 fits.2
+
+pub returns-in-Err-clause-gives : goal.returns-in-Err-clause-gives
+returns-in-Err-clause-gives g c f p = record { result = Err _; gives = misplaced c.in-Err.ensures.err; goes_on = refl }
+
+pub returns-then-num32-eq0-clause-gives : goal.returns-then-num32-eq0-clause-gives
+returns-then-num32-eq0-clause-gives g c f p = record { result = Ok None; gives = empty c.in-Ok.ensures.ok (sym c.num32.ensures ∙ c.if-num32-eq0.true); goes_on = refl }
+
+pub returns-in-Ok-node_place-clause-gives : goal.returns-in-Ok-node_place-clause-gives
+returns-in-Ok-node_place-clause-gives g c f p =
+    record {
+      result = Ok (Some c.in-Ok-node_place.root);
+      gives = root c.in-Ok.ensures.ok (λ z. c.if-num32-eq0.false (c.num32.ensures ∙ z)) c.in-Ok-node_place.ensures.gives;
+      goes_on = c.search_tree.ensures.gives f p;
+    }
+
+pub returns-in-Err-node_place-clause-gives : goal.returns-in-Err-node_place-clause-gives
+returns-in-Err-node_place-clause-gives g c f p =
+    record {
+      result = Err _;
+      gives = bad_root c.in-Ok.ensures.ok (λ z. c.if-num32-eq0.false (c.num32.ensures ∙ z)) c.in-Err-node_place.ensures.gives;
+      goes_on = refl;
+    }

@@ -1,0 +1,72 @@
+-- Where the tree passes, each node that is met does, and the search goes on as in a map that was checked.
+use Rattle.std.proofs.Common.{ℕ, ◌-◌, arith, subst, sym}
+use Rattle.rkyv_btree_base.specs.Layout.{layout_of}
+use Rattle.rkyv_btree_walk.specs.mirror.Search.{answers_at}
+use Rattle.rkyv_btree_unverified.proofs.Passes.{none_left, levels_left, with_level, hit_equal, hit_finds, miss_finds, down_finds, down_stands, down_passes, found_on}
+use Rattle.rkyv_btree_unverified.proofs.Goes.{no_levels, levels_over, hit_gives, miss_gives, down_gives}
+use Rattle.rkyv_btree_unverified.proofs.Places.{kept}
+use Rattle.rkyv_btree_base.specs.Refusal.{Refusal}
+use Rattle.rkyv_btree_base.specs.Refusal.TheVariants.{TooDeep}
+use Rattle.std.specs.Prelude.{Option, Result, Err, pos}
+use Rattle.rkyv_btree_unverified.specs.Lookups.{TreeGives}
+use Rattle.rkyv_btree_unverified.proofs.search.search_tree.Goals as goal
+
+pub returns-then-levels-eq0-clause-accepts : goal.returns-then-levels-eq0-clause-accepts
+returns-then-levels-eq0-clause-accepts g c h = absurd (none_left g.K.Portable.kind g.V.Portable.kind g.M.ArchivedMap.E c.args.buf.now c.down.levels c.down.end c.down.node c.if-levels-eq0.true (c.down.invariant.3 h))
+
+pub returns-in-Err-clause-accepts : goal.returns-in-Err-clause-accepts
+returns-in-Err-clause-accepts g c h = c.in-Err.ensures.accepts (c.down.levels - 1) (with_level g.K.Portable.kind g.V.Portable.kind g.M.ArchivedMap.E c.args.buf.now c.down.levels c.down.end c.down.node (c.down.invariant.3 h))
+
+pub returns-in-Ok-Hit-clause-found : goal.returns-in-Ok-Hit-clause-found
+returns-in-Ok-Hit-clause-found g c h f p =
+    let here = c.down.invariant.3 h in
+    let up = with_level g.K.Portable.kind g.V.Portable.kind g.M.ArchivedMap.E c.args.buf.now c.down.levels c.down.end c.down.node here in
+    let finds = hit_finds g.K.Portable.kind g.V.Portable.kind g.M.ArchivedMap.E c.args.buf.now (c.down.levels - 1) c.down.node c.in-Ok-Hit.field-0 (answers_at g.K.Portable.kind g.V.Portable.kind g.M.ArchivedMap.E c.args.buf.now (f c.args.key.now)) _ (c.in-Ok-Hit.ensures.found (c.down.levels - 1) up f p) c.in-Ok-Hit.i c.in-Ok-Hit.field-0-is in
+    sym (found_on (layout_of g.K.Portable.kind g.V.Portable.kind g.M.ArchivedMap.E) c.args.buf.now (answers_at g.K.Portable.kind g.V.Portable.kind g.M.ArchivedMap.E c.args.buf.now (f c.args.key.now)) c.down.levels (c.down.levels - 1) c.down.node (c.down.invariant.4 h f p) (levels_left g.K.Portable.kind g.V.Portable.kind g.M.ArchivedMap.E c.args.buf.now c.down.levels c.down.end c.down.node here) finds)
+
+pub returns-in-Ok-Miss-clause-found : goal.returns-in-Ok-Miss-clause-found
+returns-in-Ok-Miss-clause-found g c h f p =
+    let here = c.down.invariant.3 h in
+    let up = with_level g.K.Portable.kind g.V.Portable.kind g.M.ArchivedMap.E c.args.buf.now c.down.levels c.down.end c.down.node here in
+    let finds = miss_finds g.K.Portable.kind g.V.Portable.kind g.M.ArchivedMap.E c.args.buf.now (c.down.levels - 1) c.down.node c.in-Ok-Miss.field-0 (answers_at g.K.Portable.kind g.V.Portable.kind g.M.ArchivedMap.E c.args.buf.now (f c.args.key.now)) _ (c.in-Ok-Miss.ensures.found (c.down.levels - 1) up f p) c.in-Ok-Miss.field-0-is in
+    sym (found_on (layout_of g.K.Portable.kind g.V.Portable.kind g.M.ArchivedMap.E) c.args.buf.now (answers_at g.K.Portable.kind g.V.Portable.kind g.M.ArchivedMap.E c.args.buf.now (f c.args.key.now)) c.down.levels (c.down.levels - 1) c.down.node (c.down.invariant.4 h f p) (levels_left g.K.Portable.kind g.V.Portable.kind g.M.ArchivedMap.E c.args.buf.now c.down.levels c.down.end c.down.node here) finds)
+
+pub down-preserved : goal.down-preserved
+down-preserved g c =
+    let room = down_stands g.K.Portable.kind g.V.Portable.kind g.M.ArchivedMap.E c.args.buf.now 0 c.down.node c.in-Ok-Down.field-0 c.in-Ok-Down.below c.in-Ok-Down.field-0-is c.in-Ok-Down.ensures.stands in (
+      omega arith,
+      omega (arith, c.down.invariant.1, c.down.invariant.2.room),
+      room,
+      (λ h. down_passes g.K.Portable.kind g.V.Portable.kind g.M.ArchivedMap.E c.args.buf.now (c.down.levels - 1) c.down.node c.in-Ok-Down.field-0 c.in-Ok-Down.below c.in-Ok-Down.field-0-is (c.in-Ok-Down.ensures.passes (c.down.levels - 1) (with_level g.K.Portable.kind g.V.Portable.kind g.M.ArchivedMap.E c.args.buf.now c.down.levels c.down.end c.down.node (c.down.invariant.3 h)))),
+      (λ h f p.
+          let here = c.down.invariant.3 h in
+          let up = with_level g.K.Portable.kind g.V.Portable.kind g.M.ArchivedMap.E c.args.buf.now c.down.levels c.down.end c.down.node here in
+          let finds = down_finds g.K.Portable.kind g.V.Portable.kind g.M.ArchivedMap.E c.args.buf.now (c.down.levels - 1) c.down.node c.in-Ok-Down.field-0 (answers_at g.K.Portable.kind g.V.Portable.kind g.M.ArchivedMap.E c.args.buf.now (f c.args.key.now)) _ (c.in-Ok-Down.ensures.found (c.down.levels - 1) up f p) c.in-Ok-Down.below c.in-Ok-Down.field-0-is in
+          found_on (layout_of g.K.Portable.kind g.V.Portable.kind g.M.ArchivedMap.E) c.args.buf.now (answers_at g.K.Portable.kind g.V.Portable.kind g.M.ArchivedMap.E c.args.buf.now (f c.args.key.now)) c.down.levels (c.down.levels - 1) c.down.node (c.down.invariant.4 h f p) (levels_left g.K.Portable.kind g.V.Portable.kind g.M.ArchivedMap.E c.args.buf.now c.down.levels c.down.end c.down.node here) finds),
+      (λ f p r below.
+          c.down.invariant.5 f p r (levels_over g.K.Portable.kind g.V.Portable.kind g.M.ArchivedMap.E c.args.buf.now (f c.args.key.now) g.K.CheckBytes.Refuses g.V.CheckBytes.Refuses c.down.levels c.down.end c.down.node r c.if-levels-eq0.false
+          (down_gives g.K.Portable.kind g.V.Portable.kind g.M.ArchivedMap.E c.args.buf.now (f c.args.key.now) g.K.CheckBytes.Refuses g.V.CheckBytes.Refuses (c.down.levels - 1) c.down.end c.down.node c.in-Ok-Down.field-0 (c.in-Ok-Down.ensures.gives f p (c.down.levels - 1)) c.in-Ok-Down.below c.in-Ok-Down.field-0-is r below))),
+    )
+
+pub returns-in-Ok-Hit-clause-equal : goal.returns-in-Ok-Hit-clause-equal
+returns-in-Ok-Hit-clause-equal g c f p = hit_equal (answers_at g.K.Portable.kind g.V.Portable.kind g.M.ArchivedMap.E c.args.buf.now (f c.args.key.now)) c.down.node c.in-Ok-Hit.i c.in-Ok-Hit.field-0 c.in-Ok-Hit.field-0-is (c.in-Ok-Hit.ensures.equal f p)
+
+pub returns-then-levels-eq0-clause-gives : goal.returns-then-levels-eq0-clause-gives
+returns-then-levels-eq0-clause-gives g c f p =
+    let r : Result (Option (ℕ × ℕ)) Refusal = Err (TooDeep (pos c.down.node)) in
+    rw (kept c.from.result (pos c.down.node) c.from.ensures c.from.type_inv)
+    (c.down.invariant.5 f p r (subst (λ (n : ℕ). TreeGives g.K.Portable.kind g.V.Portable.kind g.M.ArchivedMap.E c.args.buf.now (f c.args.key.now) g.K.CheckBytes.Refuses g.V.CheckBytes.Refuses n c.down.end c.down.node r) (sym c.if-levels-eq0.true) (no_levels g.K.Portable.kind g.V.Portable.kind g.M.ArchivedMap.E c.args.buf.now (f c.args.key.now) g.K.CheckBytes.Refuses g.V.CheckBytes.Refuses c.down.end c.down.node)))
+
+pub returns-in-Err-clause-gives : goal.returns-in-Err-clause-gives
+returns-in-Err-clause-gives g c f p =
+    c.down.invariant.5 f p _ (levels_over g.K.Portable.kind g.V.Portable.kind g.M.ArchivedMap.E c.args.buf.now (f c.args.key.now) g.K.CheckBytes.Refuses g.V.CheckBytes.Refuses c.down.levels c.down.end c.down.node _ c.if-levels-eq0.false (c.in-Err.ensures.gives f p (c.down.levels - 1)))
+
+pub returns-in-Ok-Hit-clause-gives : goal.returns-in-Ok-Hit-clause-gives
+returns-in-Ok-Hit-clause-gives g c f p =
+    c.down.invariant.5 f p _ (levels_over g.K.Portable.kind g.V.Portable.kind g.M.ArchivedMap.E c.args.buf.now (f c.args.key.now) g.K.CheckBytes.Refuses g.V.CheckBytes.Refuses c.down.levels c.down.end c.down.node _ c.if-levels-eq0.false
+    (hit_gives g.K.Portable.kind g.V.Portable.kind g.M.ArchivedMap.E c.args.buf.now (f c.args.key.now) g.K.CheckBytes.Refuses g.V.CheckBytes.Refuses (c.down.levels - 1) c.down.end c.down.node c.in-Ok-Hit.field-0 (c.in-Ok-Hit.ensures.gives f p (c.down.levels - 1)) c.in-Ok-Hit.i c.in-Ok-Hit.field-0-is))
+
+pub returns-in-Ok-Miss-clause-gives : goal.returns-in-Ok-Miss-clause-gives
+returns-in-Ok-Miss-clause-gives g c f p =
+    c.down.invariant.5 f p _ (levels_over g.K.Portable.kind g.V.Portable.kind g.M.ArchivedMap.E c.args.buf.now (f c.args.key.now) g.K.CheckBytes.Refuses g.V.CheckBytes.Refuses c.down.levels c.down.end c.down.node _ c.if-levels-eq0.false
+    (miss_gives g.K.Portable.kind g.V.Portable.kind g.M.ArchivedMap.E c.args.buf.now (f c.args.key.now) g.K.CheckBytes.Refuses g.V.CheckBytes.Refuses (c.down.levels - 1) c.down.end c.down.node c.in-Ok-Miss.field-0 (c.in-Ok-Miss.ensures.gives f p (c.down.levels - 1)) c.in-Ok-Miss.field-0-is))

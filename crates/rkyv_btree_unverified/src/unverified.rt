@@ -1,0 +1,435 @@
+//! Maps that nobody has validated.
+ghost use Rattle.std.specs.BTreeMap.{is_at};
+ghost use Rattle.std.specs.Map.{lookup, lookup_entry};
+ghost use Rattle.std.specs.Option.{option_map};
+ghost use Rattle.std.specs.Prelude.{◌≡◌, ◌↔◌, ◌≤◌, ◌<◌, ◌+◌, Err, Ok, IfErr, IfOk, IfSome, IsOk, IsSome, IsTrue, is_some, length, ⊤};
+ghost use Rattle.std.specs.declared.cmp.Ordering.TheVariants.{Equal};
+ghost use Rattle.rkyv_btree_base.specs.Layout.{are_fitting};
+ghost use Rattle.rkyv_btree_base.specs.Map.{map_kind};
+ghost use Rattle.rkyv_btree_base.specs.Read.{entry_at, read_map};
+ghost use Rattle.rkyv_btree_base.specs.Refusal.{Refusal};
+ghost use Rattle.rkyv_btree_base.specs.Refusal.TheVariants.{TooLong};
+ghost use Rattle.rkyv_btree_base.specs.Refusals.{RefusesMap, map_len};
+ghost use Rattle.rkyv_btree_base.specs.Refusing.{Misplaced};
+ghost use Rattle.rkyv_btree_base.specs.Whole.{own_at};
+ghost use Rattle.rkyv_btree_strict.specs.Increasing.{Increasing};
+ghost use Rattle.rkyv_btree_unverified.specs.Lookups.{FindsAt, LookupGives};
+ghost use Rattle.rkyv_btree_unverified.specs.Steps.{entry_places, places, value_place};
+ghost use Rattle.rkyv_btree_view.specs.Lookup.{found_at, ByComparison, ByNative};
+ghost use Rattle.rkyv_btree_view.specs.Map.{IsMap};
+ghost use Rattle.rkyv_btree_view.specs.View.{reads, reads_both};
+ghost use Rattle.rkyv_btree_walk.specs.Search.{shown, AnyHit, OrderedBy};
+ghost use Rattle.rkyv_btree_walk.specs.mirror.Node.{RunStands};
+
+use crate::search::search;
+use rkyv_btree_base::bytes::num32;
+use rkyv_btree_base::check::{CheckBytes, Portable};
+use rkyv_btree_base::map::ArchivedBTreeMap;
+use rkyv_btree_base::refusal::Refusal;
+use rkyv_btree_portable::check::check_own_bytes;
+use rkyv_btree_view::compare::ViewOrd;
+use rkyv_btree_view::map::{ShowsEntries, access};
+use rkyv_btree_view::query::CompareWith;
+use rkyv_btree_view::view::View;
+use rkyv_btree_walk::map::ArchivedMap;
+use rkyv_btree_walk::node::{key_pos, value_pos};
+use rkyv_btree_walk::search::Compared;
+use rkyv_btree_walk::shows::Shows;
+use std::alloc::AllocError;
+use std::cmp::Ordering;
+use std::marker::PhantomData;
+
+/// A type of maps whose lookups show entries. Those of a set show its keys alone, by calls of the same names.
+pub trait UnverifiedEntries: ShowsEntries {}
+
+impl<K, V, const E: usize> UnverifiedEntries for ArchivedBTreeMap<K, V, E> {}
+
+/// A position in untrusted bytes, at which lookups look for a map or a set of type `M`. Each lookup validates what it reads:
+/// the map's own bytes, one node a level, the keys that it compares, and the value that it finds.
+///
+/// `Ok(None)` doesn't mean that the key is absent, since the bytes may be no map. What is found is equal and valid, but it may
+/// share bytes with other entries. `verify` validates all of it.
+pub struct Unverified<'a, M: ArchivedMap> {
+    pub buf: &'a [u8],
+    pub pos: u32,
+    pub of: PhantomData<M>,
+    // So a lookup asks nothing of its caller.
+    pub ghost fitting: { IsTrue (are_fitting M.Key.kind M.Mapped.kind M.E) },
+}
+
+impl<'a, M: ArchivedMap> Copy for Unverified<'a, M> {}
+
+impl<'a, M: ArchivedMap> Clone for Unverified<'a, M> {
+    ghost is_clone = { λ s r. r ≡ s };
+
+    ghost is_infallible = { λ _. ⊤ };
+
+    fn clone(&self) -> Result<Unverified<'a, M>, AllocError> {
+        Ok(*self)
+    }
+}
+
+impl<'a, K: CheckBytes, V: CheckBytes, M: ArchivedMap<Key = K, Mapped = V>> Unverified<'a, M> {
+    /// Returns the position `pos` of `buf`. Nothing is looked at.
+    pub fn new(buf: &'a [u8], pos: u32) -> Unverified<'a, M>
+        requires { IsTrue (are_fitting K.kind V.kind M.E) }
+        ensures buffer { result.buf.now ≡ buf.now }
+        ensures position { result.pos ≡ pos }
+    {
+        Unverified {
+            buf,
+            pos,
+            of: PhantomData,
+        }
+    }
+
+    /// Returns the position of the own bytes of a whole archive, which are the last eight. Nothing is looked at.
+    ///
+    /// # Errors
+    ///
+    /// `Refusal::TooLong` if positions of 32 bits don't reach all bytes.
+    pub fn open(bytes: &'a [u8]) -> Result<Unverified<'a, M>, Refusal>
+        requires { IsTrue (are_fitting K.kind V.kind M.E) }
+        ensures buffer { IfOk result (λ map. map.buf.now ≡ bytes.now) }
+        ensures position { IfOk result (λ map.
+            map.pos ≡ own_at (map_kind K.kind V.kind M.E) bytes.now) }
+        ensures short { length bytes.now ≤ 4294967295 → IsOk result }
+        ensures refused { IfErr result (λ refusal.
+            (refusal ≡ TooLong) × (4294967295 < length bytes.now)) }
+    {
+        let Ok(len) = u32::try_from(bytes.len()) else {
+            return Err(Refusal::TooLong);
+        };
+        Ok(Unverified::new(bytes, len.saturating_sub(8)))
+    }
+
+    /// Returns the number of entries, as the map's own bytes say it.
+    ///
+    /// # Errors
+    ///
+    /// A fault of the own bytes: they don't lie in the buffer, or aren't aligned.
+    pub fn len(self) -> Result<u32, Refusal>
+        ensures read { IfOk result (λ len.
+            len ≡ map_len K.kind V.kind M.E self.entry.buf.now self.entry.pos) }
+        ensures accepts { (m : _) → IsMap K.kind V.kind M.E self.entry.buf.now self.entry.pos m →
+            IsOk result }
+        ensures counts { (m : _) → IsMap K.kind V.kind M.E self.entry.buf.now self.entry.pos m →
+            IfOk result (λ len. len ≡ length m) }
+        ensures refused { IfErr result (Misplaced self.entry.buf.now 8 4 self.entry.pos) }
+        ensures all_refused { (refusal : Refusal) →
+            Misplaced self.entry.buf.now 8 4 self.entry.pos refusal → result ≡ Err refusal }
+    {
+        match check_own_bytes(self.buf, self.pos, 8, 4) {
+            Ok(_) => Ok(num32(self.buf, self.pos + 4)),
+            Err(refusal) => Err(refusal),
+        }
+    }
+
+    /// Returns the views of the entry at which a search ended, by its node and number.
+    #[inline(always)]
+    fn entry_found(self, found: Option<(u32, u32)>) -> Option<(View<'a, K>, View<'a, V>)>
+        requires short { length self.buf.now ≤ 4294967295 }
+        requires stands { IfSome found (λ e.
+            RunStands K.kind V.kind M.E self.buf.now e.0 e.1 (e.1 + 1)) }
+        ensures reads { option_map reads_both result
+            ≡ option_map (entry_at K.kind V.kind M.E self.entry.buf.now) found }
+        ensures buffer { IfSome result (λ e.
+            (e.0.buf.now ≡ self.entry.buf.now) × (e.1.buf.now ≡ self.entry.buf.now)) }
+        ensures places { option_map places result
+            ≡ option_map (entry_places K.kind V.kind M.E) found }
+    {
+        match found {
+            None => None,
+            Some((node, index)) => {
+                let key = View::<K>::at(self.buf, key_pos::<K, V, M>(node, index as usize));
+                let value = View::<V>::at(self.buf, value_pos::<K, V, M>(node, index as usize));
+                Some((key, value))
+            }
+        }
+    }
+
+    /// Returns the entry whose key is equal to the query, by a comparison that is a function of both: the query comes first,
+    /// and `Greater` means that it is past the key.
+    ///
+    /// # Errors
+    ///
+    /// The first fault in what the search reads. No memory is allocated.
+    pub fn get_key_value_with<Q, W: Shows<'a, K>, C: Fn(&Q, W) -> Ordering>(
+        self,
+        key: &Q,
+        cmp: C,
+    ) -> Result<Option<(View<'a, K>, View<'a, V>)>, Refusal>
+        requires { C.IsAlwaysCallable cmp }
+        // On all bytes what is found is equal, and stands where the search comes to.
+        ensures equal { ByComparison (C.post cmp) (shown K.kind W.Shows) key.now (λ answer.
+            IfOk result (λ found. IfSome (option_map reads_both found) (λ e. answer e.0 ≡ Equal))) }
+        ensures places { ByComparison (C.post cmp) (shown K.kind W.Shows) key.now (λ answer.
+            IfOk result (λ found. FindsAt K.kind V.kind M.E self.entry.buf.now answer K.Refuses V.Refuses self.entry.pos (entry_places K.kind V.kind M.E) (option_map places found))) }
+        ensures buffer { IfOk result (λ found. IfSome found (λ e.
+            (e.0.buf.now ≡ self.entry.buf.now) × (e.1.buf.now ≡ self.entry.buf.now))) }
+        // On a map there is no error, and this is what a lookup in a view of it finds.
+        ensures accepts { (m : _) → IsMap K.kind V.kind M.E self.entry.buf.now self.entry.pos m →
+            IsOk result }
+        ensures found { (m : _) → IsMap K.kind V.kind M.E self.entry.buf.now self.entry.pos m →
+            ByComparison (C.post cmp) (shown K.kind W.Shows) key.now (λ answer.
+            IfOk result (λ found. option_map reads_both found ≡ found_at K.kind V.kind M.E self.entry.buf.now self.entry.pos answer)) }
+        ensures complete { (m : _) → IsMap K.kind V.kind M.E self.entry.buf.now self.entry.pos m →
+            ByComparison (C.post cmp) (shown K.kind W.Shows) key.now (λ answer.
+            IfOk result (λ found. OrderedBy (λ e. answer e.0) m → (IsSome found ↔ AnyHit (λ e. answer e.0) m))) }
+        // Each error has its cause, and each cause its error.
+        ensures refused { ByComparison (C.post cmp) (shown K.kind W.Shows) key.now (λ answer.
+            IfErr result (λ refusal. LookupGives K.kind V.kind M.E self.entry.buf.now answer K.Refuses V.Refuses self.entry.pos (Err refusal))) }
+        ensures all_refused { ByComparison (C.post cmp) (shown K.kind W.Shows) key.now (λ answer.
+            (refusal : Refusal) → LookupGives K.kind V.kind M.E self.entry.buf.now answer K.Refuses V.Refuses self.entry.pos (Err refusal) → result ≡ Err refusal) }
+    {
+        let compare = |query: &Q, key: W| Compared::of(cmp(query, key));
+        match search::<Q, K, V, M, W, _>(self.buf, self.pos, key, &compare) {
+            Err(refusal) => Err(refusal),
+            Ok(found) => Ok(self.entry_found(found)),
+        }
+    }
+}
+
+impl<
+    'a,
+    K: CheckBytes,
+    V: CheckBytes,
+    M: ArchivedMap<Key = K, Mapped = V> + UnverifiedEntries,
+> Unverified<'a, M> {
+    /// Returns the entry whose key is equal to a native value: a number, a `&str`, a pair of such, or what else keys compare
+    /// with.
+    ///
+    /// # Errors
+    ///
+    /// The first fault in what the search reads. No memory is allocated.
+    pub fn get_key_value_by<T: Drop>(
+        self,
+        key: T,
+    ) -> Result<Option<(View<'a, K>, View<'a, V>)>, Refusal>
+    where
+        K: CompareWith<T>,
+        // On all bytes what is found is equal, and stands where the search comes to.
+        ensures equal { ByNative K.kind K.compared_at key (λ answer.
+            IfOk result (λ found. IfSome (option_map reads_both found) (λ e. answer e.0 ≡ Equal))) }
+        ensures places { ByNative K.kind K.compared_at key (λ answer.
+            IfOk result (λ found. FindsAt K.kind V.kind M.E self.entry.buf.now answer K.Refuses V.Refuses self.entry.pos (entry_places K.kind V.kind M.E) (option_map places found))) }
+        ensures buffer { IfOk result (λ found. IfSome found (λ e.
+            (e.0.buf.now ≡ self.entry.buf.now) × (e.1.buf.now ≡ self.entry.buf.now))) }
+        // On a map there is no error, and this is what a lookup in a view of it finds.
+        ensures accepts { (m : _) → IsMap K.kind V.kind M.E self.entry.buf.now self.entry.pos m →
+            IsOk result }
+        ensures found { (m : _) → IsMap K.kind V.kind M.E self.entry.buf.now self.entry.pos m →
+            ByNative K.kind K.compared_at key (λ answer.
+            IfOk result (λ found. option_map reads_both found ≡ found_at K.kind V.kind M.E self.entry.buf.now self.entry.pos answer)) }
+        ensures sorted { (m : _) → IsMap K.kind V.kind M.E self.entry.buf.now self.entry.pos m → Increasing K.kind.order m →
+            ByNative K.kind K.compared_at key (λ answer.
+            IfOk result (λ found. option_map reads_both found ≡ lookup_entry (is_at answer) m)) }
+        // Each error has its cause, and each cause its error.
+        ensures refused { ByNative K.kind K.compared_at key (λ answer.
+            IfErr result (λ refusal. LookupGives K.kind V.kind M.E self.entry.buf.now answer K.Refuses V.Refuses self.entry.pos (Err refusal))) }
+        ensures all_refused { ByNative K.kind K.compared_at key (λ answer.
+            (refusal : Refusal) → LookupGives K.kind V.kind M.E self.entry.buf.now answer K.Refuses V.Refuses self.entry.pos (Err refusal) → result ≡ Err refusal) }
+    {
+        let compare = |query: &T, key: View<K>| K::compared(query, &key);
+        match search::<_, K, V, M, _, _>(self.buf, self.pos, &key, &compare) {
+            Err(refusal) => Err(refusal),
+            Ok(found) => Ok(self.entry_found(found)),
+        }
+    }
+
+    /// Returns the value of an entry whose key is equal to a native value.
+    ///
+    /// # Errors
+    ///
+    /// The first fault in what the search reads. No memory is allocated.
+    pub fn get_by<T: Drop>(self, key: T) -> Result<Option<View<'a, V>>, Refusal>
+    where
+        K: CompareWith<T>,
+        // On all bytes what is found is the value beside an equal key, which stands where the search comes to.
+        ensures places { ByNative K.kind K.compared_at key (λ answer.
+            IfOk result (λ found. FindsAt K.kind V.kind M.E self.entry.buf.now answer K.Refuses V.Refuses self.entry.pos (value_place K.kind V.kind M.E) (option_map (λ value. value.pos) found))) }
+        ensures buffer { IfOk result (λ found. IfSome found (λ value. value.buf.now ≡ self.entry.buf.now)) }
+        // On a map there is no error, and this is what a lookup in a view of it finds.
+        ensures accepts { (m : _) → IsMap K.kind V.kind M.E self.entry.buf.now self.entry.pos m →
+            IsOk result }
+        ensures found { (m : _) → IsMap K.kind V.kind M.E self.entry.buf.now self.entry.pos m →
+            ByNative K.kind K.compared_at key (λ answer.
+            IfOk result (λ found. option_map reads found ≡ option_map (λ e. e.1) (found_at K.kind V.kind M.E self.entry.buf.now self.entry.pos answer))) }
+        ensures sorted { (m : _) → IsMap K.kind V.kind M.E self.entry.buf.now self.entry.pos m → Increasing K.kind.order m →
+            ByNative K.kind K.compared_at key (λ answer.
+            IfOk result (λ found. option_map reads found ≡ lookup (is_at answer) m)) }
+        // Each error has its cause, and each cause its error.
+        ensures refused { ByNative K.kind K.compared_at key (λ answer.
+            IfErr result (λ refusal. LookupGives K.kind V.kind M.E self.entry.buf.now answer K.Refuses V.Refuses self.entry.pos (Err refusal))) }
+        ensures all_refused { ByNative K.kind K.compared_at key (λ answer.
+            (refusal : Refusal) → LookupGives K.kind V.kind M.E self.entry.buf.now answer K.Refuses V.Refuses self.entry.pos (Err refusal) → result ≡ Err refusal) }
+    {
+        match self.get_key_value_by(key) {
+            Err(refusal) => Err(refusal),
+            Ok(None) => Ok(None),
+            Ok(Some((_, value))) => Ok(Some(value)),
+        }
+    }
+
+    /// Returns whether `get_by` finds a value.
+    ///
+    /// # Errors
+    ///
+    /// The first fault in what the search reads. No memory is allocated.
+    pub fn contains_by<T: Drop>(self, key: T) -> Result<bool, Refusal>
+    where
+        K: CompareWith<T>,
+        // On all bytes this says whether an equal key stands where the search comes to.
+        ensures places { ByNative K.kind K.compared_at key (λ answer.
+            IfOk result (λ found. (entry : _) × LookupGives K.kind V.kind M.E self.entry.buf.now answer K.Refuses V.Refuses self.entry.pos (Ok entry) × (found ≡ is_some entry))) }
+        // On a map there is no error, and this is what a lookup in a view of it finds.
+        ensures accepts { (m : _) → IsMap K.kind V.kind M.E self.entry.buf.now self.entry.pos m →
+            IsOk result }
+        ensures found { (m : _) → IsMap K.kind V.kind M.E self.entry.buf.now self.entry.pos m →
+            ByNative K.kind K.compared_at key (λ answer.
+            IfOk result (λ found. found ≡ is_some (found_at K.kind V.kind M.E self.entry.buf.now self.entry.pos answer))) }
+        ensures sorted { (m : _) → IsMap K.kind V.kind M.E self.entry.buf.now self.entry.pos m → Increasing K.kind.order m →
+            ByNative K.kind K.compared_at key (λ answer.
+            IfOk result (λ found. found ≡ is_some (lookup (is_at answer) m))) }
+        // Each error has its cause, and each cause its error.
+        ensures refused { ByNative K.kind K.compared_at key (λ answer.
+            IfErr result (λ refusal. LookupGives K.kind V.kind M.E self.entry.buf.now answer K.Refuses V.Refuses self.entry.pos (Err refusal))) }
+        ensures all_refused { ByNative K.kind K.compared_at key (λ answer.
+            (refusal : Refusal) → LookupGives K.kind V.kind M.E self.entry.buf.now answer K.Refuses V.Refuses self.entry.pos (Err refusal) → result ≡ Err refusal) }
+    {
+        match self.get_by(key) {
+            Err(refusal) => Err(refusal),
+            Ok(found) => Ok(found.is_some()),
+        }
+    }
+}
+
+impl<
+    'a,
+    K: CheckBytes + ViewOrd,
+    V: CheckBytes,
+    M: ArchivedMap<Key = K, Mapped = V> + UnverifiedEntries,
+> Unverified<'a, M> {
+    /// Returns the entry whose key is equal to `key`.
+    ///
+    /// # Errors
+    ///
+    /// The first fault in what the search reads. No memory is allocated.
+    pub fn get_key_value(
+        self,
+        key: View<'_, K>,
+    ) -> Result<Option<(View<'a, K>, View<'a, V>)>, Refusal>
+        // On all bytes what is found is equal, and stands where the search comes to.
+        ensures equal { let answer = K.kind.order (reads key.entry) in
+            IfOk result (λ found. IfSome (option_map reads_both found) (λ e. answer e.0 ≡ Equal)) }
+        ensures places { let answer = K.kind.order (reads key.entry) in
+            IfOk result (λ found. FindsAt K.kind V.kind M.E self.entry.buf.now answer K.Refuses V.Refuses self.entry.pos (entry_places K.kind V.kind M.E) (option_map places found)) }
+        ensures buffer { IfOk result (λ found. IfSome found (λ e.
+            (e.0.buf.now ≡ self.entry.buf.now) × (e.1.buf.now ≡ self.entry.buf.now))) }
+        // On a map there is no error, and this is what a lookup in a view of it finds.
+        ensures accepts { (m : _) → IsMap K.kind V.kind M.E self.entry.buf.now self.entry.pos m →
+            IsOk result }
+        ensures found { (m : _) → IsMap K.kind V.kind M.E self.entry.buf.now self.entry.pos m →
+            let answer = K.kind.order (reads key.entry) in
+            IfOk result (λ found. option_map reads_both found ≡ found_at K.kind V.kind M.E self.entry.buf.now self.entry.pos answer) }
+        ensures sorted { (m : _) → IsMap K.kind V.kind M.E self.entry.buf.now self.entry.pos m → Increasing K.kind.order m →
+            let answer = K.kind.order (reads key.entry) in
+            IfOk result (λ found. option_map reads_both found ≡ lookup_entry (is_at answer) m) }
+        // Each error has its cause, and each cause its error.
+        ensures refused { let answer = K.kind.order (reads key.entry) in
+            IfErr result (λ refusal. LookupGives K.kind V.kind M.E self.entry.buf.now answer K.Refuses V.Refuses self.entry.pos (Err refusal)) }
+        ensures all_refused { let answer = K.kind.order (reads key.entry) in
+            (refusal : Refusal) → LookupGives K.kind V.kind M.E self.entry.buf.now answer K.Refuses V.Refuses self.entry.pos (Err refusal) → result ≡ Err refusal }
+    {
+        let compare = |query: &View<'_, K>, key: View<K>| Compared::of(K::compare(query, &key));
+        match search::<_, K, V, M, _, _>(self.buf, self.pos, &key, &compare) {
+            Err(refusal) => Err(refusal),
+            Ok(found) => Ok(self.entry_found(found)),
+        }
+    }
+
+    /// Returns the value of an entry whose key is equal to `key`.
+    ///
+    /// # Errors
+    ///
+    /// The first fault in what the search reads. No memory is allocated.
+    pub fn get(self, key: View<'_, K>) -> Result<Option<View<'a, V>>, Refusal>
+        // On all bytes what is found is the value beside an equal key, which stands where the search comes to.
+        ensures places { let answer = K.kind.order (reads key.entry) in
+            IfOk result (λ found. FindsAt K.kind V.kind M.E self.entry.buf.now answer K.Refuses V.Refuses self.entry.pos (value_place K.kind V.kind M.E) (option_map (λ value. value.pos) found)) }
+        ensures buffer { IfOk result (λ found. IfSome found (λ value. value.buf.now ≡ self.entry.buf.now)) }
+        // On a map there is no error, and this is what a lookup in a view of it finds.
+        ensures accepts { (m : _) → IsMap K.kind V.kind M.E self.entry.buf.now self.entry.pos m →
+            IsOk result }
+        ensures found { (m : _) → IsMap K.kind V.kind M.E self.entry.buf.now self.entry.pos m →
+            let answer = K.kind.order (reads key.entry) in
+            IfOk result (λ found. option_map reads found ≡ option_map (λ e. e.1) (found_at K.kind V.kind M.E self.entry.buf.now self.entry.pos answer)) }
+        ensures sorted { (m : _) → IsMap K.kind V.kind M.E self.entry.buf.now self.entry.pos m → Increasing K.kind.order m →
+            let answer = K.kind.order (reads key.entry) in
+            IfOk result (λ found. option_map reads found ≡ lookup (is_at answer) m) }
+        // Each error has its cause, and each cause its error.
+        ensures refused { let answer = K.kind.order (reads key.entry) in
+            IfErr result (λ refusal. LookupGives K.kind V.kind M.E self.entry.buf.now answer K.Refuses V.Refuses self.entry.pos (Err refusal)) }
+        ensures all_refused { let answer = K.kind.order (reads key.entry) in
+            (refusal : Refusal) → LookupGives K.kind V.kind M.E self.entry.buf.now answer K.Refuses V.Refuses self.entry.pos (Err refusal) → result ≡ Err refusal }
+    {
+        match self.get_key_value(key) {
+            Err(refusal) => Err(refusal),
+            Ok(None) => Ok(None),
+            Ok(Some((_, value))) => Ok(Some(value)),
+        }
+    }
+
+    /// Returns whether `get` finds a value.
+    ///
+    /// # Errors
+    ///
+    /// The first fault in what the search reads. No memory is allocated.
+    pub fn contains_key(self, key: View<'_, K>) -> Result<bool, Refusal>
+        // On all bytes this says whether an equal key stands where the search comes to.
+        ensures places { let answer = K.kind.order (reads key.entry) in
+            IfOk result (λ found. (entry : _) × LookupGives K.kind V.kind M.E self.entry.buf.now answer K.Refuses V.Refuses self.entry.pos (Ok entry) × (found ≡ is_some entry)) }
+        // On a map there is no error, and this is what a lookup in a view of it finds.
+        ensures accepts { (m : _) → IsMap K.kind V.kind M.E self.entry.buf.now self.entry.pos m →
+            IsOk result }
+        ensures found { (m : _) → IsMap K.kind V.kind M.E self.entry.buf.now self.entry.pos m →
+            let answer = K.kind.order (reads key.entry) in
+            IfOk result (λ found. found ≡ is_some (found_at K.kind V.kind M.E self.entry.buf.now self.entry.pos answer)) }
+        ensures sorted { (m : _) → IsMap K.kind V.kind M.E self.entry.buf.now self.entry.pos m → Increasing K.kind.order m →
+            let answer = K.kind.order (reads key.entry) in
+            IfOk result (λ found. found ≡ is_some (lookup (is_at answer) m)) }
+        // Each error has its cause, and each cause its error.
+        ensures refused { let answer = K.kind.order (reads key.entry) in
+            IfErr result (λ refusal. LookupGives K.kind V.kind M.E self.entry.buf.now answer K.Refuses V.Refuses self.entry.pos (Err refusal)) }
+        ensures all_refused { let answer = K.kind.order (reads key.entry) in
+            (refusal : Refusal) → LookupGives K.kind V.kind M.E self.entry.buf.now answer K.Refuses V.Refuses self.entry.pos (Err refusal) → result ≡ Err refusal }
+    {
+        match self.get(key) {
+            Err(refusal) => Err(refusal),
+            Ok(found) => Ok(found.is_some()),
+        }
+    }
+}
+
+impl<'a, K: CheckBytes, V: CheckBytes, const E: usize> Unverified<'a, ArchivedBTreeMap<K, V, E>> {
+    /// Returns the view of the map, after validation of all of it.
+    ///
+    /// # Errors
+    ///
+    /// As of `access`. No memory is allocated.
+    pub fn verify(self) -> Result<View<'a, ArchivedBTreeMap<K, V, E>>, Refusal>
+        ensures buffer { IfOk result (λ map. map.buf.now ≡ self.entry.buf.now) }
+        ensures position { IfOk result (λ map. map.pos ≡ self.entry.pos) }
+        ensures accepted { let entries = read_map K.kind V.kind E self.entry.buf.now self.entry.pos in
+            IfOk result (λ _. IsMap K.kind V.kind E self.entry.buf.now self.entry.pos entries) }
+        ensures all_accepted { (m : _) →
+            IsMap K.kind V.kind E self.entry.buf.now self.entry.pos m → IsOk result }
+        ensures refused { IfErr result (λ refusal.
+            RefusesMap K.kind V.kind E self.entry.buf.now 0 self.entry.pos self.entry.pos refusal) }
+        ensures all_refused { (refusal : Refusal) →
+            RefusesMap K.kind V.kind E self.entry.buf.now 0 self.entry.pos self.entry.pos refusal →
+            result ≡ Err refusal }
+    {
+        access::<K, V, E>(self.buf, self.pos)
+    }
+}
