@@ -181,7 +181,7 @@ commands=('build' 'list' 'check' 'get 2' 'range 1 9' 'set 2 99')
 mkfifo "$work/pipe"
 for words in "${commands[@]}"; do
     read -ra words <<< "$words"
-    if [[ ${words[0]} == build ]]; then printf '7 11\n'; else printf '%b' "$three"; fi > "$work/input"
+    if [[ ${words[0]} == build* ]]; then printf '7 11\n'; else printf '%b' "$three"; fi > "$work/input"
     streams 2 'btreearc: input failed' "${words[@]}" < "$work" > "$work/written"
     [[ ! -s $work/written ]] || fail "words ${words[*]@Q} over a directory: something is written"
     streams 2 'btreearc: output failed' "${words[@]}" < "$work/input" > /dev/full
