@@ -1,8 +1,9 @@
 #!/usr/bin/env bash
 # The merge gate: the documents and the index of contracts, against the repository; rt ci; then the wrong bodies in the crates'
-# folders `wrong`, many in one check; and then the program as a process of its own, as each of two compilers has built it. The last
-# line is rt ci's, 'N passed, M failed', in which the documents, the index, each wrong body and the processes count as one. The status
-# is 0 where nothing failed. RT is rt's command, if not rt.
+# folders `wrong`, many in one check; then the program as a process of its own, as each of two compilers has built it; and last the
+# growths of memory of such processes, each refused in turn. The last line is rt ci's, 'N passed, M failed', in which the documents,
+# the index, each wrong body, the processes and the growths count as one. The status is 0 where nothing failed. RT is rt's command, if
+# not rt.
 set -euo pipefail
 cd "$(dirname "${BASH_SOURCE[0]}")/.."
 read -ra rt <<< "${RT:-rt}"
@@ -33,6 +34,13 @@ program=crates/btreearc/out/btreearc
 well=1
 tools/processes.sh "$program" || well=0
 [[ ! -f $program.by-rattle ]] || tools/processes.sh "$program.by-rattle" || well=0
+passed=$((passed + well)) failed=$((failed + 1 - well))
+
+calls=crates/failures/out/failures
+well=1
+tools/growths.py "$calls" "$program" || well=0
+[[ ! -f $calls.by-rattle || ! -f $program.by-rattle ]] ||
+    tools/growths.py "$calls.by-rattle" "$program.by-rattle" || well=0
 passed=$((passed + well)) failed=$((failed + 1 - well))
 
 echo "$passed passed, $failed failed"

@@ -166,6 +166,36 @@ sets '1 10\n2 20\n9 16909060\n' 9 16909060
 sets '1 10\n2 20\n9 90\n' 2 0000000020
 sets '1 256\n2 20\n9 90\n' 1 256
 
+# A case: the status, the line on standard error, and a command over streams that are set up already.
+streams() {
+    local status=$1 line=$2 got=0
+    shift 2
+    printf '%s' "${line:+$line$'\n'}" > "$work/line"
+    "$program" "$@" 2> "$work/said" || got=$?
+    [[ $got == "$status" ]] || fail "words ${*@Q} over other streams: status $got, not $status"
+    cmp -s "$work/said" "$work/line" || fail "words ${*@Q} over other streams: on standard error: $(cat "$work/said")"
+}
+
+# A directory as input, a full device as output, and a pipe that nobody reads as output.
+commands=('build' 'list' 'check' 'get 2' 'range 1 9' 'set 2 99')
+mkfifo "$work/pipe"
+for words in "${commands[@]}"; do
+    read -ra words <<< "$words"
+    if [[ ${words[0]} == build* ]]; then printf '7 11\n'; else printf '%b' "$three"; fi > "$work/input"
+    streams 2 'btreearc: input failed' "${words[@]}" < "$work" > "$work/written"
+    [[ ! -s $work/written ]] || fail "words ${words[*]@Q} over a directory: something is written"
+    streams 2 'btreearc: output failed' "${words[@]}" < "$work/input" > /dev/full
+    exec 3<> "$work/pipe" 4> "$work/pipe" 3>&-
+    streams 2 'btreearc: output failed' "${words[@]}" < "$work/input" >&4
+    exec 4>&-
+done
+
+# What writes nothing doesn't fail there.
+printf '%b' "$empty" > "$work/input"
+streams 0 '' list < "$work/input" > /dev/full
+streams 1 '' get 1 < "$work/input" > /dev/full
+streams 2 'btreearc: line 1: not KEY VALUE' build <<< 'x' > /dev/full
+
 # Archives of one level to three. Of the last, 7 entries in more than one node are a range, and each value is set.
 awk 'BEGIN { for (i = 1; i <= 215; i++) print i, 10 * i }' > "$work/tens"
 for count in 1 5 6 17 36 215; do
