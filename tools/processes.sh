@@ -54,6 +54,11 @@ two+='\xd0\xff\xff\xff\x02\x00\x00\x00'
 greatest="$none\xff\xff\xff\xff$none$none$none$none\xff\xff\xff\xff$none$none$none$none$one$root"
 three=$(archive_of '1 10\n2 20\n9 90\n')
 unordered=$(archive_of '3 30\n1 10\n2 20\n')
+repeated=$(archive_of '1 10\n1 20\n')
+last="$none$one$none$none$none$none\x14\x00\x00\x00$none$none$none$none$one$root"
+sorted="$none$one\x02\x00\x00\x00\x03\x00\x00\x00$none$none\x0a\x00\x00\x00\x14\x00\x00\x00\x1e\x00\x00\x00$none$none"
+sorted+='\x03\x00\x00\x00\xd0\xff\xff\xff\x03\x00\x00\x00'
+six=$(archive_of '1 10\n2 20\n3 30\n4 40\n5 50\n6 60\n')
 
 #    status  line on standard error                           input            output                      words
 ends 0       ''                                               ''               "$empty"                    build
@@ -94,6 +99,25 @@ ends 1       ''                                               "$two"           '
 ends 1       ''                                               "$two"           ''                          set 10 99
 ends 1       ''                                               "$unordered"     ''                          set 1 99
 ends 1       ''                                               "$empty"         ''                          set 1 99
+ends 0       ''                                               ''               "$empty"                    build-strict
+ends 0       ''                                               '1 10\n2 20\n'   "$two"                      build-strict
+ends 0       ''                                               '1 10\n2 20\n3 30\n4 40\n5 50\n6 60'  "$six"   build-strict
+ends 0       ''                                               "$empty"         'ok 0 entries\n'            check-strict
+ends 0       ''                                               "$two"           'ok 2 entries\n'            check-strict
+ends 0       ''                                               "$sorted"        'ok 3 entries\n'            check-strict
+ends 0       ''                                               "$empty"         "$empty"                    migrate
+ends 0       ''                                               "$unordered"     "$sorted"                   migrate
+ends 0       ''                                               "$sorted"        "$sorted"                   migrate
+ends 0       ''                                               "$repeated"      "$last"                     migrate
+ends 0       ''                                               "$six"           "$six"                      migrate
+ends 2       'btreearc: not built: entry 1 is out of order'   '2 20\n1 10\n'   ''                          build-strict
+ends 2       'btreearc: not built: entry 1 is out of order'   '1 10\n1 20\n'   ''                          build-strict
+ends 2       'btreearc: not built: entry 2 is out of order'   '1 1\n3 3\n2 2'  ''                          build-strict
+ends 2       'btreearc: refused: entry 1 is out of order'     "$unordered"     ''                          check-strict
+ends 2       'btreearc: refused: entry 1 is out of order'     "$repeated"      ''                          check-strict
+ends 2       'btreearc: refused: position 0 is out of range'  ''               ''                          check-strict
+ends 2       'btreearc: refused: position 0 is out of range'  ''               ''                          migrate
+ends 2       'btreearc: line 2: not KEY VALUE'                '1 2\nx'         ''                          build-strict
 ends 2       'btreearc: line 2: not KEY VALUE'                '1 2\n3'         ''                          build
 ends 2       'btreearc: line 2: not KEY VALUE'                '1 2\n\n3 4\n'   ''                          build
 ends 2       'btreearc: line 3: not KEY VALUE'                '1 2\n3 4\n5\n7 8\n9 10\n11 12\n'  ''        build
@@ -123,6 +147,8 @@ ends 2       "$usage"                                         "$three"         '
 ends 2       "$usage"                                         "$three"         ''                          set 2
 ends 2       "$usage"                                         "$three"         ''                          set 2 99 3
 ends 2       "$usage"                                         "$three"         ''                          sets 2 99
+ends 2       "$usage"                                         "$three"         ''                          migrate 1
+ends 2       "$usage"                                         "$three"         ''                          check-strict 1
 ends 2       "$usage"                                         "$empty"         ''                          $'\xff'
 
 for word in '' x 1x -1 +1 ' 1' '2 ' 4294967296 00000000001; do

@@ -116,6 +116,10 @@ fn a_fault_of_building_says_its_cause(rt: HostRuntime) -> Result<(), Fail> {
             Fault::Entry(EntryFault { code: 1 }),
             "btreearc: not built: entry refused",
         ),
+        (
+            Fault::OutOfOrder { index: 1 },
+            "btreearc: not built: entry 1 is out of order",
+        ),
     ];
     for (fault, line) in causes {
         says(&rt, alloc, Err(ProgramFault::NotBuilt(fault)), line)?;
@@ -166,12 +170,15 @@ impl Write for FailingWriter {
 #[test]
 fn a_failed_read_is_told(rt: HostRuntime) -> Result<(), Fail> {
     let alloc = rt.alloc();
-    let uses: [&[&str]; 5] = [
+    let uses: [&[&str]; 8] = [
         &["build"],
         &["list"],
         &["check"],
         &["range", "1", "2"],
         &["set", "1", "2"],
+        &["build-strict"],
+        &["check-strict"],
+        &["migrate"],
     ];
     for words in uses {
         let args = words_of(alloc, words)?;
@@ -187,12 +194,15 @@ fn a_failed_read_is_told(rt: HostRuntime) -> Result<(), Fail> {
 #[test]
 fn a_failed_write_is_told(rt: HostRuntime) -> Result<(), Fail> {
     let alloc = rt.alloc();
-    let uses: [(&[&str], &[u8]); 5] = [
+    let uses: [(&[&str], &[u8]); 8] = [
         (&["build"], b"7 11"),
         (&["list"], &SEVEN),
         (&["check"], &SEVEN),
         (&["range", "7", "7"], &SEVEN),
         (&["set", "7", "13"], &SEVEN),
+        (&["build-strict"], b"7 11"),
+        (&["check-strict"], &SEVEN),
+        (&["migrate"], &SEVEN),
     ];
     for (words, input) in uses {
         let args = words_of(alloc, words)?;

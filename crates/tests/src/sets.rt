@@ -42,6 +42,34 @@ where
     ArchivedBTreeSet::<K, E>::write_root(len, root, writer)
 }
 
+/// The set of keys is built strictly: what the writer holds then ends with these eight bytes, or a key is out of order.
+fn built_strictly(
+    rt: &impl Abort,
+    alloc: Global,
+    keys: &[u32],
+    ends: Result<[u8; 8], u64>,
+) -> Result<(), Fault<AllocError>> {
+    let mut writer = VecWriter::new(alloc);
+    let len = keys.len();
+    assert!(rt; layout::fits::<ArchivedU32, (), 5>());
+    match ArchivedBTreeSet::<ArchivedU32, 5>::serialize_strict_from_ordered_iter(
+        alloc,
+        len,
+        keys.iter(),
+        &mut writer,
+    ) {
+        Ok(root) => {
+            let pos = ArchivedBTreeSet::<ArchivedU32, 5>::write_root(len, root, &mut writer)?;
+            same(rt, pos, 28);
+            let own = ends.unwrap_or([0; 8]);
+            same(rt, writer.bytes().get(28..), Some(own.as_slice()));
+        }
+        Err(Fault::OutOfOrder { index }) => same(rt, Err(index), ends),
+        Err(fault) => return Err(fault),
+    }
+    Ok(())
+}
+
 /// The set at a position.
 fn opened<'a, K: CheckBytes, const E: usize>(
     rt: &impl Abort,
@@ -101,6 +129,9 @@ fn keys_of_a_set_are_found(rt: HostRuntime) -> Result<(), Fail> {
     same(&rt, set.get_by(4).is_none(), true);
     same(&rt, set.contains_by(4), false);
     same(&rt, set.contains_by(7), true);
+    built_strictly(&rt, rt.alloc(), &[1, 2], Ok([0xE4, 0xFF, 0xFF, 0xFF, 2, 0, 0, 0]))?;
+    built_strictly(&rt, rt.alloc(), &[2, 2], Err(1))?;
+    built_strictly(&rt, rt.alloc(), &[1, 3, 2], Err(2))?;
     let strict = access_strict::<ArchivedU32, 2>(writer.bytes(), pos)?;
     for key in strict.iter() {
         same(&rt, strict.contains_key(key), true);
