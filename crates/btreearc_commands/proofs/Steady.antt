@@ -24,7 +24,6 @@ use Rattle.btreearc_lines.specs.Grammar.{lines}
 module _ (one_list : (b : List ℕ) (xs ys : List (ℕ × ℕ)) → IsArchive b xs → IsArchive b ys → xs ≡ ys)
     (unrefused : (b : List ℕ) (refusal : Refusal) (xs : List (ℕ × ℕ)) → RefusesArchive b refusal → IsArchive b xs → ⊥)
     (never_both : (m : List (ℕ × ℕ)) (index : ℕ) → Increasing nat_cmp m → IsOutOfOrder nat_cmp m index → ⊥) where
-
   accepted : (b : List ℕ) (entries : List (ℕ × ℕ)) → IsArchive b entries → KeysIncrease entries → (refusal : Refusal) → RefusesStrictArchive b refusal → ⊥
   accepted b entries is rise refusal (no_map h) = unrefused b refusal entries h is
   accepted b entries is rise refusal (out_of_order {left} {index} m there out) = never_both entries index rise (subst (λ (xs : List (ℕ × ℕ)). IsOutOfOrder nat_cmp xs index) (one_list b m entries (left, there) is) out)

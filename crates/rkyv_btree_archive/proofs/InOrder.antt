@@ -140,8 +140,7 @@ module _ {M N P : Type 0} (order : M → M → Ordering) (total : IsTotalOrder o
     pub built_in_order : (root : ℕ) (t : Writing) → Serialised K V E KA VA Steps s claim from root t → SerialisedInOrder order K V E KA VA steps s.items claim from root t
     built_in_order root t h =
         let r = from_start s h.items h.all.1.0 b h.all.1.1 in
-        let n : length (map now_of h.items) ≡ claim = length-map h.items now_of ∙ h.count in
-        (
+        let n : length (map now_of h.items) ≡ claim = length-map h.items now_of ∙ h.count in (
           record {
             items = h.items;
             all = (h.all.0.items, (h.all.1.0.items, r.0, ended r.1 n h.all.1.2));
@@ -203,8 +202,7 @@ module _ {M N P : Type 0} (order : M → M → Ordering) (total : IsTotalOrder o
         → IsOutOfOrder order (map now_of (items ++ x ∷ [])) index × (0 < length items)
     out_after items None claimed x index own increase last out number = absurd out
     out_after items (Some key) claimed x index own increase (front, e, is, same) out number =
-        let n : length items ≡ length front + 1 = sym (length-map items now_of) ∙ (ap length (own ∙ is) ∙ length-append front (e ∷ [])) in
-        (
+        let n : length items ≡ length front + 1 = sym (length-map items now_of) ∙ (ap length (own ∙ is) ∙ length-append front (e ∷ [])) in (
           record {
             front = front;
             before = e;

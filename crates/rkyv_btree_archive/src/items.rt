@@ -71,11 +71,7 @@ pub fn take_items<
     A: Allocator,
     I: Iterator<Item = (&'x M, &'x N)>,
     L: Look<'x, M> + Drop,
->(
-    items: &mut Vec<(&'x M, &'x N), A>,
-    count: usize,
-    source: &mut Source<I, L>,
-) -> bool
+>(items: &mut Vec<(&'x M, &'x N), A>, count: usize, source: &mut Source<I, L>) -> bool
     requires empty { items.old.items ≡ [] }
     requires room { count ≤ vec_capacity items.old }
     requires can { I.can_next source.old.items }
@@ -104,13 +100,7 @@ pub fn take_items<
 
 /// Takes all items that are left. Fails if a source that has yielded `len` items yields more. The error has the count of all of
 /// them.
-pub fn none_left<
-    'x,
-    M: 'x,
-    N: 'x,
-    I: Iterator<Item = (&'x M, &'x N)>,
-    L: Look<'x, M> + Drop,
->(
+pub fn none_left<'x, M: 'x, N: 'x, I: Iterator<Item = (&'x M, &'x N)>, L: Look<'x, M> + Drop>(
     source: &mut Source<I, L>,
     len: usize,
 ) -> Result<(), IteratorLengthMismatch>

@@ -144,7 +144,10 @@ impl<K: Portable, V: Portable, const E: usize> ArchivedBTreeMap<K, V, E> {
             },
         };
         let built = build_from::<KU, VU, K, V, W, A, I, InOrder<'x, KU>, E>(
-            alloc, len, &mut source, writer,
+            alloc,
+            len,
+            &mut source,
+            writer,
         );
         match built {
             Ok(resolver) => Ok(resolver),

@@ -56,17 +56,19 @@ module _ {M N R S P : Type 0} (K V : Kind) (E : ℕ) (KA : Archival M R) (VA : A
       Yields steps iter xs rest → YieldsThen steps rest ys None end → more ≡ length ys → more ≢ 0 → length xs ≡ claim → ChildWritten (layout_of K V E) KA VA s (planned_alone E (map now_of xs)) place t → (m : Miscounted K V E KA VA steps iter claim claim (claim + more) s t) × (m.all.0 ≡ end)
   miscounted_of iter claim more s t xs rest ys end place y d is many n written =
       let all = length-append xs ys in
-      let taken : take claim (xs ++ ys) ≡ xs = take_at xs ys claim n in
-      (record {
-        items = xs ++ ys;
-        all = (end, then-behind steps iter xs rest ys end y d);
-        differs = λ e. many (omega (arith, all, e));
-        claimed = refl;
-        counted = omega (arith, all);
-        none = λ empty. absurd (many (omega (arith, all, ap length empty)));
-        few = λ some less. absurd (omega (arith, all));
-        many = λ more. (place, subst (λ (zs : List (Bor M × Bor N)). ChildWritten (layout_of K V E) KA VA s (planned_alone E (map now_of zs)) place t) (sym taken) written);
-      }, refl)
+      let taken : take claim (xs ++ ys) ≡ xs = take_at xs ys claim n in (
+        record {
+          items = xs ++ ys;
+          all = (end, then-behind steps iter xs rest ys end y d);
+          differs = λ e. many (omega (arith, all, e));
+          claimed = refl;
+          counted = omega (arith, all);
+          none = λ empty. absurd (many (omega (arith, all, ap length empty)));
+          few = λ some less. absurd (omega (arith, all));
+          many = λ more. (place, subst (λ (zs : List (Bor M × Bor N)). ChildWritten (layout_of K V E) KA VA s (planned_alone E (map now_of zs)) place t) (sym taken) written);
+        },
+        refl,
+      )
 
 module _ {M N R S : Type 0} (K V : Kind) (E : ℕ) (k : IsLawful K) (v : IsLawful V) (fits : IsTrue (are_fitting K V E)) (KA : Archival M R) (VA : Archival N S) (key : Matches KA.kind K) (value : Matches VA.kind V) (ka : IsArchived KA) (va : IsArchived VA) where
   pub meaning_is : (xs : List (Bor M × Bor N)) → map (meant K V E k v fits KA VA key value ka va) (map now_of xs) ≡ map (meaning_of K V KA VA key value) xs

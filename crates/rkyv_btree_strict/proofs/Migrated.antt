@@ -81,9 +81,8 @@ module _ {T U A B R S : Type 0} (cmp : T → T → Ordering) (K V : Kind) (KA : 
   pub strict_of : WrittenIsHeld → (from : Writing) (at : ℕ) (to : Writing) → Migrates cmp K V KA VA told native from at to → MigratesToStrict cmp K V KA VA told native from at to
   strict_of held from at to m key value alike zero =
       let holds : HoldsArchive to.contents from m.mid m.root at (length m.entries) =
-          subst (λ p. HoldsArchive to.contents from m.mid m.root p (length m.entries)) (sym m.place) (held from m.mid to m.root (length m.entries) zero m.went m.wrote m.end) in
-      let is = m.smallest key value to.contents at holds in
-      (
+      subst (λ p. HoldsArchive to.contents from m.mid m.root p (length m.entries)) (sym m.place) (held from m.mid to m.root (length m.entries) zero m.went m.wrote m.end) in
+      let is = m.smallest key value to.contents at holds in (
         m.entries,
         m.are,
         record {

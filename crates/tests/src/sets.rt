@@ -129,7 +129,12 @@ fn keys_of_a_set_are_found(rt: HostRuntime) -> Result<(), Fail> {
     same(&rt, set.get_by(4).is_none(), true);
     same(&rt, set.contains_by(4), false);
     same(&rt, set.contains_by(7), true);
-    built_strictly(&rt, rt.alloc(), &[1, 2], Ok([0xE4, 0xFF, 0xFF, 0xFF, 2, 0, 0, 0]))?;
+    built_strictly(
+        &rt,
+        rt.alloc(),
+        &[1, 2],
+        Ok([0xE4, 0xFF, 0xFF, 0xFF, 2, 0, 0, 0]),
+    )?;
     built_strictly(&rt, rt.alloc(), &[2, 2], Err(1))?;
     built_strictly(&rt, rt.alloc(), &[1, 3, 2], Err(2))?;
     let strict = access_strict::<ArchivedU32, 2>(writer.bytes(), pos)?;
