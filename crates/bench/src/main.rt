@@ -11,6 +11,7 @@ mod maps;
 mod numbers;
 mod report;
 mod std_maps;
+mod unverified;
 mod writes;
 
 use crate::maps::write;
@@ -111,7 +112,8 @@ fn measure(rt: &HostRuntime, count: u32) -> anyhow::Result<()> {
     let mut writer = VecWriter::new(rt.alloc());
     let root = build(rt, entries.as_slice(), count, &mut writer)?;
     let map = check(rt, writer.bytes(), root, count)?;
-    walk(rt, map, count)
+    walk(rt, map, count)?;
+    unverified::measure_texts(&Report { rt, count }, map, entries.as_slice())
 }
 
 fn main(rt: HostRuntime) -> anyhow::Result<()> {

@@ -34,6 +34,15 @@ pub fn price_in_strict(bytes: &[u8], name: &str) -> Result<Option<u64>> {
     Ok(map.get_by(name).map(|price| price.to_native()))
 }
 
+/// Returns the price of a name. Only what the lookup reads is validated.
+pub fn price_unverified(bytes: &[u8], name: &str) -> Result<Option<u64>> {
+    if !Prices::fits() {
+        bail!("a node of these types is larger than 4 GiB");
+    }
+    let map = Unverified::<Prices>::open(bytes)?;
+    Ok(map.get_by(name)?.map(|price| price.to_native()))
+}
+
 /// Returns the price of a name, by a comparison of the caller's own.
 pub fn price_with(map: View<'_, Prices>, name: &str) -> Option<u64> {
     let found = map.get_key_value_with(&name, |name: &&str, key: View<ArchivedText>| {

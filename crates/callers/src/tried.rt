@@ -3,8 +3,8 @@
 use crate::building::archive_of;
 use crate::editing::{double_all, double_along, raise_price, set_price};
 use crate::reading::{
-    Prices, count, first_above, first_longer, price_in, price_in_strict, price_with, total,
-    total_between,
+    Prices, count, first_above, first_longer, price_in, price_in_strict, price_unverified,
+    price_with, total, total_between,
 };
 use rkyv_btree::prelude::*;
 use std::alloc::Global;
@@ -45,5 +45,6 @@ fn prices_are_edited(rt: HostRuntime) -> Result<(), Fail> {
     assert_eq!(rt; old, Some(6));
     assert_eq!(rt; price_in(bytes.as_slice(), "pear")?, Some(40));
     assert_eq!(rt; price_in_strict(bytes.as_slice(), "pear")?, Some(40));
+    assert_eq!(rt; price_unverified(bytes.as_slice(), "pear")?, Some(40));
     Ok(())
 }

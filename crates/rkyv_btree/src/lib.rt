@@ -118,6 +118,12 @@ pub mod strict {
     pub use rkyv_btree_strict::strict_map::{Strict, StrictView};
 }
 
+/// Lookups in bytes that nobody has validated.
+pub mod unverified {
+    pub use rkyv_btree_unverified::laws::lookups_are_determined;
+    pub use rkyv_btree_unverified::unverified::Unverified;
+}
+
 /// Values in a buffer.
 pub mod view {
     pub use rkyv_btree_view::view::View;
@@ -151,6 +157,7 @@ pub mod prelude {
     pub use rkyv_btree_seal::map::{MapSeal, access_mut};
     pub use rkyv_btree_strict::strict::{access_strict, open_strict};
     pub use rkyv_btree_strict::strict_map::{Strict, StrictView};
+    pub use rkyv_btree_unverified::unverified::Unverified;
     pub use rkyv_btree_view::compare::{ViewEq, ViewHash, ViewOrd};
     pub use rkyv_btree_view::map::access;
     pub use rkyv_btree_view::native::ToNative;

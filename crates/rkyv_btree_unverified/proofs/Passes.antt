@@ -1,5 +1,5 @@
 -- Where a tree is spelled, its nodes pass all checks.
-use Rattle.std.proofs.Common.{◌≡◌, ℕ, zero, suc, ◌+◌, ◌-◌, ◌≤◌, ◌<◌, IsTrue, List, length, refl, sym, subst, ap, ◌∙◌, arith, true, false, Option, Some, None, Ok, IfSome, slice_index, inl, inr}
+use Rattle.std.proofs.Common.{◌≡◌, ◌*◌, min, ◌%◌, ℕ, zero, suc, ◌+◌, ◌-◌, ◌≤◌, ◌<◌, IsTrue, List, length, refl, sym, subst, ap, ◌∙◌, arith, true, false, Option, Some, None, Ok, IfSome, slice_index, inl, inr}
 use Rattle.std.proofs.lemmas.Bool.{eq-eqb, ne_eqb, cases_lt}
 use Rattle.std.specs.Prelude.{ℤ, pos, negsuc}
 use Rattle.rkyv_btree_base.specs.Bytes.{target_at, place_at, number_at}
@@ -18,12 +18,13 @@ use Rattle.rkyv_btree_base.specs.Tree.{Tree, leaf, inner, Row, last, step, Child
 use Rattle.rkyv_btree_base.proofs.Sizes.{room_of}
 use Rattle.rkyv_btree_walk.specs.mirror.Node.{natural, is_leaf, child_place, entry_count, EntryStands}
 use Rattle.rkyv_btree_walk.proofs.Nodes.{spelled_stands, child_stands, tree_node as tree_stands}
+use Rattle.rkyv_btree_base.specs.Refusing.{Misplaced, too_long, no_room, unaligned}
 use Rattle.rkyv_btree_base.specs.Views.{stands}
 use Rattle.rkyv_btree_base.specs.laws.Views.{stands_of}
 use Rattle.rkyv_btree_base.proofs.MapLaws.{map_laws, map_length}
 use Rattle.rkyv_btree_walk.proofs.Roots.{root_searched}
 use Rattle.rkyv_btree_unverified.specs.Steps.{key_place, HasRoom, Gives, KeysGive, equal_key, stops}
-use Rattle.rkyv_btree_unverified.specs.mirror.Passes.{NodePasses, TreePasses, Passes, HaltStands, NextStands, NextPasses, NextFinds, NextEqual}
+use Rattle.rkyv_btree_unverified.specs.mirror.Passes.{asked_by, NextCounts, NodePasses, TreePasses, Passes, HaltStands, NextStands, NextPasses, NextFinds, NextEqual}
 use Rattle.rkyv_btree_unverified.specs.declared.search.Halt.{Halt}
 use Rattle.rkyv_btree_unverified.specs.declared.search.Halt.TheVariants.{Found, Below}
 use Rattle.rkyv_btree_unverified.specs.declared.search.Next.{Next}
@@ -218,6 +219,14 @@ module _ (K V : Kind) (E : ℕ) (b : List ℕ) (k : IsLawful K) (v : IsLawful V)
       let some2 : 0 < number_at b (at + 4) 4 = omega (arith, some) in
       ap (λ r. r.0) (root_searched K V E k v b at st (omega (arith, n, some2)) q (rw to refl) answer)
 
+  -- and asks as many entries
+  pub root_asks : (q : ℕ) → place_at b at ≡ pos q → (answer : ℕ × ℕ → Ordering) → (searched (layout_of K V E) b answer 32 q).1 ≡ (searched_map (layout_of K V E) b answer at).1
+  root_asks q to answer =
+      let st : IsTrue (stands (map_kind K V E) b at) = stands_of (map_laws K V E k v) fits b 0 at at left m h in
+      let n = map_length K V E k v b at st in
+      let some2 : 0 < number_at b (at + 4) 4 = omega (arith, some) in
+      ap (λ r. r.1) (root_searched K V E k v b at st (omega (arith, n, some2)) q (rw to refl) answer)
+
 -- what is found at a place is what a lookup in a map that was checked finds
 pub found_there : (K V : Kind) (E : ℕ) (b : List ℕ) (at : ℕ) (compare : K.Value → Ordering) (place found : Option (ℕ × ℕ)) → place ≡ found → place ≡ (searched_map (layout_of K V E) b (answers_at K V E b compare) at).0
     → option_map (entry_at K V E b) found ≡ found_at K V E b at compare
@@ -229,3 +238,33 @@ hit_equal answer p i next is h = rw is at h
 -- and it is equal
 pub equal_there : (K V : Kind) (E : ℕ) (b : List ℕ) (compare : K.Value → Ordering) (place : Option (ℕ × ℕ)) (e : ℕ × ℕ) (r : K.Value × V.Value) → place ≡ Some e → IfSome place (λ e. answers_at K V E b compare e ≡ Equal) → r ≡ entry_at K V E b e → compare r.0 ≡ Equal
 equal_there K V E b compare place e r is h reads = ap (λ x. compare x.0) reads ∙ (rw is at h)
+
+-- how many entries were asked, where the search of a node stops here
+pub found_asked : (n i before after : ℕ) (halt : Halt) → halt ≡ Found i → after ≡ before + asked_by n halt → after ≡ before + (i + 1)
+found_asked n i before after halt is h = rw is at h
+
+pub below_asked : (n i before after : ℕ) (halt : Halt) → halt ≡ Below i → after ≡ before + asked_by n halt → after ≡ before + min (i + 1) n
+below_asked n i before after halt is h = rw is at h
+
+module _ (s : NodeLayout) (b : List ℕ) (answer : ℕ × ℕ → Ordering) (m before after all : ℕ) (next : Next) (h : NextCounts s b answer m before after all next) where
+  pub hit_counts : (i : ℕ) → next ≡ Hit i → after ≡ before + all
+  hit_counts i is = rw is at h
+
+  pub miss_counts : next ≡ Miss → after ≡ before + all
+  miss_counts is = rw is at h
+
+  pub down_counts : (q : ℕ) → next ≡ Down q → after + (searched s b answer m q).1 ≡ before + all
+  down_counts q is = rw is at h
+
+-- a level has room for E entries
+pub level_more : (E levels m : ℕ) → levels ≡ suc m → E * levels ≡ E * m + E
+level_more E levels m is = rw is (let d : E * (1 + m) ≡ E + E * m = grind arith in omega (arith, d))
+
+pub asked_on : (s : NodeLayout) (b : List ℕ) (answer : ℕ × ℕ → Ordering) (levels m p : ℕ) → levels ≡ suc m → (searched s b answer levels p).1 ≡ (searched s b answer (suc m) p).1
+asked_on s b answer levels m p is = rw is refl
+
+-- own bytes that lie in the buffer, aligned, aren't misplaced
+pub not_misplaced : (b : List ℕ) (at : ℕ) (e : Refusal) → length b ≤ 4294967295 → at + 8 ≤ length b → at % 4 ≡ 0 → Misplaced b 8 4 at e → ⊥
+not_misplaced b at e short room aligned (too_long h) = absurd (omega (arith, h, short))
+not_misplaced b at e short room aligned (no_room few h) = absurd (omega (arith, h, room))
+not_misplaced b at e short room aligned (unaligned few r h) = absurd (h aligned)

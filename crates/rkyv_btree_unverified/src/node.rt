@@ -105,7 +105,8 @@ pub(crate) fn entries_in<K: Portable, V: Portable, M: ArchivedMap<Key = K, Mappe
     requires room { HasRoom K.kind V.kind M.E hi node }
     requires inside { hi ≤ length buf.now }
     ensures gives { NodeGives K.kind V.kind M.E buf.now hi node result }
-    ensures counted { IfOk result (λ n. n ≡ entry_count (layout_of K.kind V.kind M.E) buf.now node) }
+    ensures counted { IfOk result (λ n. n
+        ≡ entry_count (layout_of K.kind V.kind M.E) buf.now node) }
     ensures few { IfOk result (λ n. n ≤ M.E) }
     ensures inner { IfOk result (λ _. is_leaf (layout_of K.kind V.kind M.E) buf.now node ≡ false
         → node + inner_size (layout_of K.kind V.kind M.E) ≤ length buf.now) }

@@ -1,5 +1,5 @@
 //! The search of a map in untrusted bytes.
-ghost use Rattle.std.specs.Prelude.{◌≡◌, ◌+◌, ◌≤◌, ◌<◌, ℕ, length, IfSome, IfOk, IfErr, IsOk, IsTrue, suc};
+ghost use Rattle.std.specs.Prelude.{◌≡◌, ◌+◌, ◌*◌, ◌^◌, ◌≤◌, ◌<◌, ℕ, length, IfSome, IfOk, IfErr, IsOk, IsTrue, suc};
 ghost use Rattle.std.specs.declared.cmp.Ordering.{Ordering as Answer};
 ghost use Rattle.std.specs.declared.cmp.Ordering.TheVariants.{Equal};
 ghost use Rattle.rkyv_btree_base.specs.Layout.{layout_of, are_fitting, leaf_size, inner_size};
@@ -10,12 +10,13 @@ ghost use Rattle.rkyv_btree_walk.specs.mirror.Search.{answers_at, searched, sear
 ghost use Rattle.rkyv_btree_view.specs.Map.{IsMap};
 ghost use Rattle.rkyv_btree_unverified.specs.Lookups.{LookupGives, TreeGives};
 ghost use Rattle.rkyv_btree_unverified.specs.Steps.{HasRoom, KeysGive};
-ghost use Rattle.rkyv_btree_unverified.specs.mirror.Passes.{Passes, HaltStands, NextStands, NextGives, NextPasses, NextFinds, NextEqual};
+ghost use Rattle.rkyv_btree_unverified.specs.mirror.Passes.{Passes, HaltStands, asked_by, NextCounts, NextStands, NextGives, NextPasses, NextFinds, NextEqual};
 
 use crate::node::{check_at, entries_in, node_place};
 use rkyv_btree_base::bytes::num32;
 use rkyv_btree_base::check::{CheckBytes, Portable};
 use rkyv_btree_base::refusal::Refusal;
+use rkyv_btree_base::steps::StepCounter;
 use rkyv_btree_portable::check::check_own_bytes;
 use rkyv_btree_walk::map::ArchivedMap;
 use rkyv_btree_walk::node::{key_pos, value_pos};
@@ -41,7 +42,8 @@ fn compare_at<'a, Q, K: CheckBytes, W: Shows<'a, K>, C: Fn(&Q, W) -> Compared>(
     requires fitting { IsTrue K.kind.is_fitting }
     ensures stands { IfOk result (λ _. IsTrue (stands K.kind buf.now pos)) }
     ensures accepts { IsTrue (stands K.kind buf.now pos) → IsOk result }
-    ensures tells { (c : Q → K.kind.Value → Answer) → TellsBy (C.post cmp.now) (shown K.kind W.Shows) c
+    ensures tells { (c : Q → K.kind.Value → Answer) →
+        TellsBy (C.post cmp.now) (shown K.kind W.Shows) c
         → IfOk result (λ r. r ≡ compared_of (c key.now (K.kind.read buf.now pos))) }
     ensures refused { IfErr result (λ refusal. K.Refuses buf.now 0 pos pos refusal) }
 {
@@ -61,19 +63,32 @@ fn search_keys<
     M: ArchivedMap<Key = K, Mapped = V>,
     W: Shows<'a, K>,
     C: Fn(&Q, W) -> Compared,
->(buf: &'a [u8], node: u32, count: u32, key: &Q, cmp: &C) -> Result<Halt, Refusal>
+>(
+    buf: &'a [u8],
+    node: u32,
+    count: u32,
+    key: &Q,
+    cmp: &C,
+    steps: &mut StepCounter,
+) -> Result<Halt, Refusal>
     requires callable { C.IsAlwaysCallable cmp.now }
     requires fitting { IsTrue (are_fitting K.kind V.kind M.E) }
     requires short { length buf.now ≤ 4294967295 }
     requires inside { node + leaf_size (layout_of K.kind V.kind M.E) ≤ length buf.now }
     requires few { count ≤ M.E }
+    requires steps { steps.old + count < 2 ^ 64 }
+    ensures few { steps.new ≤ steps.old + count }
+    ensures more { steps.old ≤ steps.new }
+    ensures counts { IfOk result (λ halt. steps.new ≡ steps.old + asked_by count halt) }
     ensures stands { IfOk result (HaltStands K.kind V.kind M.E buf.now node count) }
-    ensures accepts { ((i : ℕ) → i < count → EntryStands K.kind V.kind M.E buf.now (node, i)) → IsOk result }
+    ensures accepts { ((i : ℕ) → i < count → EntryStands K.kind V.kind M.E buf.now
+        (node, i)) → IsOk result }
     ensures gives { (c : Q → K.kind.Value → Answer)
         → TellsBy (C.post cmp.now) (shown K.kind W.Shows) c
         → KeysGive K.kind V.kind M.E buf.now (c key.now) K.Refuses V.Refuses node count result }
 {
     for i in 0..count {
+        steps.step();
         let pos = key_pos::<K, V, M>(node, i as usize);
         let compared = match compare_at::<Q, K, W, C>(buf, pos, key, cmp) {
             Ok(compared) => compared,
@@ -112,12 +127,29 @@ fn search_node<
     M: ArchivedMap<Key = K, Mapped = V>,
     W: Shows<'a, K>,
     C: Fn(&Q, W) -> Compared,
->(buf: &'a [u8], node: u32, hi: u32, key: &Q, cmp: &C) -> Result<Next, Refusal>
+>(
+    buf: &'a [u8],
+    node: u32,
+    hi: u32,
+    key: &Q,
+    cmp: &C,
+    steps: &mut StepCounter,
+) -> Result<Next, Refusal>
     requires callable { C.IsAlwaysCallable cmp.now }
     requires fitting { IsTrue (are_fitting K.kind V.kind M.E) }
     requires short { length buf.now ≤ 4294967295 }
     requires room { HasRoom K.kind V.kind M.E hi node }
     requires inside { hi ≤ length buf.now }
+    requires steps { steps.old + M.E < 2 ^ 64 }
+    ensures few { steps.new ≤ steps.old + M.E }
+    ensures more { steps.old ≤ steps.new }
+    ensures counts { (m : ℕ) → Passes K.kind V.kind M.E buf.now (suc m) hi node
+        → (c : Q → K.kind.Value → Answer)
+        → TellsBy (C.post cmp.now) (shown K.kind W.Shows) c
+        → let s = layout_of K.kind V.kind M.E in
+        let answer = answers_at K.kind V.kind M.E buf.now (c key.now) in
+        IfOk result (NextCounts s buf.now answer m steps.old steps.new
+        (searched s buf.now answer (suc m) node).1) }
     ensures stands { IfOk result (NextStands K.kind V.kind M.E buf.now node) }
     ensures equal { (c : Q → K.kind.Value → Answer)
         → TellsBy (C.post cmp.now) (shown K.kind W.Shows) c
@@ -133,13 +165,14 @@ fn search_node<
         IfOk result (NextFinds s buf.now answer m node (searched s buf.now answer (suc m) node).0) }
     ensures gives { (c : Q → K.kind.Value → Answer)
         → TellsBy (C.post cmp.now) (shown K.kind W.Shows) c
-        → (m : ℕ) → NextGives K.kind V.kind M.E buf.now (c key.now) K.Refuses V.Refuses m hi node result }
+        → (m : ℕ) → NextGives K.kind V.kind M.E buf.now
+        (c key.now) K.Refuses V.Refuses m hi node result }
 {
     let count = match entries_in::<K, V, M>(buf, node, hi) {
         Ok(count) => count,
         Err(refusal) => return Err(refusal),
     };
-    match search_keys::<Q, K, V, M, W, C>(buf, node, count, key, cmp) {
+    match search_keys::<Q, K, V, M, W, C>(buf, node, count, key, cmp, steps) {
         Err(refusal) => Err(refusal),
         Ok(Halt::Found(i)) => Ok(Next::Hit(i)),
         Ok(Halt::Below(i)) => {
@@ -168,12 +201,27 @@ fn search_tree<
     M: ArchivedMap<Key = K, Mapped = V>,
     W: Shows<'a, K>,
     C: Fn(&Q, W) -> Compared,
->(buf: &'a [u8], root: u32, hi: u32, key: &Q, cmp: &C) -> Result<Option<(u32, u32)>, Refusal>
+>(
+    buf: &'a [u8],
+    root: u32,
+    hi: u32,
+    key: &Q,
+    cmp: &C,
+    steps: &mut StepCounter,
+) -> Result<Option<(u32, u32)>, Refusal>
     requires callable { C.IsAlwaysCallable cmp.now }
     requires fitting { IsTrue (are_fitting K.kind V.kind M.E) }
     requires short { length buf.now ≤ 4294967295 }
     requires room { HasRoom K.kind V.kind M.E hi root }
     requires inside { hi ≤ length buf.now }
+    requires steps { steps.old + M.E * 32 < 2 ^ 64 }
+    ensures few { steps.new ≤ steps.old + M.E * 32 }
+    ensures more { steps.old ≤ steps.new }
+    ensures counts { Passes K.kind V.kind M.E buf.now 32 hi root
+        → (c : Q → K.kind.Value → Answer)
+        → TellsBy (C.post cmp.now) (shown K.kind W.Shows) c
+        → IfOk result (λ _. steps.new ≡ steps.old + (searched (layout_of K.kind V.kind M.E) buf.now
+        (answers_at K.kind V.kind M.E buf.now (c key.now)) 32 root).1) }
     ensures stands { IfOk result (λ found. IfSome found (λ e.
         RunStands K.kind V.kind M.E buf.now e.0 e.1 (e.1 + 1))) }
     ensures equal { (c : Q → K.kind.Value → Answer)
@@ -199,7 +247,7 @@ fn search_tree<
                 pos: i64::from(node),
             });
         }
-        match search_node::<Q, K, V, M, W, C>(buf, node, end, key, cmp) {
+        match search_node::<Q, K, V, M, W, C>(buf, node, end, key, cmp, steps) {
             Err(refusal) => return Err(refusal),
             Ok(Next::Hit(i)) => return Ok(Some((node, i))),
             Ok(Next::Miss) => return Ok(None),
@@ -222,9 +270,24 @@ pub(crate) fn search<
     M: ArchivedMap<Key = K, Mapped = V>,
     W: Shows<'a, K>,
     C: Fn(&Q, W) -> Compared,
->(buf: &'a [u8], pos: u32, key: &Q, cmp: &C) -> Result<Option<(u32, u32)>, Refusal>
+>(
+    buf: &'a [u8],
+    pos: u32,
+    key: &Q,
+    cmp: &C,
+    steps: &mut StepCounter,
+) -> Result<Option<(u32, u32)>, Refusal>
     requires callable { C.IsAlwaysCallable cmp.now }
     requires fitting { IsTrue (are_fitting K.kind V.kind M.E) }
+    requires steps { steps.old ≤ 9223372036854775807 }
+    ensures few { steps.new ≤ steps.old + M.E * 32 }
+    ensures more { steps.old ≤ steps.new }
+    ensures counts { (m : _) → IsMap K.kind V.kind M.E buf.now pos m
+        → (c : Q → K.kind.Value → Answer)
+        → TellsBy (C.post cmp.now) (shown K.kind W.Shows) c
+        → IfOk result (λ _. steps.new ≡ steps.old + (searched_map
+        (layout_of K.kind V.kind M.E) buf.now
+        (answers_at K.kind V.kind M.E buf.now (c key.now)) pos).1) }
     ensures short { IfOk result (λ _. length buf.now ≤ 4294967295) }
     ensures stands { IfOk result (λ found. IfSome found (λ e.
         RunStands K.kind V.kind M.E buf.now e.0 e.1 (e.1 + 1))) }
@@ -249,7 +312,7 @@ pub(crate) fn search<
                 return Ok(None);
             }
             match node_place::<K, V, M>(buf, pos, pos) {
-                Ok(root) => search_tree::<Q, K, V, M, W, C>(buf, root, pos, key, cmp),
+                Ok(root) => search_tree::<Q, K, V, M, W, C>(buf, root, pos, key, cmp, steps),
                 Err(refusal) => Err(refusal),
             }
         }

@@ -2,11 +2,11 @@
 ghost use Rattle.std.specs.BTreeMap.{is_at};
 ghost use Rattle.std.specs.Map.{lookup, lookup_entry};
 ghost use Rattle.std.specs.Option.{option_map};
-ghost use Rattle.std.specs.Prelude.{◌≡◌, ◌↔◌, ◌≤◌, ◌<◌, ◌+◌, Err, Ok, IfErr, IfOk, IfSome, IsOk, IsSome, IsTrue, is_some, length, ⊤};
+ghost use Rattle.std.specs.Prelude.{◌≡◌, ◌↔◌, ◌≤◌, ◌<◌, ◌+◌, ◌*◌, Err, Ok, IfErr, IfOk, IfSome, IsOk, IsSome, IsTrue, is_some, length, ⊤};
 ghost use Rattle.std.specs.declared.cmp.Ordering.TheVariants.{Equal};
-ghost use Rattle.rkyv_btree_base.specs.Layout.{are_fitting};
+ghost use Rattle.rkyv_btree_base.specs.Layout.{are_fitting, layout_of};
 ghost use Rattle.rkyv_btree_base.specs.Map.{map_kind};
-ghost use Rattle.rkyv_btree_base.specs.Read.{entry_at, read_map};
+ghost use Rattle.rkyv_btree_base.specs.Read.{entry_at, map_tree, read_map};
 ghost use Rattle.rkyv_btree_base.specs.Refusal.{Refusal};
 ghost use Rattle.rkyv_btree_base.specs.Refusal.TheVariants.{TooLong};
 ghost use Rattle.rkyv_btree_base.specs.Refusals.{RefusesMap, map_len};
@@ -18,7 +18,7 @@ ghost use Rattle.rkyv_btree_unverified.specs.Steps.{entry_places, places, value_
 ghost use Rattle.rkyv_btree_view.specs.Lookup.{found_at, ByComparison, ByNative};
 ghost use Rattle.rkyv_btree_view.specs.Map.{IsMap};
 ghost use Rattle.rkyv_btree_view.specs.View.{reads, reads_both};
-ghost use Rattle.rkyv_btree_walk.specs.Search.{shown, AnyHit, OrderedBy};
+ghost use Rattle.rkyv_btree_walk.specs.Search.{comparisons, shown, AnyHit, OrderedBy};
 ghost use Rattle.rkyv_btree_walk.specs.mirror.Node.{RunStands};
 
 use crate::search::search;
@@ -26,6 +26,7 @@ use rkyv_btree_base::bytes::num32;
 use rkyv_btree_base::check::{CheckBytes, Portable};
 use rkyv_btree_base::map::ArchivedBTreeMap;
 use rkyv_btree_base::refusal::Refusal;
+use rkyv_btree_base::steps::StepCounter;
 use rkyv_btree_portable::check::check_own_bytes;
 use rkyv_btree_view::compare::ViewOrd;
 use rkyv_btree_view::map::{ShowsEntries, access};
@@ -164,7 +165,9 @@ impl<'a, K: CheckBytes, V: CheckBytes, M: ArchivedMap<Key = K, Mapped = V>> Unve
         ensures equal { ByComparison (C.post cmp) (shown K.kind W.Shows) key.now (λ answer.
             IfOk result (λ found. IfSome (option_map reads_both found) (λ e. answer e.0 ≡ Equal))) }
         ensures places { ByComparison (C.post cmp) (shown K.kind W.Shows) key.now (λ answer.
-            IfOk result (λ found. FindsAt K.kind V.kind M.E self.entry.buf.now answer K.Refuses V.Refuses self.entry.pos (entry_places K.kind V.kind M.E) (option_map places found))) }
+            IfOk result (λ found.
+            FindsAt K.kind V.kind M.E self.entry.buf.now answer K.Refuses V.Refuses self.entry.pos
+            (entry_places K.kind V.kind M.E) (option_map places found))) }
         ensures buffer { IfOk result (λ found. IfSome found (λ e.
             (e.0.buf.now ≡ self.entry.buf.now) × (e.1.buf.now ≡ self.entry.buf.now))) }
         // On a map there is no error, and this is what a lookup in a view of it finds.
@@ -172,18 +175,85 @@ impl<'a, K: CheckBytes, V: CheckBytes, M: ArchivedMap<Key = K, Mapped = V>> Unve
             IsOk result }
         ensures found { (m : _) → IsMap K.kind V.kind M.E self.entry.buf.now self.entry.pos m →
             ByComparison (C.post cmp) (shown K.kind W.Shows) key.now (λ answer.
-            IfOk result (λ found. option_map reads_both found ≡ found_at K.kind V.kind M.E self.entry.buf.now self.entry.pos answer)) }
+            IfOk result (λ found. option_map reads_both found
+            ≡ found_at K.kind V.kind M.E self.entry.buf.now self.entry.pos answer)) }
         ensures complete { (m : _) → IsMap K.kind V.kind M.E self.entry.buf.now self.entry.pos m →
             ByComparison (C.post cmp) (shown K.kind W.Shows) key.now (λ answer.
-            IfOk result (λ found. OrderedBy (λ e. answer e.0) m → (IsSome found ↔ AnyHit (λ e. answer e.0) m))) }
+            IfOk result (λ found. OrderedBy (λ e. answer e.0) m →
+            (IsSome found ↔ AnyHit (λ e. answer e.0) m))) }
         // Each error has its cause, and each cause its error.
         ensures refused { ByComparison (C.post cmp) (shown K.kind W.Shows) key.now (λ answer.
-            IfErr result (λ refusal. LookupGives K.kind V.kind M.E self.entry.buf.now answer K.Refuses V.Refuses self.entry.pos (Err refusal))) }
+            IfErr result (λ refusal.
+            LookupGives K.kind V.kind M.E self.entry.buf.now answer K.Refuses V.Refuses
+            self.entry.pos (Err refusal))) }
         ensures all_refused { ByComparison (C.post cmp) (shown K.kind W.Shows) key.now (λ answer.
-            (refusal : Refusal) → LookupGives K.kind V.kind M.E self.entry.buf.now answer K.Refuses V.Refuses self.entry.pos (Err refusal) → result ≡ Err refusal) }
+            (refusal : Refusal) →
+            LookupGives K.kind V.kind M.E self.entry.buf.now answer K.Refuses V.Refuses
+            self.entry.pos (Err refusal) → result ≡ Err refusal) }
     {
         let compare = |query: &Q, key: W| Compared::of(cmp(query, key));
-        match search::<Q, K, V, M, W, _>(self.buf, self.pos, key, &compare) {
+        let mut steps = StepCounter::new();
+        match search::<Q, K, V, M, W, _>(self.buf, self.pos, key, &compare, &mut steps) {
+            Err(refusal) => Err(refusal),
+            Ok(found) => Ok(self.entry_found(found)),
+        }
+    }
+
+    /// Returns what `get_key_value_with` returns, and adds one to the counter for each key that it reads.
+    ///
+    /// # Errors
+    ///
+    /// The first fault in what the search reads. No memory is allocated.
+    pub fn get_key_value_counted<Q, W: Shows<'a, K>, C: Fn(&Q, W) -> Ordering>(
+        self,
+        key: &Q,
+        cmp: C,
+        steps: &mut StepCounter,
+    ) -> Result<Option<(View<'a, K>, View<'a, V>)>, Refusal>
+        requires callable { C.IsAlwaysCallable cmp }
+        requires room { steps.old ≤ 9223372036854775807 }
+        // On all bytes these are no more than a node has entries, times 32.
+        ensures few { steps.new ≤ steps.old + M.E * 32 }
+        ensures more { steps.old ≤ steps.new }
+        // On a map they are those of a lookup in a view of it.
+        ensures counts { (m : _) →
+            IsMap K.kind V.kind M.E self.entry.buf.now self.entry.pos m →
+            ByComparison (C.post cmp) (shown K.kind W.Shows) key.now (λ answer.
+            IfOk result (λ _. steps.new ≡ steps.old + comparisons (λ e. answer e.0)
+            (entry_at K.kind V.kind M.E self.entry.buf.now)
+            (map_tree (layout_of K.kind V.kind M.E) self.entry.buf.now self.entry.pos))) }
+        // On all bytes what is found is equal, and stands where the search comes to.
+        ensures equal { ByComparison (C.post cmp) (shown K.kind W.Shows) key.now (λ answer.
+            IfOk result (λ found. IfSome (option_map reads_both found) (λ e. answer e.0 ≡ Equal))) }
+        ensures places { ByComparison (C.post cmp) (shown K.kind W.Shows) key.now (λ answer.
+            IfOk result (λ found.
+            FindsAt K.kind V.kind M.E self.entry.buf.now answer K.Refuses V.Refuses self.entry.pos
+            (entry_places K.kind V.kind M.E) (option_map places found))) }
+        ensures buffer { IfOk result (λ found. IfSome found (λ e.
+            (e.0.buf.now ≡ self.entry.buf.now) × (e.1.buf.now ≡ self.entry.buf.now))) }
+        // On a map there is no error, and this is what a lookup in a view of it finds.
+        ensures accepts { (m : _) → IsMap K.kind V.kind M.E self.entry.buf.now self.entry.pos m →
+            IsOk result }
+        ensures found { (m : _) → IsMap K.kind V.kind M.E self.entry.buf.now self.entry.pos m →
+            ByComparison (C.post cmp) (shown K.kind W.Shows) key.now (λ answer.
+            IfOk result (λ found. option_map reads_both found
+            ≡ found_at K.kind V.kind M.E self.entry.buf.now self.entry.pos answer)) }
+        ensures complete { (m : _) → IsMap K.kind V.kind M.E self.entry.buf.now self.entry.pos m →
+            ByComparison (C.post cmp) (shown K.kind W.Shows) key.now (λ answer.
+            IfOk result (λ found. OrderedBy (λ e. answer e.0) m →
+            (IsSome found ↔ AnyHit (λ e. answer e.0) m))) }
+        // Each error has its cause, and each cause its error.
+        ensures refused { ByComparison (C.post cmp) (shown K.kind W.Shows) key.now (λ answer.
+            IfErr result (λ refusal.
+            LookupGives K.kind V.kind M.E self.entry.buf.now answer K.Refuses V.Refuses
+            self.entry.pos (Err refusal))) }
+        ensures all_refused { ByComparison (C.post cmp) (shown K.kind W.Shows) key.now (λ answer.
+            (refusal : Refusal) →
+            LookupGives K.kind V.kind M.E self.entry.buf.now answer K.Refuses V.Refuses
+            self.entry.pos (Err refusal) → result ≡ Err refusal) }
+    {
+        let compare = |query: &Q, key: W| Compared::of(cmp(query, key));
+        match search::<Q, K, V, M, W, _>(self.buf, self.pos, key, &compare, steps) {
             Err(refusal) => Err(refusal),
             Ok(found) => Ok(self.entry_found(found)),
         }
@@ -212,7 +282,9 @@ impl<
         ensures equal { ByNative K.kind K.compared_at key (λ answer.
             IfOk result (λ found. IfSome (option_map reads_both found) (λ e. answer e.0 ≡ Equal))) }
         ensures places { ByNative K.kind K.compared_at key (λ answer.
-            IfOk result (λ found. FindsAt K.kind V.kind M.E self.entry.buf.now answer K.Refuses V.Refuses self.entry.pos (entry_places K.kind V.kind M.E) (option_map places found))) }
+            IfOk result (λ found.
+            FindsAt K.kind V.kind M.E self.entry.buf.now answer K.Refuses V.Refuses self.entry.pos
+            (entry_places K.kind V.kind M.E) (option_map places found))) }
         ensures buffer { IfOk result (λ found. IfSome found (λ e.
             (e.0.buf.now ≡ self.entry.buf.now) × (e.1.buf.now ≡ self.entry.buf.now))) }
         // On a map there is no error, and this is what a lookup in a view of it finds.
@@ -220,18 +292,25 @@ impl<
             IsOk result }
         ensures found { (m : _) → IsMap K.kind V.kind M.E self.entry.buf.now self.entry.pos m →
             ByNative K.kind K.compared_at key (λ answer.
-            IfOk result (λ found. option_map reads_both found ≡ found_at K.kind V.kind M.E self.entry.buf.now self.entry.pos answer)) }
-        ensures sorted { (m : _) → IsMap K.kind V.kind M.E self.entry.buf.now self.entry.pos m → Increasing K.kind.order m →
+            IfOk result (λ found. option_map reads_both found
+            ≡ found_at K.kind V.kind M.E self.entry.buf.now self.entry.pos answer)) }
+        ensures sorted { (m : _) → IsMap K.kind V.kind M.E self.entry.buf.now self.entry.pos m →
+            Increasing K.kind.order m →
             ByNative K.kind K.compared_at key (λ answer.
             IfOk result (λ found. option_map reads_both found ≡ lookup_entry (is_at answer) m)) }
         // Each error has its cause, and each cause its error.
         ensures refused { ByNative K.kind K.compared_at key (λ answer.
-            IfErr result (λ refusal. LookupGives K.kind V.kind M.E self.entry.buf.now answer K.Refuses V.Refuses self.entry.pos (Err refusal))) }
+            IfErr result (λ refusal.
+            LookupGives K.kind V.kind M.E self.entry.buf.now answer K.Refuses V.Refuses
+            self.entry.pos (Err refusal))) }
         ensures all_refused { ByNative K.kind K.compared_at key (λ answer.
-            (refusal : Refusal) → LookupGives K.kind V.kind M.E self.entry.buf.now answer K.Refuses V.Refuses self.entry.pos (Err refusal) → result ≡ Err refusal) }
+            (refusal : Refusal) →
+            LookupGives K.kind V.kind M.E self.entry.buf.now answer K.Refuses V.Refuses
+            self.entry.pos (Err refusal) → result ≡ Err refusal) }
     {
         let compare = |query: &T, key: View<K>| K::compared(query, &key);
-        match search::<_, K, V, M, _, _>(self.buf, self.pos, &key, &compare) {
+        let mut steps = StepCounter::new();
+        match search::<_, K, V, M, _, _>(self.buf, self.pos, &key, &compare, &mut steps) {
             Err(refusal) => Err(refusal),
             Ok(found) => Ok(self.entry_found(found)),
         }
@@ -247,22 +326,31 @@ impl<
         K: CompareWith<T>,
         // On all bytes what is found is the value beside an equal key, which stands where the search comes to.
         ensures places { ByNative K.kind K.compared_at key (λ answer.
-            IfOk result (λ found. FindsAt K.kind V.kind M.E self.entry.buf.now answer K.Refuses V.Refuses self.entry.pos (value_place K.kind V.kind M.E) (option_map (λ value. value.pos) found))) }
-        ensures buffer { IfOk result (λ found. IfSome found (λ value. value.buf.now ≡ self.entry.buf.now)) }
+            IfOk result (λ found.
+            FindsAt K.kind V.kind M.E self.entry.buf.now answer K.Refuses V.Refuses self.entry.pos
+            (value_place K.kind V.kind M.E) (option_map (λ value. value.pos) found))) }
+        ensures buffer { IfOk result (λ found. IfSome found (λ value. value.buf.now
+            ≡ self.entry.buf.now)) }
         // On a map there is no error, and this is what a lookup in a view of it finds.
         ensures accepts { (m : _) → IsMap K.kind V.kind M.E self.entry.buf.now self.entry.pos m →
             IsOk result }
         ensures found { (m : _) → IsMap K.kind V.kind M.E self.entry.buf.now self.entry.pos m →
             ByNative K.kind K.compared_at key (λ answer.
-            IfOk result (λ found. option_map reads found ≡ option_map (λ e. e.1) (found_at K.kind V.kind M.E self.entry.buf.now self.entry.pos answer))) }
-        ensures sorted { (m : _) → IsMap K.kind V.kind M.E self.entry.buf.now self.entry.pos m → Increasing K.kind.order m →
+            IfOk result (λ found. option_map reads found ≡ option_map (λ e.
+            e.1) (found_at K.kind V.kind M.E self.entry.buf.now self.entry.pos answer))) }
+        ensures sorted { (m : _) → IsMap K.kind V.kind M.E self.entry.buf.now self.entry.pos m →
+            Increasing K.kind.order m →
             ByNative K.kind K.compared_at key (λ answer.
             IfOk result (λ found. option_map reads found ≡ lookup (is_at answer) m)) }
         // Each error has its cause, and each cause its error.
         ensures refused { ByNative K.kind K.compared_at key (λ answer.
-            IfErr result (λ refusal. LookupGives K.kind V.kind M.E self.entry.buf.now answer K.Refuses V.Refuses self.entry.pos (Err refusal))) }
+            IfErr result (λ refusal.
+            LookupGives K.kind V.kind M.E self.entry.buf.now answer K.Refuses V.Refuses
+            self.entry.pos (Err refusal))) }
         ensures all_refused { ByNative K.kind K.compared_at key (λ answer.
-            (refusal : Refusal) → LookupGives K.kind V.kind M.E self.entry.buf.now answer K.Refuses V.Refuses self.entry.pos (Err refusal) → result ≡ Err refusal) }
+            (refusal : Refusal) →
+            LookupGives K.kind V.kind M.E self.entry.buf.now answer K.Refuses V.Refuses
+            self.entry.pos (Err refusal) → result ≡ Err refusal) }
     {
         match self.get_key_value_by(key) {
             Err(refusal) => Err(refusal),
@@ -281,21 +369,28 @@ impl<
         K: CompareWith<T>,
         // On all bytes this says whether an equal key stands where the search comes to.
         ensures places { ByNative K.kind K.compared_at key (λ answer.
-            IfOk result (λ found. (entry : _) × LookupGives K.kind V.kind M.E self.entry.buf.now answer K.Refuses V.Refuses self.entry.pos (Ok entry) × (found ≡ is_some entry))) }
+            IfOk result (λ found. (entry : _) × LookupGives K.kind V.kind M.E self.entry.buf.now
+            answer K.Refuses V.Refuses self.entry.pos (Ok entry) × (found ≡ is_some entry))) }
         // On a map there is no error, and this is what a lookup in a view of it finds.
         ensures accepts { (m : _) → IsMap K.kind V.kind M.E self.entry.buf.now self.entry.pos m →
             IsOk result }
         ensures found { (m : _) → IsMap K.kind V.kind M.E self.entry.buf.now self.entry.pos m →
             ByNative K.kind K.compared_at key (λ answer.
-            IfOk result (λ found. found ≡ is_some (found_at K.kind V.kind M.E self.entry.buf.now self.entry.pos answer))) }
-        ensures sorted { (m : _) → IsMap K.kind V.kind M.E self.entry.buf.now self.entry.pos m → Increasing K.kind.order m →
+            IfOk result (λ found. found
+            ≡ is_some (found_at K.kind V.kind M.E self.entry.buf.now self.entry.pos answer))) }
+        ensures sorted { (m : _) → IsMap K.kind V.kind M.E self.entry.buf.now self.entry.pos m →
+            Increasing K.kind.order m →
             ByNative K.kind K.compared_at key (λ answer.
             IfOk result (λ found. found ≡ is_some (lookup (is_at answer) m))) }
         // Each error has its cause, and each cause its error.
         ensures refused { ByNative K.kind K.compared_at key (λ answer.
-            IfErr result (λ refusal. LookupGives K.kind V.kind M.E self.entry.buf.now answer K.Refuses V.Refuses self.entry.pos (Err refusal))) }
+            IfErr result (λ refusal.
+            LookupGives K.kind V.kind M.E self.entry.buf.now answer K.Refuses V.Refuses
+            self.entry.pos (Err refusal))) }
         ensures all_refused { ByNative K.kind K.compared_at key (λ answer.
-            (refusal : Refusal) → LookupGives K.kind V.kind M.E self.entry.buf.now answer K.Refuses V.Refuses self.entry.pos (Err refusal) → result ≡ Err refusal) }
+            (refusal : Refusal) →
+            LookupGives K.kind V.kind M.E self.entry.buf.now answer K.Refuses V.Refuses
+            self.entry.pos (Err refusal) → result ≡ Err refusal) }
     {
         match self.get_by(key) {
             Err(refusal) => Err(refusal),
@@ -323,7 +418,9 @@ impl<
         ensures equal { let answer = K.kind.order (reads key.entry) in
             IfOk result (λ found. IfSome (option_map reads_both found) (λ e. answer e.0 ≡ Equal)) }
         ensures places { let answer = K.kind.order (reads key.entry) in
-            IfOk result (λ found. FindsAt K.kind V.kind M.E self.entry.buf.now answer K.Refuses V.Refuses self.entry.pos (entry_places K.kind V.kind M.E) (option_map places found)) }
+            IfOk result (λ found.
+            FindsAt K.kind V.kind M.E self.entry.buf.now answer K.Refuses V.Refuses self.entry.pos
+            (entry_places K.kind V.kind M.E) (option_map places found)) }
         ensures buffer { IfOk result (λ found. IfSome found (λ e.
             (e.0.buf.now ≡ self.entry.buf.now) × (e.1.buf.now ≡ self.entry.buf.now))) }
         // On a map there is no error, and this is what a lookup in a view of it finds.
@@ -331,18 +428,25 @@ impl<
             IsOk result }
         ensures found { (m : _) → IsMap K.kind V.kind M.E self.entry.buf.now self.entry.pos m →
             let answer = K.kind.order (reads key.entry) in
-            IfOk result (λ found. option_map reads_both found ≡ found_at K.kind V.kind M.E self.entry.buf.now self.entry.pos answer) }
-        ensures sorted { (m : _) → IsMap K.kind V.kind M.E self.entry.buf.now self.entry.pos m → Increasing K.kind.order m →
+            IfOk result (λ found. option_map reads_both found
+            ≡ found_at K.kind V.kind M.E self.entry.buf.now self.entry.pos answer) }
+        ensures sorted { (m : _) → IsMap K.kind V.kind M.E self.entry.buf.now self.entry.pos m →
+            Increasing K.kind.order m →
             let answer = K.kind.order (reads key.entry) in
             IfOk result (λ found. option_map reads_both found ≡ lookup_entry (is_at answer) m) }
         // Each error has its cause, and each cause its error.
         ensures refused { let answer = K.kind.order (reads key.entry) in
-            IfErr result (λ refusal. LookupGives K.kind V.kind M.E self.entry.buf.now answer K.Refuses V.Refuses self.entry.pos (Err refusal)) }
+            IfErr result (λ refusal.
+            LookupGives K.kind V.kind M.E self.entry.buf.now answer K.Refuses V.Refuses
+            self.entry.pos (Err refusal)) }
         ensures all_refused { let answer = K.kind.order (reads key.entry) in
-            (refusal : Refusal) → LookupGives K.kind V.kind M.E self.entry.buf.now answer K.Refuses V.Refuses self.entry.pos (Err refusal) → result ≡ Err refusal }
+            (refusal : Refusal) →
+            LookupGives K.kind V.kind M.E self.entry.buf.now answer K.Refuses V.Refuses
+            self.entry.pos (Err refusal) → result ≡ Err refusal }
     {
         let compare = |query: &View<'_, K>, key: View<K>| Compared::of(K::compare(query, &key));
-        match search::<_, K, V, M, _, _>(self.buf, self.pos, &key, &compare) {
+        let mut steps = StepCounter::new();
+        match search::<_, K, V, M, _, _>(self.buf, self.pos, &key, &compare, &mut steps) {
             Err(refusal) => Err(refusal),
             Ok(found) => Ok(self.entry_found(found)),
         }
@@ -356,22 +460,31 @@ impl<
     pub fn get(self, key: View<'_, K>) -> Result<Option<View<'a, V>>, Refusal>
         // On all bytes what is found is the value beside an equal key, which stands where the search comes to.
         ensures places { let answer = K.kind.order (reads key.entry) in
-            IfOk result (λ found. FindsAt K.kind V.kind M.E self.entry.buf.now answer K.Refuses V.Refuses self.entry.pos (value_place K.kind V.kind M.E) (option_map (λ value. value.pos) found)) }
-        ensures buffer { IfOk result (λ found. IfSome found (λ value. value.buf.now ≡ self.entry.buf.now)) }
+            IfOk result (λ found.
+            FindsAt K.kind V.kind M.E self.entry.buf.now answer K.Refuses V.Refuses self.entry.pos
+            (value_place K.kind V.kind M.E) (option_map (λ value. value.pos) found)) }
+        ensures buffer { IfOk result (λ found. IfSome found (λ value. value.buf.now
+            ≡ self.entry.buf.now)) }
         // On a map there is no error, and this is what a lookup in a view of it finds.
         ensures accepts { (m : _) → IsMap K.kind V.kind M.E self.entry.buf.now self.entry.pos m →
             IsOk result }
         ensures found { (m : _) → IsMap K.kind V.kind M.E self.entry.buf.now self.entry.pos m →
             let answer = K.kind.order (reads key.entry) in
-            IfOk result (λ found. option_map reads found ≡ option_map (λ e. e.1) (found_at K.kind V.kind M.E self.entry.buf.now self.entry.pos answer)) }
-        ensures sorted { (m : _) → IsMap K.kind V.kind M.E self.entry.buf.now self.entry.pos m → Increasing K.kind.order m →
+            IfOk result (λ found. option_map reads found ≡ option_map (λ e.
+            e.1) (found_at K.kind V.kind M.E self.entry.buf.now self.entry.pos answer)) }
+        ensures sorted { (m : _) → IsMap K.kind V.kind M.E self.entry.buf.now self.entry.pos m →
+            Increasing K.kind.order m →
             let answer = K.kind.order (reads key.entry) in
             IfOk result (λ found. option_map reads found ≡ lookup (is_at answer) m) }
         // Each error has its cause, and each cause its error.
         ensures refused { let answer = K.kind.order (reads key.entry) in
-            IfErr result (λ refusal. LookupGives K.kind V.kind M.E self.entry.buf.now answer K.Refuses V.Refuses self.entry.pos (Err refusal)) }
+            IfErr result (λ refusal.
+            LookupGives K.kind V.kind M.E self.entry.buf.now answer K.Refuses V.Refuses
+            self.entry.pos (Err refusal)) }
         ensures all_refused { let answer = K.kind.order (reads key.entry) in
-            (refusal : Refusal) → LookupGives K.kind V.kind M.E self.entry.buf.now answer K.Refuses V.Refuses self.entry.pos (Err refusal) → result ≡ Err refusal }
+            (refusal : Refusal) →
+            LookupGives K.kind V.kind M.E self.entry.buf.now answer K.Refuses V.Refuses
+            self.entry.pos (Err refusal) → result ≡ Err refusal }
     {
         match self.get_key_value(key) {
             Err(refusal) => Err(refusal),
@@ -388,21 +501,28 @@ impl<
     pub fn contains_key(self, key: View<'_, K>) -> Result<bool, Refusal>
         // On all bytes this says whether an equal key stands where the search comes to.
         ensures places { let answer = K.kind.order (reads key.entry) in
-            IfOk result (λ found. (entry : _) × LookupGives K.kind V.kind M.E self.entry.buf.now answer K.Refuses V.Refuses self.entry.pos (Ok entry) × (found ≡ is_some entry)) }
+            IfOk result (λ found. (entry : _) × LookupGives K.kind V.kind M.E self.entry.buf.now
+            answer K.Refuses V.Refuses self.entry.pos (Ok entry) × (found ≡ is_some entry)) }
         // On a map there is no error, and this is what a lookup in a view of it finds.
         ensures accepts { (m : _) → IsMap K.kind V.kind M.E self.entry.buf.now self.entry.pos m →
             IsOk result }
         ensures found { (m : _) → IsMap K.kind V.kind M.E self.entry.buf.now self.entry.pos m →
             let answer = K.kind.order (reads key.entry) in
-            IfOk result (λ found. found ≡ is_some (found_at K.kind V.kind M.E self.entry.buf.now self.entry.pos answer)) }
-        ensures sorted { (m : _) → IsMap K.kind V.kind M.E self.entry.buf.now self.entry.pos m → Increasing K.kind.order m →
+            IfOk result (λ found. found
+            ≡ is_some (found_at K.kind V.kind M.E self.entry.buf.now self.entry.pos answer)) }
+        ensures sorted { (m : _) → IsMap K.kind V.kind M.E self.entry.buf.now self.entry.pos m →
+            Increasing K.kind.order m →
             let answer = K.kind.order (reads key.entry) in
             IfOk result (λ found. found ≡ is_some (lookup (is_at answer) m)) }
         // Each error has its cause, and each cause its error.
         ensures refused { let answer = K.kind.order (reads key.entry) in
-            IfErr result (λ refusal. LookupGives K.kind V.kind M.E self.entry.buf.now answer K.Refuses V.Refuses self.entry.pos (Err refusal)) }
+            IfErr result (λ refusal.
+            LookupGives K.kind V.kind M.E self.entry.buf.now answer K.Refuses V.Refuses
+            self.entry.pos (Err refusal)) }
         ensures all_refused { let answer = K.kind.order (reads key.entry) in
-            (refusal : Refusal) → LookupGives K.kind V.kind M.E self.entry.buf.now answer K.Refuses V.Refuses self.entry.pos (Err refusal) → result ≡ Err refusal }
+            (refusal : Refusal) →
+            LookupGives K.kind V.kind M.E self.entry.buf.now answer K.Refuses V.Refuses
+            self.entry.pos (Err refusal) → result ≡ Err refusal }
     {
         match self.get(key) {
             Err(refusal) => Err(refusal),
@@ -420,7 +540,8 @@ impl<'a, K: CheckBytes, V: CheckBytes, const E: usize> Unverified<'a, ArchivedBT
     pub fn verify(self) -> Result<View<'a, ArchivedBTreeMap<K, V, E>>, Refusal>
         ensures buffer { IfOk result (λ map. map.buf.now ≡ self.entry.buf.now) }
         ensures position { IfOk result (λ map. map.pos ≡ self.entry.pos) }
-        ensures accepted { let entries = read_map K.kind V.kind E self.entry.buf.now self.entry.pos in
+        ensures accepted { let entries = read_map K.kind V.kind E self.entry.buf.now
+            self.entry.pos in
             IfOk result (λ _. IsMap K.kind V.kind E self.entry.buf.now self.entry.pos entries) }
         ensures all_accepted { (m : _) →
             IsMap K.kind V.kind E self.entry.buf.now self.entry.pos m → IsOk result }

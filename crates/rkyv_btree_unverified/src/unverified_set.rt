@@ -48,14 +48,17 @@ impl<'a, K: CheckBytes, const E: usize> Unverified<'a, ArchivedBTreeSet<K, E>> {
     pub fn verify(self) -> Result<View<'a, ArchivedBTreeSet<K, E>>, Refusal>
         ensures buffer { IfOk result (λ set. set.buf.now ≡ self.entry.buf.now) }
         ensures position { IfOk result (λ set. set.pos ≡ self.entry.pos) }
-        ensures accepted { let entries = read_map K.kind unit_kind E self.entry.buf.now self.entry.pos in
+        ensures accepted { let entries = read_map K.kind unit_kind E self.entry.buf.now
+            self.entry.pos in
             IfOk result (λ _. IsMap K.kind unit_kind E self.entry.buf.now self.entry.pos entries) }
         ensures all_accepted { (m : _) →
             IsMap K.kind unit_kind E self.entry.buf.now self.entry.pos m → IsOk result }
         ensures refused { IfErr result (λ refusal.
-            RefusesMap K.kind unit_kind E self.entry.buf.now 0 self.entry.pos self.entry.pos refusal) }
+            RefusesMap K.kind unit_kind E self.entry.buf.now 0 self.entry.pos self.entry.pos
+            refusal) }
         ensures all_refused { (refusal : Refusal) →
-            RefusesMap K.kind unit_kind E self.entry.buf.now 0 self.entry.pos self.entry.pos refusal →
+            RefusesMap K.kind unit_kind E self.entry.buf.now 0 self.entry.pos self.entry.pos
+            refusal →
             result ≡ Err refusal }
     {
         access::<K, E>(self.buf, self.pos)
@@ -73,22 +76,29 @@ impl<'a, K: CheckBytes, const E: usize> Unverified<'a, ArchivedBTreeSet<K, E>> {
         ensures equal { ByNative K.kind K.compared_at key (λ answer.
             IfOk result (λ found. IfSome (option_map reads found) (λ key. answer key ≡ Equal))) }
         ensures places { ByNative K.kind K.compared_at key (λ answer.
-            IfOk result (λ found. FindsAt K.kind unit_kind E self.entry.buf.now answer K.Refuses ⟦<() as CheckBytes>⟧.Refuses self.entry.pos (key_place K.kind unit_kind E) (option_map (λ key. key.pos) found))) }
-        ensures buffer { IfOk result (λ found. IfSome found (λ key. key.buf.now ≡ self.entry.buf.now)) }
+            IfOk result (λ found.
+            FindsAt K.kind unit_kind E self.entry.buf.now answer K.Refuses ⟦<() as CheckBytes>⟧.Refuses self.entry.pos (key_place K.kind unit_kind E) (option_map
+            (λ key. key.pos) found))) }
+        ensures buffer { IfOk result (λ found. IfSome found (λ key. key.buf.now
+            ≡ self.entry.buf.now)) }
         // On a set there is no error, and this is what a lookup in a view of it finds.
         ensures accepts { (m : _) → IsMap K.kind unit_kind E self.entry.buf.now self.entry.pos m →
             IsOk result }
         ensures found { (m : _) → IsMap K.kind unit_kind E self.entry.buf.now self.entry.pos m →
             ByNative K.kind K.compared_at key (λ answer.
-            IfOk result (λ found. option_map reads found ≡ option_map (λ e. e.0) (found_at K.kind unit_kind E self.entry.buf.now self.entry.pos answer))) }
-        ensures sorted { (m : _) → IsMap K.kind unit_kind E self.entry.buf.now self.entry.pos m → Increasing K.kind.order m →
+            IfOk result (λ found. option_map reads found ≡ option_map (λ e.
+            e.0) (found_at K.kind unit_kind E self.entry.buf.now self.entry.pos answer))) }
+        ensures sorted { (m : _) → IsMap K.kind unit_kind E self.entry.buf.now self.entry.pos m →
+            Increasing K.kind.order m →
             ByNative K.kind K.compared_at key (λ answer.
             IfOk result (λ found. option_map reads found ≡ find (is_at answer) (keys_of m))) }
         // Each error has its cause, and each cause its error.
         ensures refused { ByNative K.kind K.compared_at key (λ answer.
-            IfErr result (λ refusal. LookupGives K.kind unit_kind E self.entry.buf.now answer K.Refuses ⟦<() as CheckBytes>⟧.Refuses self.entry.pos (Err refusal))) }
+            IfErr result (λ refusal.
+            LookupGives K.kind unit_kind E self.entry.buf.now answer K.Refuses ⟦<() as CheckBytes>⟧.Refuses self.entry.pos (Err refusal))) }
         ensures all_refused { ByNative K.kind K.compared_at key (λ answer.
-            (refusal : Refusal) → LookupGives K.kind unit_kind E self.entry.buf.now answer K.Refuses ⟦<() as CheckBytes>⟧.Refuses self.entry.pos (Err refusal) → result ≡ Err refusal) }
+            (refusal : Refusal) →
+            LookupGives K.kind unit_kind E self.entry.buf.now answer K.Refuses ⟦<() as CheckBytes>⟧.Refuses self.entry.pos (Err refusal) → result ≡ Err refusal) }
     {
         match self.as_map().get_key_value_by(key) {
             Err(refusal) => Err(refusal),
@@ -107,21 +117,27 @@ impl<'a, K: CheckBytes, const E: usize> Unverified<'a, ArchivedBTreeSet<K, E>> {
         K: CompareWith<T>,
         // On all bytes this says whether an equal key stands where the search comes to.
         ensures places { ByNative K.kind K.compared_at key (λ answer.
-            IfOk result (λ found. (entry : _) × LookupGives K.kind unit_kind E self.entry.buf.now answer K.Refuses ⟦<() as CheckBytes>⟧.Refuses self.entry.pos (Ok entry) × (found ≡ is_some entry))) }
+            IfOk result (λ found. (entry : _) × LookupGives K.kind unit_kind E self.entry.buf.now
+            answer K.Refuses ⟦<() as CheckBytes>⟧.Refuses self.entry.pos (Ok entry) × (found
+            ≡ is_some entry))) }
         // On a set there is no error, and this is what a lookup in a view of it finds.
         ensures accepts { (m : _) → IsMap K.kind unit_kind E self.entry.buf.now self.entry.pos m →
             IsOk result }
         ensures found { (m : _) → IsMap K.kind unit_kind E self.entry.buf.now self.entry.pos m →
             ByNative K.kind K.compared_at key (λ answer.
-            IfOk result (λ found. found ≡ is_some (found_at K.kind unit_kind E self.entry.buf.now self.entry.pos answer))) }
-        ensures sorted { (m : _) → IsMap K.kind unit_kind E self.entry.buf.now self.entry.pos m → Increasing K.kind.order m →
+            IfOk result (λ found. found
+            ≡ is_some (found_at K.kind unit_kind E self.entry.buf.now self.entry.pos answer))) }
+        ensures sorted { (m : _) → IsMap K.kind unit_kind E self.entry.buf.now self.entry.pos m →
+            Increasing K.kind.order m →
             ByNative K.kind K.compared_at key (λ answer.
             IfOk result (λ found. found ≡ is_some (find (is_at answer) (keys_of m)))) }
         // Each error has its cause, and each cause its error.
         ensures refused { ByNative K.kind K.compared_at key (λ answer.
-            IfErr result (λ refusal. LookupGives K.kind unit_kind E self.entry.buf.now answer K.Refuses ⟦<() as CheckBytes>⟧.Refuses self.entry.pos (Err refusal))) }
+            IfErr result (λ refusal.
+            LookupGives K.kind unit_kind E self.entry.buf.now answer K.Refuses ⟦<() as CheckBytes>⟧.Refuses self.entry.pos (Err refusal))) }
         ensures all_refused { ByNative K.kind K.compared_at key (λ answer.
-            (refusal : Refusal) → LookupGives K.kind unit_kind E self.entry.buf.now answer K.Refuses ⟦<() as CheckBytes>⟧.Refuses self.entry.pos (Err refusal) → result ≡ Err refusal) }
+            (refusal : Refusal) →
+            LookupGives K.kind unit_kind E self.entry.buf.now answer K.Refuses ⟦<() as CheckBytes>⟧.Refuses self.entry.pos (Err refusal) → result ≡ Err refusal) }
     {
         match self.get_by(key) {
             Err(refusal) => Err(refusal),
@@ -141,22 +157,29 @@ impl<'a, K: CheckBytes + ViewOrd, const E: usize> Unverified<'a, ArchivedBTreeSe
         ensures equal { let answer = K.kind.order (reads key.entry) in
             IfOk result (λ found. IfSome (option_map reads found) (λ key. answer key ≡ Equal)) }
         ensures places { let answer = K.kind.order (reads key.entry) in
-            IfOk result (λ found. FindsAt K.kind unit_kind E self.entry.buf.now answer K.Refuses ⟦<() as CheckBytes>⟧.Refuses self.entry.pos (key_place K.kind unit_kind E) (option_map (λ key. key.pos) found)) }
-        ensures buffer { IfOk result (λ found. IfSome found (λ key. key.buf.now ≡ self.entry.buf.now)) }
+            IfOk result (λ found.
+            FindsAt K.kind unit_kind E self.entry.buf.now answer K.Refuses ⟦<() as CheckBytes>⟧.Refuses self.entry.pos (key_place K.kind unit_kind E) (option_map
+            (λ key. key.pos) found)) }
+        ensures buffer { IfOk result (λ found. IfSome found (λ key. key.buf.now
+            ≡ self.entry.buf.now)) }
         // On a set there is no error, and this is what a lookup in a view of it finds.
         ensures accepts { (m : _) → IsMap K.kind unit_kind E self.entry.buf.now self.entry.pos m →
             IsOk result }
         ensures found { (m : _) → IsMap K.kind unit_kind E self.entry.buf.now self.entry.pos m →
             let answer = K.kind.order (reads key.entry) in
-            IfOk result (λ found. option_map reads found ≡ option_map (λ e. e.0) (found_at K.kind unit_kind E self.entry.buf.now self.entry.pos answer)) }
-        ensures sorted { (m : _) → IsMap K.kind unit_kind E self.entry.buf.now self.entry.pos m → Increasing K.kind.order m →
+            IfOk result (λ found. option_map reads found ≡ option_map (λ e.
+            e.0) (found_at K.kind unit_kind E self.entry.buf.now self.entry.pos answer)) }
+        ensures sorted { (m : _) → IsMap K.kind unit_kind E self.entry.buf.now self.entry.pos m →
+            Increasing K.kind.order m →
             let answer = K.kind.order (reads key.entry) in
             IfOk result (λ found. option_map reads found ≡ find (is_at answer) (keys_of m)) }
         // Each error has its cause, and each cause its error.
         ensures refused { let answer = K.kind.order (reads key.entry) in
-            IfErr result (λ refusal. LookupGives K.kind unit_kind E self.entry.buf.now answer K.Refuses ⟦<() as CheckBytes>⟧.Refuses self.entry.pos (Err refusal)) }
+            IfErr result (λ refusal.
+            LookupGives K.kind unit_kind E self.entry.buf.now answer K.Refuses ⟦<() as CheckBytes>⟧.Refuses self.entry.pos (Err refusal)) }
         ensures all_refused { let answer = K.kind.order (reads key.entry) in
-            (refusal : Refusal) → LookupGives K.kind unit_kind E self.entry.buf.now answer K.Refuses ⟦<() as CheckBytes>⟧.Refuses self.entry.pos (Err refusal) → result ≡ Err refusal }
+            (refusal : Refusal) →
+            LookupGives K.kind unit_kind E self.entry.buf.now answer K.Refuses ⟦<() as CheckBytes>⟧.Refuses self.entry.pos (Err refusal) → result ≡ Err refusal }
     {
         match self.as_map().get_key_value(key) {
             Err(refusal) => Err(refusal),
@@ -173,21 +196,27 @@ impl<'a, K: CheckBytes + ViewOrd, const E: usize> Unverified<'a, ArchivedBTreeSe
     pub fn contains_key(self, key: View<'_, K>) -> Result<bool, Refusal>
         // On all bytes this says whether an equal key stands where the search comes to.
         ensures places { let answer = K.kind.order (reads key.entry) in
-            IfOk result (λ found. (entry : _) × LookupGives K.kind unit_kind E self.entry.buf.now answer K.Refuses ⟦<() as CheckBytes>⟧.Refuses self.entry.pos (Ok entry) × (found ≡ is_some entry)) }
+            IfOk result (λ found. (entry : _) × LookupGives K.kind unit_kind E self.entry.buf.now
+            answer K.Refuses ⟦<() as CheckBytes>⟧.Refuses self.entry.pos (Ok entry) × (found
+            ≡ is_some entry)) }
         // On a set there is no error, and this is what a lookup in a view of it finds.
         ensures accepts { (m : _) → IsMap K.kind unit_kind E self.entry.buf.now self.entry.pos m →
             IsOk result }
         ensures found { (m : _) → IsMap K.kind unit_kind E self.entry.buf.now self.entry.pos m →
             let answer = K.kind.order (reads key.entry) in
-            IfOk result (λ found. found ≡ is_some (found_at K.kind unit_kind E self.entry.buf.now self.entry.pos answer)) }
-        ensures sorted { (m : _) → IsMap K.kind unit_kind E self.entry.buf.now self.entry.pos m → Increasing K.kind.order m →
+            IfOk result (λ found. found
+            ≡ is_some (found_at K.kind unit_kind E self.entry.buf.now self.entry.pos answer)) }
+        ensures sorted { (m : _) → IsMap K.kind unit_kind E self.entry.buf.now self.entry.pos m →
+            Increasing K.kind.order m →
             let answer = K.kind.order (reads key.entry) in
             IfOk result (λ found. found ≡ is_some (find (is_at answer) (keys_of m))) }
         // Each error has its cause, and each cause its error.
         ensures refused { let answer = K.kind.order (reads key.entry) in
-            IfErr result (λ refusal. LookupGives K.kind unit_kind E self.entry.buf.now answer K.Refuses ⟦<() as CheckBytes>⟧.Refuses self.entry.pos (Err refusal)) }
+            IfErr result (λ refusal.
+            LookupGives K.kind unit_kind E self.entry.buf.now answer K.Refuses ⟦<() as CheckBytes>⟧.Refuses self.entry.pos (Err refusal)) }
         ensures all_refused { let answer = K.kind.order (reads key.entry) in
-            (refusal : Refusal) → LookupGives K.kind unit_kind E self.entry.buf.now answer K.Refuses ⟦<() as CheckBytes>⟧.Refuses self.entry.pos (Err refusal) → result ≡ Err refusal }
+            (refusal : Refusal) →
+            LookupGives K.kind unit_kind E self.entry.buf.now answer K.Refuses ⟦<() as CheckBytes>⟧.Refuses self.entry.pos (Err refusal) → result ≡ Err refusal }
     {
         match self.get(key) {
             Err(refusal) => Err(refusal),

@@ -1,5 +1,5 @@
 -- What a lookup asks of the nodes that it meets, and what is known where it goes on. This mirrors the code.
-use Rattle.std.specs.Prelude.{◌≡◌, ℕ, zero, suc, ◌+◌, ◌≤◌, ◌<◌, ◌%◌, List, Option, Some, None, Result, Ok, Err, false, slice_index}
+use Rattle.std.specs.Prelude.{◌≡◌, ℕ, zero, suc, ◌+◌, ◌≤◌, ◌<◌, ◌%◌, List, Option, Some, None, Result, Ok, Err, false, min, slice_index}
 use Rattle.std.specs.declared.cmp.Ordering.{Ordering}
 use Rattle.std.specs.declared.cmp.Ordering.TheVariants.{Equal}
 use Rattle.rkyv_btree_base.specs.Kind.{Kind}
@@ -38,6 +38,11 @@ abbrev pub HaltStands : (K V : Kind) → ℕ → List ℕ → ℕ → ℕ → Ha
 HaltStands K V E b p count (Found i) = EntryStands K V E b (p, i) × (i < count)
 HaltStands K V E b p count (Below i) = i ≤ count
 
+-- how many of the entries were asked by then
+abbrev pub asked_by : ℕ → Halt → ℕ
+asked_by count (Found i) = i + 1
+asked_by count (Below i) = min (i + 1) count
+
 -- what is known of where a search goes on behind the node at p
 abbrev pub NextStands : (K V : Kind) → ℕ → List ℕ → ℕ → Next → Type 0
 NextStands K V E b p (Hit i) = RunStands K V E b p i (i + 1)
@@ -70,3 +75,9 @@ abbrev pub NextEqual : (ℕ × ℕ → Ordering) → ℕ → Next → Type 0
 NextEqual answer p (Hit i) = answer (p, i) ≡ Equal
 NextEqual answer p Miss = Unit {0}
 NextEqual answer p (Down q) = Unit {0}
+
+-- where the node's tree passes, these are all that its search asks, or the tree in which it goes on asks the rest
+abbrev pub NextCounts : (s : NodeLayout) → List ℕ → (ℕ × ℕ → Ordering) → ℕ → ℕ → ℕ → ℕ → Next → Type 0
+NextCounts s b answer m before after all (Hit i) = after ≡ before + all
+NextCounts s b answer m before after all Miss = after ≡ before + all
+NextCounts s b answer m before after all (Down q) = after + (searched s b answer m q).1 ≡ before + all

@@ -1,10 +1,11 @@
 -- The root of an accepted map passes, and its search is that of the map.
-use Rattle.std.proofs.Common.{◌≡◌, ◌∙◌, refl, sym, Ok, Err, Some, None}
+use Rattle.std.proofs.Common.{rules, arith, ◌+◌, ◌*◌, ◌<◌, ◌≡◌, ◌∙◌, refl, sym, Ok, Err, Some, None}
 use Rattle.std.proofs.lemmas.Result.{IfOk-weaker}
 use Rattle.rkyv_btree_base.specs.Layout.{layout_of}
 use Rattle.rkyv_btree_walk.specs.mirror.Search.{answers_at, searched, searched_map}
-use Rattle.rkyv_btree_unverified.proofs.Passes.{accepted_passes, root_fits, root_finds}
+use Rattle.rkyv_btree_unverified.proofs.Passes.{accepted_passes, root_fits, root_finds, root_asks, not_misplaced}
 use Rattle.rkyv_btree_unverified.specs.Steps.{misplaced, empty, bad_root, root}
+use Rattle.rkyv_btree_view.proofs.Lookups.{count_room}
 use Rattle.rkyv_btree_unverified.proofs.search.search.Goals as goal
 
 pub returns-in-Ok-node_place-clause-accepts : goal.returns-in-Ok-node_place-clause-accepts
@@ -45,3 +46,19 @@ returns-in-Err-node_place-clause-gives g c f p =
       gives = bad_root c.in-Ok.ensures.ok (λ z. c.if-num32-eq0.false (c.num32.ensures ∙ z)) c.in-Err-node_place.ensures.gives;
       goes_on = refl;
     }
+
+pub search_tree-requires : goal.search_tree-requires
+search_tree-requires g c κs =
+    let room : c.args.steps.now + g.M.ArchivedMap.E * 32 < 18446744073709551616 = count_room g.K.Portable.kind g.V.Portable.kind g.M.ArchivedMap.E g.met.K.Portable.laws g.met.V.Portable.laws c.requires.fitting _ _ c.requires.steps (omega arith) in
+    search rules
+
+pub returns-in-Err-clause-accepts : goal.returns-in-Err-clause-accepts
+returns-in-Err-clause-accepts g c m h = absurd (not_misplaced c.args.buf.now c.args.pos c.in-Err.refusal h.1.short h.1.room h.1.aligned c.in-Err.ensures.err)
+
+pub returns-in-Ok-node_place-clause-counts : goal.returns-in-Ok-node_place-clause-counts
+returns-in-Ok-node_place-clause-counts g c m h f p =
+    let K = g.K.Portable.kind in let V = g.V.Portable.kind in let E = g.M.ArchivedMap.E in
+    let b = c.args.buf.now in
+    let passes = accepted_passes _ _ _ _ g.met.K.Portable.laws g.met.V.Portable.laws c.requires.fitting _ h.0 _ m h.1 (λ z. c.if-num32-eq0.false (c.num32.ensures ∙ z)) c.in-Ok-node_place.ensures.within.0 in
+    let same = root_asks K V E b g.met.K.Portable.laws g.met.V.Portable.laws c.requires.fitting c.args.pos h.0 m h.1 (λ z. c.if-num32-eq0.false (c.num32.ensures ∙ z)) c.in-Ok-node_place.root c.in-Ok-node_place.ensures.within.0 (answers_at K V E b (f c.args.key.now)) in
+    rw (← same) (c.search_tree.ensures.counts passes f p)

@@ -3,7 +3,7 @@ use Rattle.std.proofs.Common.{◌∙◌, ◌≤◌, ◌+◌, arith, sym, ap, ref
 use Rattle.rkyv_btree_base.specs.Layout.{layout_of}
 use Rattle.rkyv_btree_base.proofs.Sizes.{room_of}
 use Rattle.rkyv_btree_walk.proofs.Searches.{leaf_alone, search_finds, search_ends, search_down}
-use Rattle.rkyv_btree_unverified.proofs.Passes.{tree_node, root_entries, found_stops, below_stops, below_within, child_none, child_some, child_passes, child_fits, target_none, target_some}
+use Rattle.rkyv_btree_unverified.proofs.Passes.{found_asked, below_asked, tree_node, root_entries, found_stops, below_stops, below_within, child_none, child_some, child_passes, child_fits, target_none, target_some}
 use Rattle.rkyv_btree_unverified.proofs.Goes.{node_refuses, keys_refuse, hits, ends_in_leaf, ends_absent, place_refuses, goes_down}
 use Rattle.std.proofs.lemmas.Bool.{eq-eqb, ne_eqb}
 use Rattle.rkyv_btree_unverified.proofs.search.search_node.Goals as goal
@@ -113,3 +113,30 @@ returns-in-Err-node_place-clause-gives g c f p m =
     let KR = g.K.CheckBytes.Refuses in let VR = g.V.CheckBytes.Refuses in
     let to = target_some b (c.args.node + c.pointer_at.result) (λ z. c.if-num32-eq1.false (c.num32.ensures ∙ z)) in
     place_refuses K V E b answer KR VR m c.args.hi c.args.node c.in-Ok.count c.in-Ok.ensures.gives c.in-Ok-Below.i c.in-Ok-Below.field-0 c.in-Ok-Below.field-0-is (c.in-Ok-Below.ensures.gives f p) c.if-buf-node-eq0.false _ _ (rw (← c.pointer_at.ensures.value) to) c.in-Err-node_place.ensures.gives
+
+pub returns-in-Ok-Found-clause-counts : goal.returns-in-Ok-Found-clause-counts
+returns-in-Ok-Found-clause-counts g c m h f p =
+    let asks = ap (λ r. r.1) (search_finds g.K.Portable.kind g.V.Portable.kind g.M.ArchivedMap.E c.args.buf.now (suc m) c.args.node c.in-Ok.count h.stands c.in-Ok.ensures.counted (f c.args.key.now) c.in-Ok-Found.i (found_stops g.K.Portable.kind g.V.Portable.kind g.M.ArchivedMap.E c.args.buf.now (f c.args.key.now) g.K.CheckBytes.Refuses g.V.CheckBytes.Refuses c.args.node c.in-Ok.count c.in-Ok-Found.i c.in-Ok-Found.field-0 (c.in-Ok-Found.ensures.gives f p) c.in-Ok-Found.field-0-is)) in
+    let counted = found_asked c.in-Ok.count c.in-Ok-Found.i _ _ c.in-Ok-Found.field-0 c.in-Ok-Found.field-0-is c.in-Ok-Found.ensures.counts in
+    omega (arith, asks, counted)
+
+pub returns-then-buf-node-eq0-clause-counts : goal.returns-then-buf-node-eq0-clause-counts
+returns-then-buf-node-eq0-clause-counts g c m h f p =
+    let none = leaf_alone (layout_of g.K.Portable.kind g.V.Portable.kind g.M.ArchivedMap.E) c.args.buf.now c.args.node c.in-Ok-Below.i (eq-eqb (slice_index c.args.buf.now c.args.node) 0 c.if-buf-node-eq0.true) in
+    let asks = ap (λ r. r.1) (search_ends g.K.Portable.kind g.V.Portable.kind g.M.ArchivedMap.E c.args.buf.now (suc m) c.args.node c.in-Ok.count h.stands c.in-Ok.ensures.counted (f c.args.key.now) c.in-Ok-Below.i none (below_stops g.K.Portable.kind g.V.Portable.kind g.M.ArchivedMap.E c.args.buf.now (f c.args.key.now) g.K.CheckBytes.Refuses g.V.CheckBytes.Refuses c.args.node c.in-Ok.count c.in-Ok-Below.i c.in-Ok-Below.field-0 (c.in-Ok-Below.ensures.gives f p) c.in-Ok-Below.field-0-is)) in
+    let counted = below_asked c.in-Ok.count c.in-Ok-Below.i _ _ c.in-Ok-Below.field-0 c.in-Ok-Below.field-0-is c.in-Ok-Below.ensures.counts in
+    omega (arith, asks, counted)
+
+pub returns-then-num32-eq1-clause-counts : goal.returns-then-num32-eq1-clause-counts
+returns-then-num32-eq1-clause-counts g c m h f p =
+    let none = child_none (layout_of g.K.Portable.kind g.V.Portable.kind g.M.ArchivedMap.E) c.args.buf.now c.args.node c.in-Ok-Below.i (ne_eqb (slice_index c.args.buf.now c.args.node) 0 c.if-buf-node-eq0.false) (rw (← c.pointer_at.ensures.value) (target_none c.args.buf.now (c.args.node + c.pointer_at.result) (sym c.num32.ensures ∙ c.if-num32-eq1.true))) in
+    let asks = ap (λ r. r.1) (search_ends g.K.Portable.kind g.V.Portable.kind g.M.ArchivedMap.E c.args.buf.now (suc m) c.args.node c.in-Ok.count h.stands c.in-Ok.ensures.counted (f c.args.key.now) c.in-Ok-Below.i none (below_stops g.K.Portable.kind g.V.Portable.kind g.M.ArchivedMap.E c.args.buf.now (f c.args.key.now) g.K.CheckBytes.Refuses g.V.CheckBytes.Refuses c.args.node c.in-Ok.count c.in-Ok-Below.i c.in-Ok-Below.field-0 (c.in-Ok-Below.ensures.gives f p) c.in-Ok-Below.field-0-is)) in
+    let counted = below_asked c.in-Ok.count c.in-Ok-Below.i _ _ c.in-Ok-Below.field-0 c.in-Ok-Below.field-0-is c.in-Ok-Below.ensures.counts in
+    omega (arith, asks, counted)
+
+pub returns-in-Ok-node_place-clause-counts : goal.returns-in-Ok-node_place-clause-counts
+returns-in-Ok-node_place-clause-counts g c m h f p =
+    let some = child_some (layout_of g.K.Portable.kind g.V.Portable.kind g.M.ArchivedMap.E) c.args.buf.now c.args.node c.in-Ok-Below.i c.in-Ok-node_place.below _ (ne_eqb (slice_index c.args.buf.now c.args.node) 0 c.if-buf-node-eq0.false) (rw (← c.pointer_at.ensures.value) (target_some c.args.buf.now (c.args.node + c.pointer_at.result) (λ z. c.if-num32-eq1.false (c.num32.ensures ∙ z)))) c.in-Ok-node_place.ensures.within.0 in
+    let asks = ap (λ r. r.1) (search_down g.K.Portable.kind g.V.Portable.kind g.M.ArchivedMap.E c.args.buf.now (suc m) c.args.node c.in-Ok.count h.stands c.in-Ok.ensures.counted (f c.args.key.now) c.in-Ok-Below.i m c.in-Ok-node_place.below refl some (below_stops g.K.Portable.kind g.V.Portable.kind g.M.ArchivedMap.E c.args.buf.now (f c.args.key.now) g.K.CheckBytes.Refuses g.V.CheckBytes.Refuses c.args.node c.in-Ok.count c.in-Ok-Below.i c.in-Ok-Below.field-0 (c.in-Ok-Below.ensures.gives f p) c.in-Ok-Below.field-0-is)) in
+    let counted = below_asked c.in-Ok.count c.in-Ok-Below.i _ _ c.in-Ok-Below.field-0 c.in-Ok-Below.field-0-is c.in-Ok-Below.ensures.counts in
+    omega (arith, asks, counted)

@@ -1,8 +1,8 @@
 -- Where the tree passes, each node that is met does, and the search goes on as in a map that was checked.
-use Rattle.std.proofs.Common.{ℕ, ◌-◌, arith, subst, sym}
+use Rattle.std.proofs.Common.{rules, ◌+◌, ◌<◌, ℕ, ◌-◌, arith, subst, sym}
 use Rattle.rkyv_btree_base.specs.Layout.{layout_of}
 use Rattle.rkyv_btree_walk.specs.mirror.Search.{answers_at}
-use Rattle.rkyv_btree_unverified.proofs.Passes.{none_left, levels_left, with_level, hit_equal, hit_finds, miss_finds, down_finds, down_stands, down_passes, found_on}
+use Rattle.rkyv_btree_unverified.proofs.Passes.{hit_counts, miss_counts, down_counts, level_more, asked_on, none_left, levels_left, with_level, hit_equal, hit_finds, miss_finds, down_finds, down_stands, down_passes, found_on}
 use Rattle.rkyv_btree_unverified.proofs.Goes.{no_levels, levels_over, hit_gives, miss_gives, down_gives}
 use Rattle.rkyv_btree_unverified.proofs.Places.{kept}
 use Rattle.rkyv_btree_base.specs.Refusal.{Refusal}
@@ -46,6 +46,14 @@ down-preserved g c =
       (λ f p r below.
           c.down.invariant.5 f p r (levels_over g.K.Portable.kind g.V.Portable.kind g.M.ArchivedMap.E c.args.buf.now (f c.args.key.now) g.K.CheckBytes.Refuses g.V.CheckBytes.Refuses c.down.levels c.down.end c.down.node r c.if-levels-eq0.false
           (down_gives g.K.Portable.kind g.V.Portable.kind g.M.ArchivedMap.E c.args.buf.now (f c.args.key.now) g.K.CheckBytes.Refuses g.V.CheckBytes.Refuses (c.down.levels - 1) c.down.end c.down.node c.in-Ok-Down.field-0 (c.in-Ok-Down.ensures.gives f p (c.down.levels - 1)) c.in-Ok-Down.below c.in-Ok-Down.field-0-is r below))),
+      omega (arith, c.in-Ok-Down.ensures.few, c.down.invariant.6, level_more g.M.ArchivedMap.E c.down.levels (c.down.levels - 1) (omega (arith, c.if-levels-eq0.false))),
+      omega (arith, c.in-Ok-Down.ensures.more, c.down.invariant.7),
+      (λ h f p.
+          let here = c.down.invariant.3 h in
+          let up = with_level g.K.Portable.kind g.V.Portable.kind g.M.ArchivedMap.E c.args.buf.now c.down.levels c.down.end c.down.node here in
+          let counts = down_counts (layout_of g.K.Portable.kind g.V.Portable.kind g.M.ArchivedMap.E) c.args.buf.now (answers_at g.K.Portable.kind g.V.Portable.kind g.M.ArchivedMap.E c.args.buf.now (f c.args.key.now)) (c.down.levels - 1) _ _ _ c.in-Ok-Down.field-0 (c.in-Ok-Down.ensures.counts (c.down.levels - 1) up f p) c.in-Ok-Down.below c.in-Ok-Down.field-0-is in
+          let level = asked_on (layout_of g.K.Portable.kind g.V.Portable.kind g.M.ArchivedMap.E) c.args.buf.now (answers_at g.K.Portable.kind g.V.Portable.kind g.M.ArchivedMap.E c.args.buf.now (f c.args.key.now)) c.down.levels (c.down.levels - 1) c.down.node (levels_left g.K.Portable.kind g.V.Portable.kind g.M.ArchivedMap.E c.args.buf.now c.down.levels c.down.end c.down.node here) in
+          omega (arith, counts, level, c.down.invariant.8 h f p)),
     )
 
 pub returns-in-Ok-Hit-clause-equal : goal.returns-in-Ok-Hit-clause-equal
@@ -70,3 +78,33 @@ pub returns-in-Ok-Miss-clause-gives : goal.returns-in-Ok-Miss-clause-gives
 returns-in-Ok-Miss-clause-gives g c f p =
     c.down.invariant.5 f p _ (levels_over g.K.Portable.kind g.V.Portable.kind g.M.ArchivedMap.E c.args.buf.now (f c.args.key.now) g.K.CheckBytes.Refuses g.V.CheckBytes.Refuses c.down.levels c.down.end c.down.node _ c.if-levels-eq0.false
     (miss_gives g.K.Portable.kind g.V.Portable.kind g.M.ArchivedMap.E c.args.buf.now (f c.args.key.now) g.K.CheckBytes.Refuses g.V.CheckBytes.Refuses (c.down.levels - 1) c.down.end c.down.node c.in-Ok-Miss.field-0 (c.in-Ok-Miss.ensures.gives f p (c.down.levels - 1)) c.in-Ok-Miss.field-0-is))
+
+pub returns-in-Ok-Hit-clause-counts : goal.returns-in-Ok-Hit-clause-counts
+returns-in-Ok-Hit-clause-counts g c h f p =
+    let here = c.down.invariant.3 h in
+    let up = with_level g.K.Portable.kind g.V.Portable.kind g.M.ArchivedMap.E c.args.buf.now c.down.levels c.down.end c.down.node here in
+    let counts = hit_counts (layout_of g.K.Portable.kind g.V.Portable.kind g.M.ArchivedMap.E) c.args.buf.now (answers_at g.K.Portable.kind g.V.Portable.kind g.M.ArchivedMap.E c.args.buf.now (f c.args.key.now)) (c.down.levels - 1) _ _ _ c.in-Ok-Hit.field-0 (c.in-Ok-Hit.ensures.counts (c.down.levels - 1) up f p) c.in-Ok-Hit.i c.in-Ok-Hit.field-0-is in
+    let level = asked_on (layout_of g.K.Portable.kind g.V.Portable.kind g.M.ArchivedMap.E) c.args.buf.now (answers_at g.K.Portable.kind g.V.Portable.kind g.M.ArchivedMap.E c.args.buf.now (f c.args.key.now)) c.down.levels (c.down.levels - 1) c.down.node (levels_left g.K.Portable.kind g.V.Portable.kind g.M.ArchivedMap.E c.args.buf.now c.down.levels c.down.end c.down.node here) in
+    omega (arith, counts, level, c.down.invariant.8 h f p)
+
+pub returns-in-Ok-Miss-clause-counts : goal.returns-in-Ok-Miss-clause-counts
+returns-in-Ok-Miss-clause-counts g c h f p =
+    let here = c.down.invariant.3 h in
+    let up = with_level g.K.Portable.kind g.V.Portable.kind g.M.ArchivedMap.E c.args.buf.now c.down.levels c.down.end c.down.node here in
+    let counts = miss_counts (layout_of g.K.Portable.kind g.V.Portable.kind g.M.ArchivedMap.E) c.args.buf.now (answers_at g.K.Portable.kind g.V.Portable.kind g.M.ArchivedMap.E c.args.buf.now (f c.args.key.now)) (c.down.levels - 1) _ _ _ c.in-Ok-Miss.field-0 (c.in-Ok-Miss.ensures.counts (c.down.levels - 1) up f p) c.in-Ok-Miss.field-0-is in
+    let level = asked_on (layout_of g.K.Portable.kind g.V.Portable.kind g.M.ArchivedMap.E) c.args.buf.now (answers_at g.K.Portable.kind g.V.Portable.kind g.M.ArchivedMap.E c.args.buf.now (f c.args.key.now)) c.down.levels (c.down.levels - 1) c.down.node (levels_left g.K.Portable.kind g.V.Portable.kind g.M.ArchivedMap.E c.args.buf.now c.down.levels c.down.end c.down.node here) in
+    omega (arith, counts, level, c.down.invariant.8 h f p)
+
+pub returns-in-Ok-Hit-clause-few : goal.returns-in-Ok-Hit-clause-few
+returns-in-Ok-Hit-clause-few g c = omega (arith, c.in-Ok-Hit.ensures.few, c.down.invariant.6, level_more g.M.ArchivedMap.E c.down.levels (c.down.levels - 1) (omega (arith, c.if-levels-eq0.false)))
+
+pub returns-in-Ok-Miss-clause-few : goal.returns-in-Ok-Miss-clause-few
+returns-in-Ok-Miss-clause-few g c = omega (arith, c.in-Ok-Miss.ensures.few, c.down.invariant.6, level_more g.M.ArchivedMap.E c.down.levels (c.down.levels - 1) (omega (arith, c.if-levels-eq0.false)))
+
+pub returns-in-Err-clause-few : goal.returns-in-Err-clause-few
+returns-in-Err-clause-few g c = omega (arith, c.in-Err.ensures.few, c.down.invariant.6, level_more g.M.ArchivedMap.E c.down.levels (c.down.levels - 1) (omega (arith, c.if-levels-eq0.false)))
+
+pub search_node-requires : goal.search_node-requires
+search_node-requires g c κs =
+    let room : c.down.steps + g.M.ArchivedMap.E < 18446744073709551616 = omega (arith, c.requires.steps, c.down.invariant.6, level_more g.M.ArchivedMap.E c.down.levels (c.down.levels - 1) (omega (arith, c.if-levels-eq0.false))) in
+    search rules

@@ -1,5 +1,5 @@
 -- The way down: where the tree passes all checks, so does the one that is left, and the search finds there what it finds.
-use Rattle.std.proofs.Common.{◌≡◌, ℕ, ◌≤◌, length}
+use Rattle.std.proofs.Common.{length, ℕ, ◌*◌, ◌+◌, ◌≡◌, ◌≤◌}
 use Rattle.std.specs.Prelude.{Option, Result}
 use Rattle.rkyv_btree_base.specs.Refusal.{Refusal}
 use Rattle.std.specs.declared.cmp.Ordering.{Ordering}
@@ -23,6 +23,11 @@ invariant-down g l =
     × ((c : g.row.Q.Denot → K.Value → Ordering) → TellsBy (goal.C-post g l.cmp) (shown K g.W.Shows) c
     → (r : Result (Option (ℕ × ℕ)) Refusal) → TreeGives K V E l.buf (c l.key) g.K.CheckBytes.Refuses g.V.CheckBytes.Refuses l.levels l.end l.node r
     → TreeGives K V E l.buf (c l.key) g.K.CheckBytes.Refuses g.V.CheckBytes.Refuses 32 l.hi l.root r)
+    × (l.steps + E * l.levels ≤ l.initial.steps + E * 32) × (l.initial.steps ≤ l.steps)
+    × (Passes K V E l.buf 32 l.hi l.root → (c : g.row.Q.Denot → K.Value → Ordering)
+    → TellsBy (goal.C-post g l.cmp) (shown K g.W.Shows) c
+    → let answer : ℕ × ℕ → Ordering = answers_at K V E l.buf (c l.key) in
+    l.initial.steps + (searched (layout_of K V E) l.buf answer 32 l.root).1 ≡ l.steps + (searched (layout_of K V E) l.buf answer l.levels l.node).1)
 
 abbrev pub decreases-down : goal.decreases-down
 decreases-down g l = l.levels
