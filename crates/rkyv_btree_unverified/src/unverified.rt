@@ -12,7 +12,7 @@ ghost use Rattle.rkyv_btree_base.specs.Refusal.TheVariants.{TooLong};
 ghost use Rattle.rkyv_btree_base.specs.Refusals.{RefusesMap, map_len};
 ghost use Rattle.rkyv_btree_base.specs.Refusing.{Misplaced};
 ghost use Rattle.rkyv_btree_base.specs.Whole.{own_at};
-ghost use Rattle.rkyv_btree_strict.specs.Increasing.{Increasing};
+ghost use Rattle.rkyv_btree_base.specs.Increasing.{Increasing};
 ghost use Rattle.rkyv_btree_unverified.specs.Lookups.{FindsAt, LookupGives};
 ghost use Rattle.rkyv_btree_unverified.specs.Steps.{entry_places, places, value_place};
 ghost use Rattle.rkyv_btree_view.specs.Lookup.{found_at, ByComparison, ByNative};

@@ -9,7 +9,7 @@ ghost use Rattle.rkyv_btree_base.specs.Read.{read_map};
 ghost use Rattle.rkyv_btree_base.specs.Refusal.{Refusal};
 ghost use Rattle.rkyv_btree_base.specs.Refusals.{RefusesMap};
 ghost use Rattle.rkyv_btree_base.specs.Scalars.{unit_kind};
-ghost use Rattle.rkyv_btree_strict.specs.Increasing.{Increasing};
+ghost use Rattle.rkyv_btree_base.specs.Increasing.{Increasing};
 ghost use Rattle.rkyv_btree_unverified.specs.Lookups.{FindsAt, LookupGives};
 ghost use Rattle.rkyv_btree_unverified.specs.Steps.{key_place};
 ghost use Rattle.rkyv_btree_view.specs.Lookup.{found_at, ByNative};
