@@ -72,13 +72,18 @@ def answers_of_call(runs, failures, call, name):
 
 
 def answers_of_command(runs, program, words, data):
-    """The lines of a command whose growths are refused in turn. It has status 2 and writes nothing then."""
-    status, _, error, growths = runs.run([program, *words], data)
+    """The lines of a command whose growths are refused in turn. It has status 2 and writes nothing then, or else it does what it does
+    without a refusal, which is `right`."""
+    status, whole, error, growths = runs.run([program, *words], data)
     if status > 1 or error:
         raise Mismatch(f"status {status}, {error}")
+    right = status, whole, error
     lines = []
     for number in range(1, growths + 1):
         status, said, error, _ = runs.run([program, *words], data, number, number)
+        if (status, said, error) == right:
+            lines.append("right")
+            continue
         if status != 2 or said or error.count("\n") != 1:
             raise Mismatch(f"growth {number}: status {status}, {said}, {error}")
         lines.append(error.removesuffix("\n"))

@@ -203,7 +203,7 @@ streams() {
 }
 
 # A directory as input, a full device as output, and a pipe that nobody reads as output.
-commands=('build' 'list' 'check' 'get 2' 'range 1 9' 'set 2 99')
+commands=('build' 'list' 'check' 'get 2' 'range 1 9' 'set 2 99' 'build-strict' 'check-strict' 'migrate')
 mkfifo "$work/pipe"
 for words in "${commands[@]}"; do
     read -ra words <<< "$words"

@@ -1,6 +1,9 @@
-//! One call for each run of the program, in which one growth of memory may be refused: `tools/growths.sh` refuses each in turn.
+//! One call for each run of the program, in which one growth of memory may be refused: `tools/growths.py` refuses each in turn.
 
-use crate::archives::{Case, cases, four_texts, map_of, maps_in_map, set_of, tens};
+use crate::archives::{
+    Case, archived, built_cases, four_texts, map_of, maps_in_map, migrated_leaf, migrated_six,
+    set_of, tens,
+};
 use anyhow::{Context, bail, ensure};
 use rkyv_btree::prelude::*;
 use std::alloc::{AllocError, Global};
@@ -56,7 +59,9 @@ struct Answer {
 /// Archives a case over a writer in memory that may take memory of its own.
 fn build(alloc: Global, case: &Case, whole: &[u8]) -> anyhow::Result<Answer> {
     let mut writer = VecWriter::from_vec(case.old.to_vec(alloc)?);
-    let answer = case.content.write::<VecWriter, Global>(alloc, &mut writer)?;
+    let answer = case
+        .content
+        .write::<VecWriter, Global>(alloc, alloc, &mut writer)?;
     let bytes = writer.bytes();
     let is_kept = bytes.starts_with(case.old) && whole.starts_with(bytes);
     let outcome = match answer {
@@ -157,7 +162,7 @@ fn make_named(alloc: Global, call: Call, name: &str) -> anyhow::Result<(Answer, 
 
 /// Archives the case with a name twice, each time over a writer of its own.
 fn build_named(alloc: Global, name: &str) -> anyhow::Result<(Answer, Answer)> {
-    let cases = cases(alloc)?;
+    let cases = built_cases(alloc)?;
     let case = cases
         .iter()
         .find(|case| case.name == name)
@@ -165,13 +170,28 @@ fn build_named(alloc: Global, name: &str) -> anyhow::Result<(Answer, Answer)> {
     let mut writer = VecWriter::from_vec(case.old.to_vec(alloc)?);
     if case
         .content
-        .write::<VecWriter, Global>(alloc, &mut writer)?
+        .write::<VecWriter, Global>(alloc, alloc, &mut writer)?
         .is_err()
     {
         return Err(AllocError.into());
     }
     let first = build(alloc, case, writer.bytes())?;
     let second = build(alloc, case, writer.bytes())?;
+    Ok((first, second))
+}
+
+/// Migrates the archive with a name twice, each time over a writer of its own.
+fn migrate_named(alloc: Global, name: &str) -> anyhow::Result<(Answer, Answer)> {
+    let (name, content, last) = match name {
+        "an unordered leaf" => ("leaf", migrated_leaf(alloc)?, 3),
+        "six keys" => ("six keys", migrated_six(alloc)?, 6),
+        _ => bail!("no such archive"),
+    };
+    let whole = archived(alloc, tens(alloc, last)?)?;
+    let old = b"";
+    let case = Case { name, old, content };
+    let first = build(alloc, &case, &whole)?;
+    let second = build(alloc, &case, &whole)?;
     Ok((first, second))
 }
 
@@ -189,6 +209,7 @@ pub(crate) fn show(alloc: Global, call: &str, name: &str, out: &mut String) -> a
     let (first, second) = match Call::named(call) {
         Some(call) => make_named(alloc, call, name)?,
         None if call == "build" => build_named(alloc, name)?,
+        None if call == "migrate" => migrate_named(alloc, name)?,
         None => bail!("no such call"),
     };
     show_answer(first, out)?;

@@ -36,6 +36,7 @@ impl<'x> Iterator for Listed<'x> {
 fn show_claim(
     alloc: Global,
     name: &str,
+    is_strict: bool,
     claim: usize,
     list: &[Option<(u32, u32)>],
     out: &mut String,
@@ -49,13 +50,18 @@ fn show_claim(
         calls: 0,
     };
     let mut writer = FailingWriter::new(alloc, 0, &[], None)?;
-    let tree = Numbers::serialize_from_ordered_iter(alloc, claim, &mut items, &mut writer);
+    let tree = if is_strict {
+        Numbers::serialize_strict_from_ordered_iter(alloc, claim, &mut items, &mut writer)
+    } else {
+        Numbers::serialize_from_ordered_iter(alloc, claim, &mut items, &mut writer)
+    };
     let calls = items.calls;
     let answer = match tree {
         Ok(tree) => Numbers::write_root(claim, tree, &mut writer),
         Err(fault) => Err(fault),
     };
-    write!(out, "items after None, {name}: ")?;
+    let strict = if is_strict { "strict, " } else { "" };
+    write!(out, "items after None, {strict}{name}: ")?;
     show_answer(&answer, out)?;
     let left = writer.bytes.len();
     write!(out, "; next was called {calls} times; {left} bytes: ")?;
@@ -74,9 +80,19 @@ pub(crate) fn show(alloc: Global, out: &mut String) -> anyhow::Result<()> {
         Some((4, 40)),
         Some((5, 50)),
     ];
-    show_claim(alloc, "claim 3 is met", 3, &list, out)?;
-    show_claim(alloc, "claim 4 is missed", 4, &list, out)?;
-    show_claim(alloc, "claim 2 is passed", 2, &list, out)?;
-    show_claim(alloc, "claim 0 is passed", 0, &list, out)?;
-    show_claim(alloc, "claim 0 is met", 0, &[None, Some((1, 10))], out)
+    for is_strict in [false, true] {
+        show_claim(alloc, "claim 3 is met", is_strict, 3, &list, out)?;
+        show_claim(alloc, "claim 4 is missed", is_strict, 4, &list, out)?;
+        show_claim(alloc, "claim 2 is passed", is_strict, 2, &list, out)?;
+        show_claim(alloc, "claim 0 is passed", is_strict, 0, &list, out)?;
+        show_claim(
+            alloc,
+            "claim 0 is met",
+            is_strict,
+            0,
+            &[None, Some((1, 10))],
+            out,
+        )?;
+    }
+    Ok(())
 }

@@ -31,6 +31,7 @@ fn read(rt: &HostRuntime, times: u32) -> anyhow::Result<()> {
 fn show_all(alloc: Global, out: &mut String) -> anyhow::Result<()> {
     writes::show(alloc, out)?;
     writes::show_positions(alloc, out)?;
+    writes::show_orders(alloc, out)?;
     items::show(alloc, out)?;
     rooms::show(alloc, out)?;
     streams::show(alloc, out)

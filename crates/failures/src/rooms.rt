@@ -1,6 +1,6 @@
 //! Archives whose memory comes from a heap that has no room for one of the growths.
 
-use crate::archives::{Case, cases};
+use crate::archives::{Case, built_cases};
 use crate::writers::FailingWriter;
 use anyhow::{bail, ensure};
 use linked_list_allocator::LocalHeap;
@@ -22,7 +22,7 @@ fn outcome(alloc: Global, case: &Case, room: usize, whole: &[u8]) -> anyhow::Res
     let mut writer = FailingWriter::new(alloc, 0, case.old, None)?;
     let answer = case
         .content
-        .write::<FailingWriter, &LocalHeap>(&heap, &mut writer)?;
+        .write::<FailingWriter, &LocalHeap>(alloc, &heap, &mut writer)?;
     let is_whole = writer.bytes.as_slice() == whole;
     let is_kept = writer.bytes.starts_with(case.old) && whole.starts_with(&writer.bytes);
     Ok(match answer {
@@ -59,7 +59,7 @@ fn show_case(alloc: Global, case: &Case, out: &mut String) -> anyhow::Result<()>
     let mut writer = FailingWriter::new(alloc, 0, case.old, None)?;
     let answer = case
         .content
-        .write::<FailingWriter, Global>(alloc, &mut writer)?;
+        .write::<FailingWriter, Global>(alloc, alloc, &mut writer)?;
     ensure!(answer.is_ok(), "not archived");
     let whole = writer.bytes;
     let mut before: Option<(usize, RoomOutcome)> = None;
@@ -82,7 +82,7 @@ fn show_case(alloc: Global, case: &Case, out: &mut String) -> anyhow::Result<()>
 
 /// Appends the lines of each case.
 pub(crate) fn show(alloc: Global, out: &mut String) -> anyhow::Result<()> {
-    for case in &cases(alloc)? {
+    for case in &built_cases(alloc)? {
         show_case(alloc, case, out)?;
     }
     Ok(())

@@ -1,9 +1,7 @@
 //! The commands of the program over readers and writers that give or take one byte at a time, and fail at one call.
 
-use crate::archives::{Case, Content, cases, tens};
-use crate::writers::FailingWriter;
+use crate::archives::{Case, archived, cases, swapped_tens, tens};
 use crate::writes::show_bytes;
-use anyhow::ensure;
 use btreearc_commands::program;
 use btreearc_lines::fault::ProgramFault;
 use rkyv_btree::prelude::*;
@@ -183,7 +181,7 @@ fn hand_on(
     let mut writer = IoWriter::with_base(writer, case.old.len() as u64);
     let answer = case
         .content
-        .write::<IoWriter<SlowWriter>, Global>(alloc, &mut writer)?;
+        .write::<IoWriter<SlowWriter>, Global>(alloc, alloc, &mut writer)?;
     Ok((answer, writer.into_inner()))
 }
 
@@ -222,19 +220,23 @@ fn show_case(alloc: Global, case: &Case, out: &mut String) -> anyhow::Result<()>
 
 /// Appends the lines of each case over a writer of std, and of each command.
 pub(crate) fn show(alloc: Global, out: &mut String) -> anyhow::Result<()> {
-    let mut writer = FailingWriter::new(alloc, 0, &[], None)?;
-    let seventeen = Content::Numbers(tens(alloc, 17)?);
-    let answer = seventeen.write::<FailingWriter, Global>(alloc, &mut writer)?;
-    ensure!(answer.is_ok(), "not archived");
-    let archive = writer.bytes;
+    let archive = archived(alloc, tens(alloc, 17)?)?;
+    let unordered = archived(alloc, swapped_tens(alloc, 17, 5)?)?;
     for case in &cases(alloc)? {
         show_case(alloc, case, out)?;
     }
     show_command(alloc, "build", b"1 10\n2 20\n3 30\n4 40\n5 50\n6 60\n", out)?;
     show_command(alloc, "build", b"", out)?;
+    show_command(
+        alloc,
+        "build-strict",
+        b"1 10\n2 20\n3 30\n4 40\n5 50\n6 60\n",
+        out,
+    )?;
     for words in [
         "list",
         "check",
+        "check-strict",
         "get 17",
         "get 18",
         "range 5 7",
@@ -243,6 +245,9 @@ pub(crate) fn show(alloc: Global, out: &mut String) -> anyhow::Result<()> {
         "set 18 7",
     ] {
         show_command(alloc, words, &archive, out)?;
+    }
+    for words in ["check-strict", "migrate"] {
+        show_command(alloc, words, &unordered, out)?;
     }
     Ok(())
 }

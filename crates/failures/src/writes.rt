@@ -1,6 +1,6 @@
-//! Archives at writers that fail at one write, each write in turn, and from positions near the last.
+//! Archives at writers that fail at one write, each write in turn, from positions near the last, and with a key out of order.
 
-use crate::archives::{Case, Content, cases, tens};
+use crate::archives::{Case, Content, cases, migrated_leaf, migrated_six, swapped_tens, tens};
 use crate::writers::{FailingWriter, Failure, Taken};
 use rkyv_btree_base::fault::Fault;
 use std::alloc::{AllocError, Global};
@@ -36,7 +36,7 @@ fn run(
     let mut writer = FailingWriter::new(alloc, 0, case.old, failure)?;
     let answer = case
         .content
-        .write::<FailingWriter, Global>(alloc, &mut writer)?;
+        .write::<FailingWriter, Global>(alloc, alloc, &mut writer)?;
     Ok((answer, writer))
 }
 
@@ -102,9 +102,20 @@ fn show_from(
     content: &Content,
     out: &mut String,
 ) -> anyhow::Result<()> {
-    let mut writer = FailingWriter::new(alloc, base, &[], None)?;
-    let answer = content.write::<FailingWriter, Global>(alloc, &mut writer)?;
     write!(out, "from {base}, {name}: ")?;
+    show_rest(alloc, base, content, None, out)
+}
+
+/// Appends the answer of a content and what its writer holds then.
+fn show_rest(
+    alloc: Global,
+    base: u32,
+    content: &Content,
+    failure: Option<Failure>,
+    out: &mut String,
+) -> anyhow::Result<()> {
+    let mut writer = FailingWriter::new(alloc, base, &[], failure)?;
+    let answer = content.write::<FailingWriter, Global>(alloc, alloc, &mut writer)?;
     show_answer(&answer, out)?;
     let writes = writer.writes;
     let left = writer.bytes.len();
@@ -122,6 +133,9 @@ pub(crate) fn show_positions(alloc: Global, out: &mut String) -> anyhow::Result<
     let mut entries = Vec::new(alloc);
     entries.push((String::from_str(alloc, "a")?, 1))?;
     let text = Content::Texts(entries);
+    let strict = Content::StrictNumbers(tens(alloc, 6)?);
+    let migrated = migrated_six(alloc)?;
+    let leaf = migrated_leaf(alloc)?;
     let rows = [
         ("six keys", 4294967232, &six),
         ("one entry", 4294967232, &seven),
@@ -131,9 +145,50 @@ pub(crate) fn show_positions(alloc: Global, out: &mut String) -> anyhow::Result<
         ("no entries", 4294967288, &none),
         ("no entries", 4294967285, &none),
         ("a text", 4294967292, &text),
+        ("six keys, strict", 4294967232, &strict),
+        ("six keys, migrated", 4294967232, &migrated),
+        ("an unordered leaf, migrated", 4294967236, &leaf),
+        ("an unordered leaf, migrated", 4294967240, &leaf),
     ];
     for (name, base, content) in rows {
         show_from(alloc, name, base, content, out)?;
+    }
+    Ok(())
+}
+
+/// Appends a line for each key that can be out of order in strict building, a line where a write fails before that key is met, and
+/// one where it would fail after it.
+pub(crate) fn show_orders(alloc: Global, out: &mut String) -> anyhow::Result<()> {
+    for index in 1..17 {
+        write!(out, "seventeen keys, strict, entry {index}: ")?;
+        let content = Content::StrictNumbers(swapped_tens(alloc, 17, index)?);
+        show_rest(alloc, 0, &content, None, out)?;
+    }
+    let mut texts = Vec::new(alloc);
+    for (text, number) in [("bc", 2), ("a", 1)] {
+        texts.push((String::from_str(alloc, text)?, number))?;
+    }
+    let equal = Vec::from_slice(alloc, &[(1, 10), (1, 20)])?;
+    let rows = [
+        ("equal keys, strict", Content::StrictNumbers(equal)),
+        ("two texts, strict", Content::StrictTexts(texts)),
+        (
+            "a set, strict",
+            Content::StrictKeys(Vec::from_slice(alloc, &[2, 1])?),
+        ),
+    ];
+    for (name, content) in &rows {
+        write!(out, "{name}, entry 1: ")?;
+        show_rest(alloc, 0, content, None, out)?;
+    }
+    for (index, at) in [(12, 2), (12, 3)] {
+        write!(
+            out,
+            "seventeen keys, strict, entry {index}, write {at} takes nothing: "
+        )?;
+        let content = Content::StrictNumbers(swapped_tens(alloc, 17, index)?);
+        let taken = Taken::Nothing;
+        show_rest(alloc, 0, &content, Some(Failure { at, taken }), out)?;
     }
     Ok(())
 }
