@@ -4,7 +4,7 @@ use Rattle.rkyv_btree_base.specs.Map.{map_kind}
 use Rattle.rkyv_btree_base.specs.Scalars.{u32_kind}
 use Rattle.rkyv_btree_base.specs.Text.{text_kind}
 use Rattle.rkyv_btree_base.specs.Whole.{IsArchiveOf}
-use Rattle.rkyv_btree.specs.Increasing.{Increasing}
+use Rattle.rkyv_btree_base.specs.Increasing.{Increasing}
 
 -- the bytes are an archive of these prices, whose names increase
 pub record IsPriceFile (bytes : List ℕ) (prices : List (List ℕ × ℕ)) : Type 0 where
