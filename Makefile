@@ -3,7 +3,7 @@ export RT ?= rt
 PROGRAM := crates/btreearc/out/btreearc
 MAPS := crates/bench/out/bench
 
-.PHONY: run test bench man drawing program maps
+.PHONY: run test bench bindings man drawing program maps
 
 # Two lines become an archive, and the archive becomes the two lines again.
 run: program
@@ -26,6 +26,11 @@ bench: program maps
 	@bench/program.sh $(PROGRAM)
 	@set -e; for count in 1000 100000 1000000; do $(MAPS) $$count; done
 	@bench/file.sh $(MAPS)
+	@bench/cold.sh $(PROGRAM) $(MAPS)
+
+# The static and the shared library, and what is over them in C, Rust and Python, with tests. It needs cc, and cargo and python3 for theirs.
+bindings:
+	@tools/bindings.sh
 
 # The man page of the program, made of its page; shown where there is a man to show it.
 man:

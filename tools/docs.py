@@ -1,8 +1,8 @@
 #!/usr/bin/env python3
 """Compares the documents with the repository: tools/docs.py
 
-Each `rust` block of a document is text of a source file of a crate in crates.txt, word for word; each `antt` block is text of such
-a crate's definitions or proofs; each `output` block is what such a program has to print. A signature in running text, `fn name(..)`,
+Each `rust` block of a document, and of a doc comment, is text of a source file of a crate in crates.txt, word for word; each `antt`
+block is text of such a crate's definitions or proofs; each `output` block is what such a program has to print. A signature in running text, `fn name(..)`,
 is one of the sources. Each call of docs/PROMISES.md is in the index with its clauses. Links between documents lead somewhere, and
 files that are named in running text are there. README.md has at most 120 lines. The man page is what tools/man.py makes. The last line
 is `1 passed, 0 failed`, or `0 passed, 1 failed` after what is wrong.
@@ -27,7 +27,7 @@ def texts(kind):
             crate = ROOT / "crates" / name
             for file in sorted(crate.glob(SOURCES[kind])):
                 if "out" not in file.relative_to(crate).parts:
-                    yield file.read_text()
+                    yield file.read_text(errors="replace")
 
 
 def lines_of(text):
@@ -66,6 +66,11 @@ def wrong_blocks(text, known):
     for kind, block in blocks(text):
         if kind in SOURCES and not any(is_in(block, source) for source in known[kind]):
             yield f"a {kind} block is in no crate: {block.strip().splitlines()[0]}"
+
+
+def comments(text):
+    """Returns the text of the doc comments of a source file."""
+    return "\n".join(re.findall(r"^ *///(?: (.*))?$", text, re.M))
 
 
 def wrong_links(page, text):
@@ -116,6 +121,9 @@ def faults():
         text = page.read_text()
         for fault in [*wrong_blocks(text, known), *wrong_links(page, text), *wrong_names(text, plain)]:
             yield f"{page.relative_to(ROOT)}: {fault}"
+    for source in known["rust"]:
+        for fault in wrong_blocks(comments(source), known):
+            yield f"a doc comment: {fault}"
     yield from wrong_promises()
     if len((ROOT / "README.md").read_text().splitlines()) > LONGEST_README:
         yield f"README.md: more than {LONGEST_README} lines"

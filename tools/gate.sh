@@ -1,6 +1,6 @@
 #!/usr/bin/env bash
-# The merge gate: the documents and the index of contracts, against the repository; rt ci; then the wrong bodies in the crates'
-# folders `wrong`, many in one check; then the program as a process of its own, as each of two compilers has built it; and last the
+# The merge gate: the documents, the index of contracts and the header for C, against the repository; rt ci; then the wrong bodies in the
+# folders `wrong` of the crates, many in one check; then the programs as processes of their own, as each of two compilers built them; and last the
 # growths of memory of such processes, each refused in turn. The last line is rt ci's, 'N passed, M failed', in which the documents,
 # the index, each wrong body, the processes and the growths count as one. The status is 0 where nothing failed. RT is rt's command, if
 # not rt.
@@ -26,6 +26,7 @@ count() {
 }
 count '([0-9]+) passed, ([0-9]+) failed' tools/docs.py
 count '([0-9]+) passed, ([0-9]+) failed' tools/index.py --check
+count '([0-9]+) passed, ([0-9]+) failed' tools/header.py
 count '([0-9]+) passed, ([0-9]+) failed' "${rt[@]}" ci
 count '([0-9]+) refused, ([0-9]+) not' tools/edits.py --after-ci
 
@@ -34,6 +35,12 @@ program=crates/btreearc/out/btreearc
 well=1
 tools/processes.sh "$program" || well=0
 [[ ! -f $program.by-rattle ]] || tools/processes.sh "$program.by-rattle" || well=0
+passed=$((passed + well)) failed=$((failed + 1 - well))
+
+program_of_texts=crates/btreekv/out/btreekv
+well=1
+tools/texts.sh "$program_of_texts" || well=0
+[[ ! -f $program_of_texts.by-rattle ]] || tools/texts.sh "$program_of_texts.by-rattle" || well=0
 passed=$((passed + well)) failed=$((failed + 1 - well))
 
 calls=crates/failures/out/failures

@@ -1,12 +1,13 @@
 //! Times maps in memory, of so many entries as its one argument says: a map of texts to numbers, in nanoseconds an entry
 //! for building, checking and walking it, look-ups in a map of numbers, and std's maps to bytes and back. A second argument
 //! is the name of a file, to which a map of so many numbers is built in place of all that. Without an argument it compares
-//! the library's builder with one by recursion.
+//! the library's builder with one by recursion. With `look WAY FILE KEY` it times one lookup in a file.
 #![tactic(auto)]
 
 mod access;
 mod builders;
 mod building;
+mod cold;
 mod maps;
 mod numbers;
 mod report;
@@ -119,6 +120,13 @@ fn measure(rt: &HostRuntime, count: u32) -> anyhow::Result<()> {
 fn main(rt: HostRuntime) -> anyhow::Result<()> {
     let mut arguments = env::args(&rt)?;
     match arguments.nth(1) {
+        Some(word) if word.as_str() == "look" => {
+            let way = arguments.next().context("no way")?;
+            let path = arguments.next().context("no file")?;
+            let key = arguments.next().context("no key")?;
+            let key = key.parse().context("no key")?;
+            cold::measure(&rt, way.as_str(), path.as_str(), key)
+        }
         Some(count) => {
             let count = count.parse().context("no number of entries")?;
             if let Some(name) = arguments.next() {

@@ -6,13 +6,13 @@ use Rattle.rkyv_btree_writer.specs.Archiving.{Archival}
 use Rattle.rkyv_btree_portable.specs.Kind.{Kind}
 use Rattle.rkyv_btree_format.specs.Layout.{layout_of}
 use Rattle.rkyv_btree_shape.specs.Plan.{planned_alone}
-use Rattle.rkyv_btree_image.specs.Serialising.{BeginClaimed, Miscounted, BuildFault}
+use Rattle.rkyv_btree_writing_laws.specs.Serialising.{BeginClaimed, Miscounted, BuildFault}
 use Rattle.rkyv_btree_writer.specs.Writing.{Writing}
-use Rattle.rkyv_btree_image.specs.Entries.{now_of}
-use Rattle.rkyv_btree_image.specs.Written.{ChildWritten, ChildStopped}
-use Rattle.rkyv_btree_image.proofs.Begun.{untouched}
-use Rattle.rkyv_btree_image.proofs.Building.{some_claimed}
-use Rattle.rkyv_btree_image.proofs.Untold.{uncounted, unordered}
+use Rattle.rkyv_btree_writing_laws.specs.Entries.{now_of}
+use Rattle.rkyv_btree_writing_laws.specs.Written.{ChildWritten, ChildStopped}
+use Rattle.rkyv_btree_writing_laws.proofs.Begun.{untouched}
+use Rattle.rkyv_btree_writing_laws.proofs.Building.{some_claimed}
+use Rattle.rkyv_btree_writing_laws.proofs.Untold.{uncounted, unordered}
 use Rattle.rkyv_btree_writer.specs.declared.fault.Fault.{Fault}
 use Rattle.rkyv_btree_writer.specs.declared.fault.Fault.TheVariants.{Length, LengthOverflow, PositionOverflow, OffsetOverflow, Writer, Memory, Entry, OutOfOrder}
 

@@ -3,13 +3,13 @@ use Rattle.std.proofs.Common.{◌≡◌, ℕ, zero, suc, ◌+◌, ◌-◌, ◌<�
 use Rattle.std.proofs.lemmas.List.{append_assoc, append-nil, take_rest}
 use Rattle.rkyv_btree_writer.specs.declared.fault.Fault.{Fault}
 use Rattle.rkyv_btree_writer.specs.Archiving.{Archival}
-use Rattle.rkyv_btree_image.specs.Image.{inner_image}
+use Rattle.rkyv_btree_writing_laws.specs.Image.{inner_image}
 use Rattle.rkyv_btree_portable.specs.InPlace.{OwnBytes}
 use Rattle.rkyv_btree_format.specs.Layout.{NodeLayout, inner_size}
 use Rattle.rkyv_btree_shape.specs.Plan.{row_plan}
 use Rattle.rkyv_btree_shape.specs.Tree.{Row, Child, inner, last, step, child, row_entries}
 use Rattle.rkyv_btree_writer.specs.Writing.{Writing}
-use Rattle.rkyv_btree_image.specs.Written.{RowWritten, ChildWritten, NodeWritten, RowStopped, ChildStopped, TreeStopped, NodeStopped}
+use Rattle.rkyv_btree_writing_laws.specs.Written.{RowWritten, ChildWritten, NodeWritten, RowStopped, ChildStopped, TreeStopped, NodeStopped}
 use Rattle.rkyv_btree_shape.proofs.PlanLaws.{row_plan_last}
 use Rattle.bench_recursion.proofs.Rows.{plan-turn}
 

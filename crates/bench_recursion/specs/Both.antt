@@ -1,7 +1,7 @@
 -- One list built by two builders, each to a writer of its own.
 use Rattle.std.specs.Prelude.{◌≡◌, ℕ, ◌⊎◌, Option}
 use Rattle.std.specs.Borrow.{Bor}
-use Rattle.rkyv_btree_image.specs.Serialising.{BuildsTree, FailsToBuild}
+use Rattle.rkyv_btree_writing_laws.specs.Serialising.{BuildsTree, FailsToBuild}
 use Rattle.rkyv_btree_portable.specs.Kind.{Kind}
 use Rattle.rkyv_btree_writer.specs.Archiving.{Archival}
 use Rattle.rkyv_btree_writer.specs.Writing.{Writing}

@@ -3,14 +3,14 @@ ghost use Rattle.std.specs.Prelude.{◌≡◌, length, IfOk, OnOk, IfErr, IsTrue
 ghost use Rattle.std.specs.Iterator.{YieldsFirstBy, item_count};
 ghost use Rattle.bench_recursion.specs.Both.{EitherFails};
 ghost use Rattle.rkyv_btree_format.specs.Layout.{are_fitting};
-ghost use Rattle.rkyv_btree_image.specs.Alike.{AppendAlike};
-ghost use Rattle.rkyv_btree_image.specs.Determined.{IsDetermined};
+ghost use Rattle.rkyv_btree_writing_laws.specs.Alike.{AppendAlike};
+ghost use Rattle.rkyv_btree_writing_laws.specs.Determined.{IsDetermined};
 ghost use Rattle.rkyv_btree_writer.specs.Writing.{position};
 
 use crate::build::serialize_recursively;
 use rkyv_btree_archive::archive::{Archive, Serialize};
 use rkyv_btree_archive::build::{BTreeMapResolver, trees_are_determined};
-use rkyv_btree_archive::map::ArchivedBTreeMap;
+use rkyv_btree_archive::map_type::ArchivedBTreeMap;
 use rkyv_btree_portable::check::Portable;
 use rkyv_btree_writer::fault::Fault;
 use rkyv_btree_writer::place::Writer;

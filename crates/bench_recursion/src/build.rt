@@ -3,13 +3,13 @@ ghost use Rattle.std.specs.Prelude.{◌≡◌, ◌+◌, ◌*◌, ◌<◌, ◌≤
 ghost use Rattle.std.specs.Iterator.{UpTo};
 ghost use Rattle.rkyv_btree_archive.specs.mirror.Scratch.{IsFree, IsReserved};
 ghost use Rattle.rkyv_btree_format.specs.Layout.{layout_of, are_fitting};
-ghost use Rattle.rkyv_btree_image.specs.Entries.{now_of};
-ghost use Rattle.rkyv_btree_image.specs.Kept.{NeverGrows, OnlyAppended};
-ghost use Rattle.rkyv_btree_image.specs.Miscounts.{IsMiscount};
-ghost use Rattle.rkyv_btree_image.specs.OneTree.{BuildsOneTree};
-ghost use Rattle.rkyv_btree_image.specs.Serialising.{Serialised, BuildFault, BuildsTree, FailsToBuild};
-ghost use Rattle.rkyv_btree_image.specs.SmallestMaps.{BuildsSmallest};
-ghost use Rattle.rkyv_btree_image.specs.Written.{ChildWritten, ChildStopped};
+ghost use Rattle.rkyv_btree_writing_laws.specs.Entries.{now_of};
+ghost use Rattle.rkyv_btree_writing_laws.specs.Kept.{NeverGrows, OnlyAppended};
+ghost use Rattle.rkyv_btree_writing_laws.specs.Miscounts.{IsMiscount};
+ghost use Rattle.rkyv_btree_writing_laws.specs.OneTree.{BuildsOneTree};
+ghost use Rattle.rkyv_btree_writing_laws.specs.Serialising.{Serialised, BuildFault, BuildsTree, FailsToBuild};
+ghost use Rattle.rkyv_btree_writing_laws.specs.SmallestMaps.{BuildsSmallest};
+ghost use Rattle.rkyv_btree_writing_laws.specs.Written.{ChildWritten, ChildStopped};
 ghost use Rattle.rkyv_btree_shape.specs.Logarithm.{ilog};
 ghost use Rattle.rkyv_btree_shape.specs.Plan.{planned_alone};
 ghost use Rattle.rkyv_btree_writer.specs.Archiving.{BeginsWith};
@@ -18,12 +18,12 @@ ghost use Rattle.rkyv_btree_writer.specs.Writing.{position, last_end};
 use crate::tree::write_child;
 use rkyv_btree_archive::archive::{Archive, Serialize};
 use rkyv_btree_archive::items::{AnyOrder, Source, none_left, take_items};
-use rkyv_btree_archive::writes::{Scratch, reserve_scratch};
+use rkyv_btree_archive::node_writes::{Scratch, reserve_scratch};
 use rkyv_btree_portable::check::Portable;
 use rkyv_btree_shape::height::entries_to_height;
+use rkyv_btree_writer::bounded_writes::LAST_END;
 use rkyv_btree_writer::fault::{Fault, IteratorLengthMismatch};
 use rkyv_btree_writer::place::Writer;
-use rkyv_btree_writer::writes::LAST_END;
 use std::alloc::{AllocError, Allocator};
 
 /// Returns how many entries wait at most, on all levels together, until their nodes' children are written.

@@ -3,15 +3,15 @@ ghost use Rattle.std.specs.Prelude.{◌≡◌, ◌+◌, ◌*◌, ◌-◌, ◌^�
 ghost use Rattle.std.specs.Prelude.{IfErr, OnSome, IfSome, IfNone, IsTrue};
 ghost use Rattle.rkyv_btree_archive.specs.mirror.Scratch.{IsFree};
 ghost use Rattle.rkyv_btree_format.specs.Layout.{layout_of, are_fitting};
-ghost use Rattle.rkyv_btree_image.specs.Entries.{now_of};
-ghost use Rattle.rkyv_btree_image.specs.Written.{ChildWritten, ChildStopped};
+ghost use Rattle.rkyv_btree_writing_laws.specs.Entries.{now_of};
+ghost use Rattle.rkyv_btree_writing_laws.specs.Written.{ChildWritten, ChildStopped};
 ghost use Rattle.rkyv_btree_shape.specs.Logarithm.{ilog};
 ghost use Rattle.rkyv_btree_shape.specs.Plan.{planned_alone};
 ghost use Rattle.rkyv_btree_writer.specs.Writing.{position, last_end};
 
 use rkyv_btree_archive::archive::{Archive, Serialize};
+use rkyv_btree_archive::node_writes::{Scratch, write_leaf};
 use rkyv_btree_archive::waiting::{wait, write_above};
-use rkyv_btree_archive::writes::{Scratch, write_leaf};
 use rkyv_btree_portable::check::Portable;
 use rkyv_btree_shape::height::child_base;
 use rkyv_btree_writer::fault::Fault;

@@ -69,5 +69,5 @@ pub listed_again : ((t b : List ℕ) (xs : List (ℕ × ℕ)) → IsBuilt t xs b
 listed_again law text archive given listed built same lists =
     let entries = built.1.0 in
     let is : IsBuilt text entries archive = record { lines = built.1.1; before = []; built = built } in
-    let told = law text archive entries is (Some []) (Some listed) (Ok 0) (subst (λ (b : List ℕ). Lists (Some b) (Some []) (Some listed) (Ok 0)) same lists) in
-    (entries, built.1.1, told.1.2 ∙ told.1.1)
+    let ended = law text archive entries is (Some []) (Some listed) (Ok 0) (subst (λ (b : List ℕ). Lists (Some b) (Some []) (Some listed) (Ok 0)) same lists) in
+    (entries, built.1.1, ended.1.2 ∙ ended.1.1)

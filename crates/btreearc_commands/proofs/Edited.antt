@@ -75,21 +75,21 @@ module _ (key value : ℕ) (small : value < 2 ^ 32) (writes : WritesValues u32_k
         bytes = puts.bytes;
         archive = (
           opened.0,
-          subst (λ (v : ℕ). Accepted u32_kind u32_kind 5 c 0 (root_of c) (root_of c) opened.0 (put_value entries i v)) (u32_faithful.told value small)
+          subst (λ (v : ℕ). Accepted u32_kind u32_kind 5 c 0 (root_of c) (root_of c) opened.0 (put_value entries i v)) (u32_faithful.means value small)
               (subst (λ (at : ℕ). Accepted u32_kind u32_kind 5 c 0 at at opened.0 (put_value entries i (value_of u32_kind (to_le_bytes w32 value)))) root
               (puts.accepted i 0 (root_of b) opened.0 entries puts.entry.1 opened.1)),
         );
       }
 
   -- so it is where one is found, and else nothing is written
-  found_or_not : (found : Option (ℕ × ℕ)) (told : Bool) → Found found → told ≡ is_some found → MatchOption found (c ≡ b) (λ place. PutsEntry u32_kind u32_kind 5 b (root_of b) place (to_le_bytes w32 value) c)
-      → MatchOption found ((told ≡ false) × (c ≡ b)) (λ place. (told ≡ true) × IsSet key value entries b place c)
-  found_or_not None told finds is same = (is, same)
-  found_or_not (Some place) told finds is puts = (is, is_set place finds puts)
+  found_or_not : (found : Option (ℕ × ℕ)) (ended : Bool) → Found found → ended ≡ is_some found → MatchOption found (c ≡ b) (λ place. PutsEntry u32_kind u32_kind 5 b (root_of b) place (to_le_bytes w32 value) c)
+      → MatchOption found ((ended ≡ false) × (c ≡ b)) (λ place. (ended ≡ true) × IsSet key value entries b place c)
+  found_or_not None ended finds is same = (is, same)
+  found_or_not (Some place) ended finds is puts = (is, is_set place finds puts)
 
   -- where the keys are ordered for it, one is found exactly if the key is among them
-  told_where_key : (found : Option (ℕ × ℕ)) (told : Bool) → Found found → told ≡ is_some found → OrderedBy (λ e. nat_cmp key e.0) entries → (IsTrue told ↔ Contains (map (λ e. e.0) entries) key)
-  told_where_key found told finds is ordered =
+  set_where_key : (found : Option (ℕ × ℕ)) (ended : Bool) → Found found → ended ≡ is_some found → OrderedBy (λ e. nat_cmp key e.0) entries → (IsTrue ended ↔ Contains (map (λ e. e.0) entries) key)
+  set_where_key found ended finds is ordered =
       let read = map_is_read u32_kind u32_kind 5 b u32_laws.is_read u32_laws.is_read 0 (root_of b) (root_of b) opened.0 entries opened.1 in
       let hits = finds.answers.complete (subst (OrderedBy (λ e. nat_cmp key e.0)) read ordered) in
       let keys = hit_is_key key entries in
@@ -99,9 +99,9 @@ module _ (key value : ℕ) (small : value < 2 ^ 32) (writes : WritesValues u32_k
       )
 
   -- what the library ensures of an archive's root is what is promised of the archive
-  pub sets_value : (told : Bool) → SetsFound u32_kind u32_kind 5 b (root_of b) (nat_cmp key) (to_le_bytes w32 value) c told → SetsValue key value entries b c told
-  sets_value told sets = record {
-    set = subst (λ (found : Option (ℕ × ℕ)). MatchOption found ((told ≡ false) × (c ≡ b)) (λ place. (told ≡ true) × IsSet key value entries b place c)) sets.finds.probed
-        (found_or_not sets.found told sets.finds sets.told sets.puts);
-    complete = told_where_key sets.found told sets.finds sets.told;
+  pub sets_value : (ended : Bool) → SetsFound u32_kind u32_kind 5 b (root_of b) (nat_cmp key) (to_le_bytes w32 value) c ended → SetsValue key value entries b c ended
+  sets_value ended sets = record {
+    set = subst (λ (found : Option (ℕ × ℕ)). MatchOption found ((ended ≡ false) × (c ≡ b)) (λ place. (ended ≡ true) × IsSet key value entries b place c)) sets.finds.probed
+        (found_or_not sets.found ended sets.finds sets.has_found sets.puts);
+    complete = set_where_key sets.found ended sets.finds sets.has_found;
   }

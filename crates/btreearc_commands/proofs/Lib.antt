@@ -7,7 +7,7 @@ pub mod Listed
 pub mod Replaced
 pub mod SetOut
 pub mod Spelling
-pub mod Told
+pub mod Ends
 pub mod Written
 pub mod BuiltInOrder
 pub mod Renewed

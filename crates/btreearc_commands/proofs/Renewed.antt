@@ -18,17 +18,17 @@ use Rattle.rkyv_btree_base.specs.Writing.{Writing, position}
 use Rattle.rkyv_btree_base.proofs.Accepting.{archive_length}
 use Rattle.rkyv_btree_base.proofs.TreeSerialised.{entries_drained}
 use Rattle.rkyv_btree.specs.Deserializing.{both, all}
-use Rattle.rkyv_btree.specs.Maps.{last_wins, map_given, told_both}
+use Rattle.rkyv_btree.specs.Maps.{last_wins, map_given, model_both}
 use Rattle.rkyv_btree.specs.Migrated.{AreNative, Migrates, MigratesToStrict, IsUnmade, FailsToMigrate}
 use Rattle.btreearc_commands.specs.Archive.{archive_of, HasArchive, IsUnbuilt}
 use Rattle.btreearc_commands.specs.Commands.{last_values}
 use Rattle.btreearc_commands.specs.Opening.{IsArchive, entries_read, root_of}
 use Rattle.btreearc_commands.proofs.Built.{nothing_written, numbers, tree_of, archive_written, has_archive, unbuilt, unbuilt_root}
 
--- numbers are told as they are
-told_same : (entries : List (ℕ × ℕ)) → told_both (λ n. n) (λ n. n) entries ≡ entries
-told_same [] = refl
-told_same (e ∷ entries) = ap (λ es. e ∷ es) (told_same entries)
+-- numbers are ended as they are
+model_same : (entries : List (ℕ × ℕ)) → model_both (λ n. n) (λ n. n) entries ≡ entries
+model_same [] = refl
+model_same (e ∷ entries) = ap (λ es. e ∷ es) (model_same entries)
 
 all_given : (entries : List (ℕ × ℕ)) → all {F = EntryFault} (map (λ e. both (Ok e.0) (Ok e.1)) entries) ≡ Ok entries
 all_given [] = refl
@@ -43,36 +43,36 @@ ok_same x y r a b = cc
 
 module _ (native : Result (List (ℕ × ℕ)) EntryFault) (last : List (ℕ × ℕ)) (is : native ≡ Ok last) where
   abbrev Native : List (ℕ × ℕ) → Type 0
-  Native = AreNative nat_cmp u32_kind u32_kind numbers numbers (told_both (λ n. n) (λ n. n)) native
+  Native = AreNative nat_cmp u32_kind u32_kind numbers numbers (model_both (λ n. n) (λ n. n)) native
 
   native_last : (entries : List (ℕ × ℕ)) → Native entries → entries ≡ last
-  native_last entries are = sym (told_same entries) ∙ ok_same (told_both (λ n. n) (λ n. n) entries) last native are.made is
+  native_last entries are = sym (model_same entries) ∙ ok_same (model_both (λ n. n) (λ n. n) entries) last native are.made is
 
   -- the archive that is written
-  pub renewed : (from : Writing) (at : ℕ) (to : Writing) → from ≡ nothing_written → Migrates nat_cmp u32_kind u32_kind numbers numbers (told_both (λ n. n) (λ n. n)) native from at to → to.contents ≡ archive_of last
+  pub renewed : (from : Writing) (at : ℕ) (to : Writing) → from ≡ nothing_written → Migrates nat_cmp u32_kind u32_kind numbers numbers (model_both (λ n. n) (λ n. n)) native from at to → to.contents ≡ archive_of last
   renewed from at to start m =
       let tree = tree_of m.entries m.root from m.mid start m.built in
       archive_written m.entries m.root m.mid to tree m.wrote ∙ ap archive_of (native_last m.entries m.are)
 
-  pub renewed_fits : (from : Writing) (at : ℕ) (to : Writing) → from ≡ nothing_written → Migrates nat_cmp u32_kind u32_kind numbers numbers (told_both (λ n. n) (λ n. n)) native from at to → HasArchive last
+  pub renewed_fits : (from : Writing) (at : ℕ) (to : Writing) → from ≡ nothing_written → Migrates nat_cmp u32_kind u32_kind numbers numbers (model_both (λ n. n) (λ n. n)) native from at to → HasArchive last
   renewed_fits from at to start m =
       subst HasArchive (native_last m.entries m.are) (has_archive m.entries m.root m.mid to (tree_of m.entries m.root from m.mid start m.built) m.few m.wrote m.end)
 
   -- which is accepted
-  pub renewed_accepted : (from : Writing) (at : ℕ) (to : Writing) → from ≡ nothing_written → Migrates nat_cmp u32_kind u32_kind numbers numbers (told_both (λ n. n) (λ n. n)) native from at to
-      → MigratesToStrict nat_cmp u32_kind u32_kind numbers numbers (told_both (λ n. n) (λ n. n)) native from at to → IsArchive to.contents last
+  pub renewed_accepted : (from : Writing) (at : ℕ) (to : Writing) → from ≡ nothing_written → Migrates nat_cmp u32_kind u32_kind numbers numbers (model_both (λ n. n) (λ n. n)) native from at to
+      → MigratesToStrict nat_cmp u32_kind u32_kind numbers numbers (model_both (λ n. n) (λ n. n)) native from at to → IsArchive to.contents last
   renewed_accepted from at to start m strict =
       let s = strict (itself u32_kind) (itself u32_kind) (λ x y. refl) (ap (λ w. w.base) start) in
       let tree = tree_of m.entries m.root from m.mid start m.built in
       let here : at ≡ root_of to.contents = m.place ∙ omega (arith, archive_length m.mid to m.root (length m.entries) tree.wrote.done.base m.wrote) in
-      let same : map (λ x. (x.0, x.1)) s.0 ≡ last = told_same s.0 ∙ native_last s.0 s.1 in
+      let same : map (λ x. (x.0, x.1)) s.0 ≡ last = model_same s.0 ∙ native_last s.0 s.1 in
       subst (λ (p : ℕ). (left : ℕ) × Accepted u32_kind u32_kind 5 to.contents 0 p p left last) here
       (subst (λ (m : List (ℕ × ℕ)). (left : ℕ) × Accepted u32_kind u32_kind 5 to.contents 0 at at left m) same s.2.map)
 
   no_error : (fault : EntryFault) → native ≡ Err fault → ⊥
   no_error fault e = cc
 
-  unmade : {X : Type 0} (fault : Fault X) → IsUnmade nat_cmp u32_kind u32_kind numbers numbers (told_both (λ n. n) (λ n. n)) native fault → IsUnbuilt last fault
+  unmade : {X : Type 0} (fault : Fault X) → IsUnmade nat_cmp u32_kind u32_kind numbers numbers (model_both (λ n. n) (λ n. n)) native fault → IsUnbuilt last fault
   unmade (Entry fault) h = absurd (no_error fault h)
   unmade (Memory error) h = tt
   unmade (Length m) h = absurd h
@@ -83,7 +83,7 @@ module _ (native : Result (List (ℕ × ℕ)) EntryFault) (last : List (ℕ × �
   unmade (OutOfOrder index) h = absurd h
 
   -- why it isn't
-  pub unrenewed : {X : Type 0} (from : Writing) (fault : Fault X) (to : Writing) → from ≡ nothing_written → FailsToMigrate nat_cmp u32_kind u32_kind numbers numbers (told_both (λ n. n) (λ n. n)) native from fault to → IsUnbuilt last fault
+  pub unrenewed : {X : Type 0} (from : Writing) (fault : Fault X) (to : Writing) → from ≡ nothing_written → FailsToMigrate nat_cmp u32_kind u32_kind numbers numbers (model_both (λ n. n) (λ n. n)) native from fault to → IsUnbuilt last fault
   unrenewed from fault to start (inl (h, same)) = unmade fault h
   unrenewed {X} from fault to start (inr (entries, are, inl h)) =
       subst (λ (es : List (ℕ × ℕ)). IsUnbuilt es fault) (native_last entries are)

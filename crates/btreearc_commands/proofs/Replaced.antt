@@ -15,7 +15,7 @@ use Rattle.btreearc_commands.specs.Commands.{Sets, IsSetOut}
 use Rattle.btreearc_commands.specs.Opening.{IsArchive, place_in_archive}
 use Rattle.btreearc_commands.specs.Sessions.{Writes, AlwaysWrites, AlwaysPrints, IsSetIn, KeysIncrease, keys, with_value}
 use Rattle.btreearc_commands.specs.Setting.{IsSet}
-use Rattle.btreearc_commands.proofs.Told.{IsKnown, failed, ordered, grown_by_nothing}
+use Rattle.btreearc_commands.proofs.Ends.{IsKnown, failed, ordered, grown_by_nothing}
 
 less_is : (n m : ℕ) → nat_cmp n m ≡ Less → n < m
 less_is n m h = grind (arith, nat_tests)
@@ -50,19 +50,19 @@ has_key key (x ∷ xs) zero has = (0, omega arith, has)
 has_key key (x ∷ xs) (suc i) has = let there = has_key key xs i has in (suc there.0, omega (arith, there.1), there.2)
 
 module _ (key value : ℕ) (archive : List ℕ) (entries : List (ℕ × ℕ)) where
-  -- what is told of a place where the search for the key may have ended
-  abbrev Told : Option (ℕ × ℕ) → Option (List ℕ) → Option (List ℕ) → ℕ → Type 0
-  Told found old new status = MatchOption found ((status ≡ 1) × (new ≡ old)) (λ place. (status ≡ 0) × ((made : List ℕ) × IsSet key value entries archive place made × Appends old new made))
+  -- what `set` does at a place where the search for the key may have ended
+  abbrev Replaces : Option (ℕ × ℕ) → Option (List ℕ) → Option (List ℕ) → ℕ → Type 0
+  Replaces found old new status = MatchOption found ((status ≡ 1) × (new ≡ old)) (λ place. (status ≡ 0) × ((made : List ℕ) × IsSet key value entries archive place made × Appends old new made))
 
-  absent_told : (found : Option (ℕ × ℕ)) (old new : Option (List ℕ)) (status : ℕ) → (Contains (keys entries) key → ⊥) → Told found old new status → Writes (λ bytes. bytes ≡ []) 1 old new (Ok status)
-  absent_told None old new status none told = (told.0, ([], refl, grown_by_nothing old new told.1))
-  absent_told (Some place) old new status none told = absurd (none (has_key key entries told.1.1.i told.1.1.has_key))
+  absent_ended : (found : Option (ℕ × ℕ)) (old new : Option (List ℕ)) (status : ℕ) → (Contains (keys entries) key → ⊥) → Replaces found old new status → Writes (λ bytes. bytes ≡ []) 1 old new (Ok status)
+  absent_ended None old new status none ended = (ended.0, ([], refl, grown_by_nothing old new ended.1))
+  absent_ended (Some place) old new status none ended = absurd (none (has_key key entries ended.1.1.i ended.1.1.has_key))
 
-  set_told : (found : Option (ℕ × ℕ)) (old new : Option (List ℕ)) (status : ℕ) → KeysIncrease entries → status ≡ 0 → Told found old new status → Writes (λ made. IsArchive made (with_value key value entries)) 0 old new (Ok status)
-  set_told None old new status rise done told = absurd (omega (arith, done, told.0))
-  set_told (Some place) old new status rise done told =
-      let set = told.1.1 in
-      (done, (told.1.0, subst (IsArchive told.1.0) (put_is key value entries set.i rise set.has_key) set.archive, told.1.2))
+  set_ended : (found : Option (ℕ × ℕ)) (old new : Option (List ℕ)) (status : ℕ) → KeysIncrease entries → status ≡ 0 → Replaces found old new status → Writes (λ made. IsArchive made (with_value key value entries)) 0 old new (Ok status)
+  set_ended None old new status rise done ended = absurd (omega (arith, done, ended.0))
+  set_ended (Some place) old new status rise done ended =
+      let set = ended.1.1 in
+      (done, (ended.1.0, subst (IsArchive ended.1.0) (put_is key value entries set.i rise set.has_key) set.archive, ended.1.2))
 
   module _ (is : IsKnown archive entries) where
     -- a run of `set` speaks of these entries
@@ -70,13 +70,13 @@ module _ (key value : ℕ) (archive : List ℕ) (entries : List (ℕ × ℕ)) wh
     set_out others old new status other out = subst (λ (xs : List (ℕ × ℕ)). IsSetOut key value xs archive old new status) (is.one others other) out
 
     pub absent : (Contains (keys entries) key → ⊥) → AlwaysPrints (Sets key value (Some archive)) [] 1
-    absent none old new (Ok status) h = absent_told (place_in_archive archive key) old new status none (set_out h.0 old new status h.1 h.2).written
+    absent none old new (Ok status) h = absent_ended (place_in_archive archive key) old new status none (set_out h.0 old new status h.1 h.2).written
     absent none old new (Err fault) h = failed archive entries is (λ bytes. bytes ≡ []) 1 old new fault h
 
     pub set : KeysIncrease entries → Contains (keys entries) key → AlwaysWrites (Sets key value (Some archive)) (λ made. IsArchive made (with_value key value entries)) 0
     set rise there old new (Ok status) h =
         let out = set_out h.0 old new status h.1 h.2 in
-        set_told (place_in_archive archive key) old new status rise ((out.complete (ordered key entries rise)).1 there) out.written
+        set_ended (place_in_archive archive key) old new status rise ((out.complete (ordered key entries rise)).1 there) out.written
     set rise there old new (Err fault) h = failed archive entries is (λ made. IsArchive made (with_value key value entries)) 0 old new fault h
 
     -- so what `set` has written is an archive of them

@@ -11,27 +11,27 @@ pub written_back : (len : ℕ) (made before : List ℕ) → length made ≡ len 
 written_back len made before long all = take-append-le len made (drop (length made) before) (omega arith) ∙ take_all len made (omega arith)
 
 module _ (key value : ℕ) (entries : List (ℕ × ℕ)) (archive made : List ℕ) where
-  -- where it is told that an entry was set, the archive made is written
-  written : (old new : Option (List ℕ)) (told : Bool) (place : Option (ℕ × ℕ)) → told ≡ true → Appends old new made → MatchOption place ((told ≡ false) × (made ≡ archive)) (λ p. (told ≡ true) × IsSet key value entries archive p made)
+  -- if an entry was set, the archive made is written
+  written : (old new : Option (List ℕ)) (ended : Bool) (place : Option (ℕ × ℕ)) → ended ≡ true → Appends old new made → MatchOption place ((ended ≡ false) × (made ≡ archive)) (λ p. (ended ≡ true) × IsSet key value entries archive p made)
       → MatchOption place ((◌≡◌ {A = ℕ} 0 1) × (new ≡ old)) (λ p. (◌≡◌ {A = ℕ} 0 0) × ((c : List ℕ) × IsSet key value entries archive p c × Appends old new c))
-  written old new told None is appends set = absurd (cc (is, set.0))
-  written old new told (Some p) is appends set = (refl, (made, set.1, appends))
+  written old new ended None is appends set = absurd (cc (is, set.0))
+  written old new ended (Some p) is appends set = (refl, (made, set.1, appends))
 
-  -- and where it is told that none was, nothing is
-  unwritten : (old : Option (List ℕ)) (told : Bool) (place : Option (ℕ × ℕ)) → told ≡ false → MatchOption place ((told ≡ false) × (made ≡ archive)) (λ p. (told ≡ true) × IsSet key value entries archive p made)
+  -- and where it is ended that none was, nothing is
+  unwritten : (old : Option (List ℕ)) (ended : Bool) (place : Option (ℕ × ℕ)) → ended ≡ false → MatchOption place ((ended ≡ false) × (made ≡ archive)) (λ p. (ended ≡ true) × IsSet key value entries archive p made)
       → MatchOption place ((◌≡◌ {A = ℕ} 1 1) × (old ≡ old)) (λ p. (◌≡◌ {A = ℕ} 1 0) × ((c : List ℕ) × IsSet key value entries archive p c × Appends old old c))
-  unwritten old told None is set = (refl, refl)
-  unwritten old told (Some p) is set = absurd (cc (is, set.0))
+  unwritten old ended None is set = (refl, refl)
+  unwritten old ended (Some p) is set = absurd (cc (is, set.0))
 
-  pub set_out : (old new : Option (List ℕ)) (told : Bool) → told ≡ true → Appends old new made → SetsValue key value entries archive made told → IsSetOut key value entries archive old new 0
-  set_out old new told is appends sets = record {
-    written = written old new told (place_in_archive archive key) is appends sets.set;
+  pub set_out : (old new : Option (List ℕ)) (ended : Bool) → ended ≡ true → Appends old new made → SetsValue key value entries archive made ended → IsSetOut key value entries archive old new 0
+  set_out old new ended is appends sets = record {
+    written = written old new ended (place_in_archive archive key) is appends sets.set;
     complete = λ ordered. (λ _. (sets.complete ordered).0 is, λ _. refl);
   }
 
-  pub not_set_out : (old : Option (List ℕ)) (told : Bool) → told ≡ false → SetsValue key value entries archive made told → IsSetOut key value entries archive old old 1
-  not_set_out old told is sets = record {
-    written = unwritten old told (place_in_archive archive key) is sets.set;
+  pub not_set_out : (old : Option (List ℕ)) (ended : Bool) → ended ≡ false → SetsValue key value entries archive made ended → IsSetOut key value entries archive old old 1
+  not_set_out old ended is sets = record {
+    written = unwritten old ended (place_in_archive archive key) is sets.set;
     complete = λ ordered. (λ one. absurd (cc one), λ there. absurd (cc (is, (sets.complete ordered).1 there)));
   }
 

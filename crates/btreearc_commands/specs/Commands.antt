@@ -53,15 +53,15 @@ Checks input old new (Ok status) =
     (status ≡ 0) × IfSome input (λ bytes. (entries : List (ℕ × ℕ)) × IsArchive bytes entries × Appends old new (total (length entries)))
 Checks input old new (Err fault) = FailsOnArchive input old new fault
 
--- what a search has found is told: a value by its line, with status 0, and nothing by nothing, with status 1
-abbrev pub IsTold : Option (ℕ × ℕ) → Option (List ℕ) → Option (List ℕ) → ℕ → Type 0
-IsTold (Some entry) old new status = (status ≡ 0) × Appends old new (decimal entry.1 ++ 10 ∷ [])
-IsTold None old new status = (status ≡ 1) × (new ≡ old)
+-- what is printed of what a search has found: a value by its line, with status 0, and nothing, with status 1
+abbrev pub PrintsValue : Option (ℕ × ℕ) → Option (List ℕ) → Option (List ℕ) → ℕ → Type 0
+PrintsValue (Some entry) old new status = (status ≡ 0) × Appends old new (decimal entry.1 ++ 10 ∷ [])
+PrintsValue None old new status = (status ≡ 1) × (new ≡ old)
 
--- `get` has told what a search for the key finds in the input's archive, or it has failed
+-- `get` has printed what a search for the key finds in the input's archive, or it has failed
 abbrev pub Gets : ℕ → Option (List ℕ) → Option (List ℕ) → Option (List ℕ) → Result ℕ ProgramFault → Type 0
 Gets key input old new (Ok status) =
-    IfSome input (λ bytes. (entries : List (ℕ × ℕ)) × IsArchive bytes entries × IsTold (found_in_archive bytes key) old new status)
+    IfSome input (λ bytes. (entries : List (ℕ × ℕ)) × IsArchive bytes entries × PrintsValue (found_in_archive bytes key) old new status)
 Gets key input old new (Err fault) = FailsOnArchive input old new fault
 
 -- the found entries stand in the list one behind the other; and where along the list come keys before a bound, then keys

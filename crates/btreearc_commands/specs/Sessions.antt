@@ -34,7 +34,7 @@ pub record IsMigratedTo (archive made : List ℕ) : Type 0 where
 -- a run has written such bytes and no others, with this status; or reading or a growth failed, and it has written nothing;
 -- or writing failed
 abbrev pub Writes : (List ℕ → Type 0) → ℕ → Option (List ℕ) → Option (List ℕ) → Result ℕ ProgramFault → Type 0
-Writes Are status old new (Ok told) = (told ≡ status) × ((bytes : List ℕ) × Are bytes × Appends old new bytes)
+Writes Are status old new (Ok code) = (code ≡ status) × ((bytes : List ℕ) × Are bytes × Appends old new bytes)
 Writes Are status old new (Err InputFailed) = new ≡ old
 Writes Are status old new (Err Memory) = new ≡ old
 Writes Are status old new (Err (NotBuilt (Writer error))) = new ≡ old

@@ -23,9 +23,9 @@ pub record IsSet (key value : ℕ) (entries : List (ℕ × ℕ)) (b : List ℕ) 
   pub bytes : c ≡ put_bytes b (value_start place) (to_le_bytes w32 value)
   pub archive : IsArchive c (put_value entries i value)
 
--- the entry that a search for the key finds has this value, and it is told whether there is one; if there is none, no byte
+-- the entry that a search for the key finds has this value, and the result says whether there is one; if there is none, no byte
 -- is another. Where along the list come keys before the key, then keys equal to it, then keys past it, one is found exactly
 -- if the key is among them
-pub record SetsValue (key value : ℕ) (entries : List (ℕ × ℕ)) (b c : List ℕ) (told : Bool) : Type 0 where
-  pub set : MatchOption (place_in_archive b key) ((told ≡ false) × (c ≡ b)) (λ place. (told ≡ true) × IsSet key value entries b place c)
-  pub complete : OrderedBy (λ e. nat_cmp key e.0) entries → (IsTrue told ↔ Contains (map (λ e. e.0) entries) key)
+pub record SetsValue (key value : ℕ) (entries : List (ℕ × ℕ)) (b c : List ℕ) (found : Bool) : Type 0 where
+  pub set : MatchOption (place_in_archive b key) ((found ≡ false) × (c ≡ b)) (λ place. (found ≡ true) × IsSet key value entries b place c)
+  pub complete : OrderedBy (λ e. nat_cmp key e.0) entries → (IsTrue found ↔ Contains (map (λ e. e.0) entries) key)

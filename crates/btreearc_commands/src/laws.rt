@@ -8,9 +8,9 @@ ghost use Rattle.btreearc_commands.specs.Sessions.{IsBuilt, IsBuiltStrict, IsMig
 use crate::opening::{one_list, refused_is_no_archive};
 use crate::program::run;
 use btreearc_lines::fault::ProgramFault;
-use rkyv_btree::deserialize::last_values_count;
-use rkyv_btree::lookup::{increasing_keys_are_found, what_is_found_is_equal};
-use rkyv_btree::strict::neighbours_decide_order;
+use rkyv_btree::laws::{
+    increasing_keys_are_found, last_values_count, neighbours_decide_order, what_is_found_is_equal,
+};
 use rkyv_btree_base::numbers::ArchivedU32;
 use std::alloc::Global;
 
@@ -27,19 +27,20 @@ pub fn lines_are_listed_again()
     ensures built_again { (text archive : List ℕ) (entries : List (ℕ × ℕ)) →
         IsBuilt text entries archive → AlwaysPrints (Builds (Some (text_of entries))) archive 0 }
 {
-    archives_tell_their_entries();
+    archives_show_their_entries();
 }
 
 /// An archive of entries is listed as these, and counted as so many, whoever wrote it. A key that none of them has isn't
 /// found. Where their keys strictly increase, each is found, with its value, and a range gives all entries from its
 /// first key to its last.
-pub fn archives_tell_their_entries()
+pub fn archives_show_their_entries()
     ensures listed { (archive : List ℕ) (entries : List (ℕ × ℕ)) → IsArchive archive entries →
         AlwaysPrints (Lists (Some archive)) (text_of entries) 0 }
     ensures counted { (archive : List ℕ) (entries : List (ℕ × ℕ)) → IsArchive archive entries →
         AlwaysPrints (Checks (Some archive)) (total (length entries)) 0 }
     ensures absent { (archive : List ℕ) (entries : List (ℕ × ℕ)) → IsArchive archive entries →
-        (key : ℕ) → (Contains (keys entries) key → ⊥) → AlwaysPrints (Gets key (Some archive)) [] 1 }
+        (key : ℕ) → (Contains (keys entries) key → ⊥)
+        → AlwaysPrints (Gets key (Some archive)) [] 1 }
     ensures got { (archive : List ℕ) (entries : List (ℕ × ℕ)) → IsArchive archive entries →
         KeysIncrease entries → (key value : ℕ) → Contains entries (key, value) →
         AlwaysPrints (Gets key (Some archive)) (decimal value ++ 10 ∷ []) 0 }
@@ -55,7 +56,7 @@ pub fn archives_tell_their_entries()
 
 /// `set` of a key that no entry has writes nothing. Where the keys strictly increase, and the key is among them, it
 /// writes an archive of the same entries but for that one value, which is listed as these.
-pub fn set_values_are_told()
+pub fn set_values_are_listed()
     ensures absent { (archive : List ℕ) (entries : List (ℕ × ℕ)) → IsArchive archive entries →
         (key value : ℕ) → (Contains (keys entries) key → ⊥) →
         AlwaysPrints (Sets key value (Some archive)) [] 1 }
@@ -67,7 +68,7 @@ pub fn set_values_are_told()
         KeysIncrease entries → (key value : ℕ) → IsSetIn key value archive made →
         AlwaysPrints (Lists (Some made)) (text_of (with_value key value entries)) 0 }
 {
-    archives_tell_their_entries();
+    archives_show_their_entries();
     refused_is_no_archive();
     one_list();
 }
@@ -76,7 +77,8 @@ pub fn set_values_are_told()
 /// keys are these.
 pub fn strict_archives_stay()
     ensures checked { (archive : List ℕ) (entries : List (ℕ × ℕ)) → IsArchive archive entries →
-        KeysIncrease entries → AlwaysPrints (ChecksStrict (Some archive)) (total (length entries)) 0 }
+        KeysIncrease entries
+        → AlwaysPrints (ChecksStrict (Some archive)) (total (length entries)) 0 }
     ensures built_checked { (text archive : List ℕ) (entries : List (ℕ × ℕ)) →
         IsBuiltStrict text entries archive →
         AlwaysPrints (ChecksStrict (Some archive)) (total (length entries)) 0 }

@@ -8,7 +8,7 @@ ghost use Rattle.btreearc_commands.specs.Opening.{IsArchive, IsStrictOpenFault, 
 
 use crate::opening::{Numbers, open};
 use btreearc_lines::fault::ProgramFault;
-use rkyv_btree::deserialize::maps_are_given_by_entries;
+use rkyv_btree::laws::maps_are_given_by_entries;
 use rkyv_btree::strict::{StrictView, migrate};
 use rkyv_btree::view::View;
 use rkyv_btree_base::numbers::ArchivedU32;
@@ -21,7 +21,7 @@ use std::alloc::Global;
 ///
 /// `Refused` where `open` returns it, and with the index of the first entry whose key isn't greater than the key before it.
 #[tactic(auto, using(crate::proofs::Built::numbers_fit))]
-pub fn strict_count(archive: &[u8]) -> Result<u32, ProgramFault>
+pub fn strict_count(archive: &[u8]) -> Result<usize, ProgramFault>
     ensures count { IfOk result (λ count. (entries : _) × IsArchive archive.now entries
         × Increasing nat_cmp entries × (count ≡ length entries)) }
     ensures refused { IfErr result (IsStrictOpenFault archive.now) }

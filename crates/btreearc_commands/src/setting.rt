@@ -4,12 +4,12 @@ ghost use Rattle.btreearc_commands.specs.Opening.{IsArchive, root_of};
 ghost use Rattle.btreearc_commands.specs.Setting.{SetsValue};
 
 use crate::opening::Numbers;
+use rkyv_btree::laws::writes_put_values;
 use rkyv_btree::map::MapSeal;
-use rkyv_btree::seal::writes_put_values;
 use rkyv_btree_base::numbers::ArchivedU32;
 
 /// Replaces the value of the entry that a search of an archive for the key finds, and no other byte,
-/// and tells whether it finds one. `open` is the test for an archive, and gives its root.
+/// and returns whether it finds one. `open` is the test for an archive, and gives its root.
 #[tactic(auto, using(crate::proofs::Built::numbers_fit))]
 pub fn set_value(archive: &mut [u8], root: u32, key: u32, value: u32) -> bool
     requires root { root ≡ root_of archive.old }

@@ -1,7 +1,7 @@
 //! The commands, and the words that name them.
 use crate::lines::whole_number;
 
-/// What the program is told to do.
+/// A command of the program.
 #[derive(Clone, Copy, Debug)]
 pub enum Command {
     /// Archive the input's lines.

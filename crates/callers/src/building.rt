@@ -1,7 +1,7 @@
 //! Archives of price lists that are in no std map.
 
 use crate::reading::Prices;
-use anyhow::{Result, bail};
+use anyhow::Result;
 use rkyv_btree::prelude::*;
 use std::alloc::Global;
 use std::fs::File;
@@ -9,28 +9,24 @@ use std::io::{BufWriter, Write};
 
 /// Serializes a list of prices, in its own order. Returns the bytes, and the position of the map in them.
 pub fn archive_of(alloc: Global, prices: &[(String, u64)]) -> Result<(Vec<u8>, u32)> {
-    if !Prices::fits() {
-        bail!("a node of these types is larger than 4 GiB");
-    }
+    sizes_fit::<Prices>();
     let items = prices
         .iter()
         .map(|price: &(String, u64)| (&price.0, &price.1));
     let mut writer = VecWriter::new(alloc);
-    let tree = Prices::serialize_from_ordered_iter(alloc, prices.len(), items, &mut writer)?;
+    let tree = Prices::serialize_from_exact_iter(alloc, items, &mut writer)?;
     let root = Prices::write_root(prices.len(), tree, &mut writer)?;
     Ok((writer.into_vec(), root))
 }
 
 /// Serializes a list of prices to a file, and returns the position of the map in it.
 pub fn write_to(alloc: Global, file: File, prices: &[(String, u64)]) -> Result<u32> {
-    if !Prices::fits() {
-        bail!("a node of these types is larger than 4 GiB");
-    }
+    sizes_fit::<Prices>();
     let items = prices
         .iter()
         .map(|price: &(String, u64)| (&price.0, &price.1));
     let mut writer = IoWriter::new(BufWriter::new(alloc, file)?);
-    let tree = Prices::serialize_from_ordered_iter(alloc, prices.len(), items, &mut writer)?;
+    let tree = Prices::serialize_from_exact_iter(alloc, items, &mut writer)?;
     let root = Prices::write_root(prices.len(), tree, &mut writer)?;
     writer.into_inner().flush()?;
     Ok(root)

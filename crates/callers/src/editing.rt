@@ -1,29 +1,22 @@
 //! Editing a price list in place.
 
 use crate::reading::Prices;
-use anyhow::{Result, bail};
 use rkyv_btree::prelude::*;
-use rkyv_btree::seal::{LentKey, Seal};
-use std::ops::ControlFlow;
 
 /// Validates a whole archive, and returns its map for edits.
-pub fn open_prices(bytes: &mut [u8]) -> Result<MapSeal<'_, Prices>> {
-    if !Prices::fits() {
-        bail!("a node of these types is larger than 4 GiB");
-    }
-    // The map's own eight bytes are the last ones of a whole archive.
-    let pos = u32::try_from(bytes.len().saturating_sub(8))?;
-    Ok(access_mut::<ArchivedText, ArchivedU64, 5>(bytes, pos)?)
+pub fn open_prices(bytes: &mut [u8]) -> Result<MapSeal<'_, Prices>, Refusal> {
+    sizes_fit::<Prices>();
+    open_mut(bytes)
 }
 
 /// Overwrites the price of a name, and returns whether the name is there.
-pub fn set_price(bytes: &mut [u8], name: &str, price: u64) -> Result<bool> {
+pub fn set_price(bytes: &mut [u8], name: &str, price: u64) -> Result<bool, Refusal> {
     let mut map = open_prices(bytes)?;
     Ok(map.set_by(name, price))
 }
 
 /// Adds to the price of a name, and returns the old price.
-pub fn raise_price(bytes: &mut [u8], name: &str, amount: u64) -> Result<Option<u64>> {
+pub fn raise_price(bytes: &mut [u8], name: &str, amount: u64) -> Result<Option<u64>, Refusal> {
     let mut map = open_prices(bytes)?;
     let old = map.with_seal_by(
         name,
@@ -37,7 +30,7 @@ pub fn raise_price(bytes: &mut [u8], name: &str, amount: u64) -> Result<Option<u
 }
 
 /// Doubles all prices by a visit.
-pub fn double_all(bytes: &mut [u8]) -> Result<()> {
+pub fn double_all(bytes: &mut [u8]) -> Result<(), Refusal> {
     let mut map = open_prices(bytes)?;
     map.visit_seal(|_: LentKey<ArchivedText>, price: &mut Seal<ArchivedU64>| {
         let old = price.read();
@@ -48,7 +41,7 @@ pub fn double_all(bytes: &mut [u8]) -> Result<()> {
 }
 
 /// Doubles all prices along a cursor.
-pub fn double_along(bytes: &mut [u8]) -> Result<()> {
+pub fn double_along(bytes: &mut [u8]) -> Result<(), Refusal> {
     let mut cursor = open_prices(bytes)?.iter_seal();
     while cursor.next() {
         let old = cursor.read();

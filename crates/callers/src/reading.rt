@@ -4,41 +4,35 @@ ghost use Rattle.rkyv_btree_base.specs.Scalars.{u64_kind};
 ghost use Rattle.rkyv_btree_base.specs.Text.{text_kind};
 ghost use Rattle.rkyv_btree.specs.View.{entries_of};
 
-use anyhow::{Result, bail};
+use anyhow::Result;
 use rkyv_btree::prelude::*;
-use std::ops::{Bound, ControlFlow};
+use std::collections::BTreeMap;
 
 /// Names and their prices.
-pub type Prices = ArchivedBTreeMap<ArchivedText, ArchivedU64, 5>;
+pub type Prices = Archived<BTreeMap<String, u64>>;
 
 /// Validates the bytes, and returns the price of a name.
 pub fn price_in(bytes: &[u8], name: &str) -> Result<Option<u64>> {
-    if !Prices::fits() {
-        bail!("a node of these types is larger than 4 GiB");
-    }
+    sizes_fit::<Prices>();
     let map = open::<Prices>(bytes)?;
     Ok(price(map, name))
 }
 
 /// Returns the price of a name.
 pub fn price(map: View<'_, Prices>, name: &str) -> Option<u64> {
-    map.get_by(name).map(|price| price.to_native())
+    map.get_native_by(name)
 }
 
 /// Validates the bytes and the order of their keys, and returns the price of a name.
 pub fn price_in_strict(bytes: &[u8], name: &str) -> Result<Option<u64>> {
-    if !Prices::fits() {
-        bail!("a node of these types is larger than 4 GiB");
-    }
+    sizes_fit::<Prices>();
     let map = open_strict::<ArchivedText, ArchivedU64, 5>(bytes)?;
-    Ok(map.get_by(name).map(|price| price.to_native()))
+    Ok(map.get_native_by(name))
 }
 
 /// Returns the price of a name. Only what the lookup reads is validated.
 pub fn price_unverified(bytes: &[u8], name: &str) -> Result<Option<u64>> {
-    if !Prices::fits() {
-        bail!("a node of these types is larger than 4 GiB");
-    }
+    sizes_fit::<Prices>();
     let map = Unverified::<Prices>::open(bytes)?;
     Ok(map.get_by(name)?.map(|price| price.to_native()))
 }
@@ -54,7 +48,7 @@ pub fn price_with(map: View<'_, Prices>, name: &str) -> Option<u64> {
 /// Adds up all prices, modulo 2 to the power of 64.
 pub fn total(map: View<'_, Prices>) -> u64 {
     let mut sum: u64 = 0;
-    for (_, price) in map.iter() {
+    for (_, price) in map {
         sum = sum.wrapping_add(price.to_native());
     }
     sum
@@ -62,7 +56,7 @@ pub fn total(map: View<'_, Prices>) -> u64 {
 
 /// Adds up the prices of the names from `low` to `high`.
 pub fn total_between(map: View<'_, Prices>, low: &str, high: &str) -> u64 {
-    map.range_by(Bound::Included(low), Bound::Included(high))
+    map.range_of(low..=high)
         .fold(0, |sum: u64, entry| sum.wrapping_add(entry.1.to_native()))
 }
 

@@ -7,8 +7,13 @@ use crate::reading::{
     price_with, total, total_between,
 };
 use rkyv_btree::prelude::*;
+use rkyv_btree::set::open_strict as open_strict_set;
 use std::alloc::Global;
+use std::collections::BTreeSet;
+use std::convert::AsStr;
 use std::test::Fail;
+
+type Numbers = Archived<BTreeSet<u32>>;
 
 /// The archive of `apple 3` and `pear 5`.
 fn two(alloc: Global) -> Result<Vec<u8>, Fail> {
@@ -23,7 +28,7 @@ fn two(alloc: Global) -> Result<Vec<u8>, Fail> {
 #[test]
 fn prices_are_read(rt: HostRuntime) -> Result<(), Fail> {
     let bytes = two(rt.alloc())?;
-    assert!(rt; Prices::fits());
+    sizes_fit::<Prices>();
     let map = open::<Prices>(bytes.as_slice())?;
     assert_eq!(rt; price_with(map, "pear"), Some(5));
     assert_eq!(rt; first_longer(map, 4), Some(3));
@@ -46,5 +51,61 @@ fn prices_are_edited(rt: HostRuntime) -> Result<(), Fail> {
     assert_eq!(rt; price_in(bytes.as_slice(), "pear")?, Some(40));
     assert_eq!(rt; price_in_strict(bytes.as_slice(), "pear")?, Some(40));
     assert_eq!(rt; price_unverified(bytes.as_slice(), "pear")?, Some(40));
+    Ok(())
+}
+
+/// The archive of the set of 2, 3 and 7.
+fn three(alloc: Global) -> Result<Vec<u8>, Fail> {
+    sizes_fit::<Numbers>();
+    let numbers = [2u32, 3, 7];
+    let mut writer = VecWriter::new(alloc);
+    let tree = Numbers::serialize_from_exact_iter(alloc, numbers.iter(), &mut writer)?;
+    Numbers::write_root(numbers.len(), tree, &mut writer)?;
+    Ok(writer.into_vec())
+}
+
+#[test]
+fn sets_are_read(rt: HostRuntime) -> Result<(), Fail> {
+    let bytes = three(rt.alloc())?;
+    sizes_fit::<Numbers>();
+    let set = open::<Numbers>(bytes.as_slice())?;
+    let strict = open_strict_set::<ArchivedU32, 5>(bytes.as_slice())?;
+    let mut sum = 0u32;
+    for number in set {
+        sum = sum.wrapping_add(number.to_native());
+    }
+    for number in strict {
+        sum = sum.wrapping_add(number.to_native());
+    }
+    assert_eq!(rt; sum, 24);
+    let first = set.range_of(3..7).next().map(|number| number.to_native());
+    assert_eq!(rt; first, Some(3));
+    let last = strict
+        .range_of(4..=7)
+        .next()
+        .map(|number| number.to_native());
+    assert_eq!(rt; last, Some(7));
+    assert_eq!(rt; set.len(), 3);
+    assert_eq!(rt; strict.len(), 3);
+    Ok(())
+}
+
+#[test]
+fn strict_prices_are_read(rt: HostRuntime) -> Result<(), Fail> {
+    let bytes = two(rt.alloc())?;
+    sizes_fit::<Prices>();
+    let map = open_strict::<ArchivedText, ArchivedU64, 5>(bytes.as_slice())?;
+    let mut sum = 0u64;
+    for (_, price) in map {
+        sum = sum.wrapping_add(price.to_native());
+    }
+    assert_eq!(rt; sum, 8);
+    let first = map.range_of("b"..).next().map(|entry| entry.1.to_native());
+    assert_eq!(rt; first, Some(5));
+    assert!(rt; map.range_of("b".."c").next().is_none());
+    let view = map.as_view();
+    assert_eq!(rt; view.position() as usize, bytes.len().saturating_sub(8));
+    let (name, _) = view.get_key_value_by("pear").expect(&rt, "a pear");
+    assert_eq!(rt; AsStr::as_str(&name), "pear");
     Ok(())
 }

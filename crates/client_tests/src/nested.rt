@@ -51,8 +51,8 @@ where
     assert!(rt; T::Archived::fits());
     let mut bytes = to_archive(alloc, value)?;
     *bytes.get_mut(change.0).expect(rt, "a byte") = change.1;
-    let made: Result<T, ArchiveFault> = from_archive(alloc, bytes.as_slice());
-    same(rt, made.err(), Some(ArchiveFault::Refused(refusal)));
+    let made: Result<T, FromArchiveFault> = from_archive(alloc, bytes.as_slice());
+    same(rt, made.err(), Some(FromArchiveFault::Refused(refusal)));
     Ok(())
 }
 

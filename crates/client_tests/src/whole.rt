@@ -57,8 +57,8 @@ fn empty_bytes_are_refused_at_0(rt: HostRuntime) {
     assert!(rt; Numbers::fits());
     let refusal = Refusal::OutOfRange { pos: 0 };
     same(&rt, open::<Numbers>(&[]).err(), Some(refusal));
-    let made: Result<BTreeMap<u32, u32>, ArchiveFault> = from_archive(rt.alloc(), &[]);
-    same(&rt, made.err(), Some(ArchiveFault::Refused(refusal)));
+    let made: Result<BTreeMap<u32, u32>, FromArchiveFault> = from_archive(rt.alloc(), &[]);
+    same(&rt, made.err(), Some(FromArchiveFault::Refused(refusal)));
 }
 
 // The map takes five growths, and its archive nine more. `rt try --test --fail-alloc 6` to `14` refuses each of these, some
@@ -79,12 +79,15 @@ fn an_archive_is_made_or_a_growth_is_refused(rt: HostRuntime) {
 #[test]
 fn a_map_is_made_or_a_growth_is_refused(rt: HostRuntime) {
     assert!(rt; ArchivedBTreeMap::<ArchivedText, ArchivedI32, 5>::fits());
-    let made: Result<BTreeMap<String, i32>, ArchiveFault> = from_archive(rt.alloc(), &FOUR_TEXTS);
+    let made: Result<BTreeMap<String, i32>, FromArchiveFault> = from_archive(
+        rt.alloc(),
+        &FOUR_TEXTS,
+    );
     match made {
         Ok(map) => same(&rt, (map.len(), map.get("baz").copied()), (4, Some(40))),
         Err(fault) => {
             let refused = DeserializeFault::Memory(AllocError);
-            same(&rt, fault, ArchiveFault::NotMade(refused));
+            same(&rt, fault, FromArchiveFault::NotMade(refused));
         }
     }
 }

@@ -7,7 +7,8 @@ use Rattle.rkyv_btree_base.specs.Read.{entry_at}
 use Rattle.rkyv_btree_base.specs.Scalars.{u32_kind}
 use Rattle.rkyv_btree_base.specs.Tree.{list}
 use Rattle.rkyv_btree.specs.Places.{IsNumber, PutsEntry}
-use Rattle.rkyv_btree.specs.Put.{entry_places, put_value, value_place}
+use Rattle.rkyv_btree.specs.Put.{put_value, value_place}
+use Rattle.rkyv_btree.specs.EntryPlaces.{entry_places}
 use Rattle.examples.specs.Editing.{IsNumbers, plus_ten}
 use Rattle.examples.proofs.Numbers.{numbers_read, numbered, number_put}
 

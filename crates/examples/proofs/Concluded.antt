@@ -23,7 +23,8 @@ use Rattle.rkyv_btree_base.specs.Writing.{Writing, Wrote, position, last_end}
 use Rattle.rkyv_btree_base.proofs.MapLaws.{map_laws}
 use Rattle.rkyv_btree.specs.Map.{IsMap}
 use Rattle.rkyv_btree.specs.Places.{FindsPlace, PutsEntry}
-use Rattle.rkyv_btree.specs.Put.{entry_places, value_place}
+use Rattle.rkyv_btree.specs.Put.{value_place}
+use Rattle.rkyv_btree.specs.EntryPlaces.{entry_places}
 use Rattle.rkyv_btree.specs.Search.{Answers, OrderedBy, AnyHit, IsHit}
 use Rattle.examples.specs.Headline.{IsSmallestOf, IsArchiveOfItems, IsArchiveOfKeys, IsLookedUp, IsSealed}
 
@@ -64,6 +65,11 @@ module _ (K V : Kind) (E : ℕ) (k : IsLawful K) (v : IsLawful V) (b : List ℕ)
     -- what a search answers is what is looked up in the list
     pub list_looked_up : (found : Option (K.Value × V.Value)) → Answers (λ e. answer e.0) (entry_at K V E b) (map_tree (layout_of K V E) b pos) found → IsLookedUp (λ e. answer e.0) m found
     list_looked_up found answers = record { hit = rw list_read at answers.hit; complete = rw list_read at answers.complete }
+
+    -- and what a lookup returns
+    pub list_found : (found : Option (K.Value × V.Value)) → IfSome found (IsHit (λ e. answer e.0) (read_map K V E b pos))
+        → (OrderedBy (λ e. answer e.0) (read_map K V E b pos) → (IsSome found ↔ AnyHit (λ e. answer e.0) (read_map K V E b pos))) → IsLookedUp (λ e. answer e.0) m found
+    list_found found hit complete = record { hit = rw list_read at hit; complete = rw list_read at complete }
 
     -- where a search finds no entry, none is equal
     pub none_equal : FindsPlace K V E b pos answer None → OrderedBy (λ e. answer e.0) m → AnyHit (λ e. answer e.0) m → ⊥

@@ -23,7 +23,8 @@ use Rattle.rkyv_btree_base.specs.laws.Scalars.{u32_laws}
 use Rattle.rkyv_btree_base.specs.laws.Views.{stands_of}
 use Rattle.rkyv_btree_base.proofs.MapLaws.{map_laws}
 use Rattle.rkyv_btree.specs.Places.{IsNumber, FindsPlace, PutsEntry, SetsFound}
-use Rattle.rkyv_btree.specs.Put.{entry_places, put_value}
+use Rattle.rkyv_btree.specs.Put.{put_value}
+use Rattle.rkyv_btree.specs.EntryPlaces.{entry_places}
 use Rattle.rkyv_btree.specs.Search.{OrderedBy, AnyHit}
 use Rattle.examples.specs.Editing.{IsNumbers, Changed, AddsTo}
 
@@ -56,7 +57,7 @@ numbered b pos i e m is at = ap (λ xs. slice_get xs i) (numbers_read b pos m is
 -- a number put in place of a value is put into the list
 pub number_put : (b c : List ℕ) (pos i n : ℕ) (e : ℕ × ℕ) (m : List (ℕ × ℕ)) → n < 2 ^ 32 → IsNumbers b pos m → IsNumber u32_kind u32_kind 5 b pos i e → PutsEntry u32_kind u32_kind 5 b pos e (u32_form.own n) c → IsNumbers c pos (put_value m i n)
 number_put b c pos i n e m small is at puts =
-    let told : value_of u32_kind (u32_form.own n) ≡ n = u32_faithful.told n small in
+    let told : value_of u32_kind (u32_form.own n) ≡ n = u32_faithful.means n small in
     subst (λ (v : ℕ). IsNumbers c pos (put_value m i v)) told (is.0, puts.accepted i 0 pos is.0 m at is.1)
 
 equal_is : (n m : ℕ) → nat_cmp n m ≡ Equal → m ≡ n
@@ -95,7 +96,7 @@ found_adds b c pos key m e is finds puts =
     )
 
 pub sets_changed : (b c : List ℕ) (pos key value : ℕ) (result : Bool) (m : List (ℕ × ℕ)) → value < 2 ^ 32 → IsNumbers b pos m → SetsFound u32_kind u32_kind 5 b pos (nat_cmp key) (u32_form.own value) c result → Changed b c pos m key value result
-sets_changed b c pos key value result m small is sets = case sets.found sets.finds sets.told sets.puts
+sets_changed b c pos key value result m small is sets = case sets.found sets.finds sets.has_found sets.puts
   where
     case : (found : Option (ℕ × ℕ)) → FindsPlace u32_kind u32_kind 5 b pos (nat_cmp key) found → result ≡ is_some found → MatchOption found (c ≡ b) (λ e. PutsEntry u32_kind u32_kind 5 b pos e (u32_form.own value) c) → Changed b c pos m key value result
     case None finds told puts = rw told (puts, λ ordered i old at. absent_key b pos key m is finds ordered i old at)

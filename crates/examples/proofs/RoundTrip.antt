@@ -5,8 +5,8 @@ use Rattle.rkyv_btree_base.specs.EntryFault.{EntryFault}
 use Rattle.rkyv_btree_base.specs.Kind.{Kind, IsLawful}
 use Rattle.rkyv_btree_base.specs.Refusal.{Refusal}
 use Rattle.rkyv_btree_base.specs.Whole.{IsArchiveOf, own_at}
-use Rattle.rkyv_btree.specs.ArchiveFault.{ArchiveFault}
-use Rattle.rkyv_btree.specs.ArchiveFault.TheVariants.{Refused, NotMade}
+use Rattle.rkyv_btree.specs.FromArchiveFault.{FromArchiveFault}
+use Rattle.rkyv_btree.specs.FromArchiveFault.TheVariants.{Refused, NotMade}
 use Rattle.rkyv_btree.specs.Whole.{IsUnmade}
 use Rattle.examples.specs.RoundTrip.{IsNoRefusal}
 use Rattle.examples.specs.declared.round_trip.TripFault.TheVariants.{NotBack}
@@ -20,6 +20,6 @@ module _ {kind : Kind} (bytes : List ℕ) (v : kind.Value) (archive : IsArchiveO
   pub read_back : IsLawful kind → kind.read bytes (own_at kind bytes) ≡ v
   read_back laws = sym (laws.is_read bytes 0 (own_at kind bytes) (own_at kind bytes) archive.left v archive.means)
 
-  pub accepted : (Refuses : List ℕ → ℕ → ℕ → ℕ → Refusal → Type 0) {H : Type 0} (native : List ℕ → ℕ → Result H EntryFault) (fault : ArchiveFault) → IsUnmade kind Refuses native bytes fault → IsNoRefusal (NotBack fault)
+  pub accepted : (Refuses : List ℕ → ℕ → ℕ → ℕ → Refusal → Type 0) {H : Type 0} (native : List ℕ → ℕ → Result H EntryFault) (fault : FromArchiveFault) → IsUnmade kind Refuses native bytes fault → IsNoRefusal (NotBack fault)
   accepted Refuses native (Refused refusal) unmade = unmade.1 v archive
   accepted Refuses native (NotMade fault) unmade = tt

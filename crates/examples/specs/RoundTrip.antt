@@ -1,5 +1,5 @@
 -- A map that is archived and made native again.
-use Rattle.rkyv_btree.specs.ArchiveFault.TheVariants.{Refused, NotMade}
+use Rattle.rkyv_btree.specs.FromArchiveFault.TheVariants.{Refused, NotMade}
 use Rattle.examples.specs.declared.round_trip.TripFault.{TripFault}
 use Rattle.examples.specs.declared.round_trip.TripFault.TheVariants.{Unarchived, NotBack}
 

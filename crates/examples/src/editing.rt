@@ -29,7 +29,7 @@ fn add_to_seal(seal: &mut Seal<'_, ArchivedU32>)
     seal.write(value.wrapping_add(10));
 }
 
-/// Sets the value of a key, and tells whether the key was found.
+/// Sets the value of a key, and returns whether the key was found.
 pub fn set(buf: &mut [u8], pos: u32, key: u32, value: u32) -> bool
     requires { (m : List (ℕ × ℕ)) × IsNumbers buf.old pos m }
     ensures { (m : List (ℕ × ℕ)) → IsNumbers buf.old pos m
@@ -56,7 +56,7 @@ pub fn set_by_seal(buf: &mut [u8], pos: u32, key: u32, value: u32) -> bool
     }
 }
 
-/// Adds 10 to the value of a key, modulo 2 to the power of 32, and tells whether the key was found.
+/// Adds 10 to the value of a key, modulo 2 to the power of 32, and returns whether the key was found.
 pub fn add_ten_to(buf: &mut [u8], pos: u32, key: u32) -> bool
     requires { (m : List (ℕ × ℕ)) × IsNumbers buf.old pos m }
     ensures { (m : List (ℕ × ℕ)) → IsNumbers buf.old pos m

@@ -19,7 +19,6 @@ ghost use Rattle.rkyv_btree.specs.Visit.{Visited, shown_both};
 ghost use Rattle.examples.specs.Headline.{HasCause, IsArchiveOfItems, IsArchiveOfKeys, IsNoMap, IsSmallestOf, IsLookedUp, IsSealed};
 
 use rkyv_btree::base::archive::{Archive, Serialize};
-use rkyv_btree::base::build::written_maps_are_held;
 use rkyv_btree::base::check::{CheckBytes, InPlace, Portable};
 use rkyv_btree::base::fault::Fault;
 use rkyv_btree::base::map::ArchivedBTreeMap;
@@ -29,7 +28,7 @@ use rkyv_btree::base::set::ArchivedBTreeSet;
 use rkyv_btree::compare::ViewOrd;
 use rkyv_btree::iter::Iter;
 use rkyv_btree::keys::{Keys, Values};
-use rkyv_btree::lookup::what_is_found_is_equal;
+use rkyv_btree::laws::{what_is_found_is_equal, written_maps_are_held};
 use rkyv_btree::map::{ArchivedMap, MapSeal, ShowsEntries, access};
 use rkyv_btree::range::Range;
 use rkyv_btree::set::{Iter as SetIter, Range as SetRange, access as access_set};
@@ -102,8 +101,10 @@ where
     ensures smallest { IfOk result (λ made.
         IsArchiveOfKeys K.kind E KU.archival I.next_gives iter len made.bytes.items made.pos) }
     ensures refused { IfErr result (HasCause
-        (BuildFault K.kind unit_kind E KU.archival unit_archival (entries_by I.next_gives) iter len fresh)
-        (λ root mid. BuildsSet K.kind E KU.archival I.next_gives iter len (λ w. w) fresh mid root) len) }
+        (BuildFault K.kind unit_kind E KU.archival unit_archival (entries_by I.next_gives) iter len
+        fresh)
+        (λ root mid. BuildsSet K.kind E KU.archival I.next_gives iter len (λ w. w) fresh mid root)
+        len) }
 {
     written_maps_are_held();
     let mut writer = VecWriter::new(alloc);
@@ -136,8 +137,10 @@ where
         IsSmallestOf KU.Archived.kind VU.Archived.kind 5 KU.archival VU.archival map.now.entries
         made.bytes.items made.pos) }
     ensures refused { IfErr result (HasCause
-        (IsUnserialised (tree_archival 5 KU.archival VU.archival (λ map. map.entries)) map.now fresh)
-        (λ root mid. Serialises (tree_archival 5 KU.archival VU.archival (λ map. map.entries)) map.now fresh mid root)
+        (IsUnserialised (tree_archival 5 KU.archival VU.archival (λ map. map.entries)) map.now
+        fresh)
+        (λ root mid. Serialises (tree_archival 5 KU.archival VU.archival (λ map. map.entries))
+        map.now fresh mid root)
         (length map.now.entries)) }
 {
     written_maps_are_held();
@@ -163,11 +166,14 @@ where
     KU: Serialize<VecWriter, Global> + Ord,
     requires { IsTrue (are_fitting KU.Archived.kind unit_kind 5) }
     ensures smallest { IfOk result (λ made.
-        IsSmallestOf KU.Archived.kind unit_kind 5 KU.archival unit_archival (with_units set.now.keys)
+        IsSmallestOf KU.Archived.kind unit_kind 5 KU.archival unit_archival
+        (with_units set.now.keys)
         made.bytes.items made.pos) }
     ensures refused { IfErr result (HasCause
-        (IsUnserialised (tree_archival 5 KU.archival unit_archival (λ set. with_units set.keys)) set.now fresh)
-        (λ root mid. Serialises (tree_archival 5 KU.archival unit_archival (λ set. with_units set.keys)) set.now fresh mid root)
+        (IsUnserialised (tree_archival 5 KU.archival unit_archival (λ set. with_units set.keys))
+        set.now fresh)
+        (λ root mid. Serialises (tree_archival 5 KU.archival unit_archival
+        (λ set. with_units set.keys)) set.now fresh mid root)
         (length set.now.keys)) }
 {
     written_maps_are_held();
@@ -183,7 +189,7 @@ where
 /// What the walks of a map give.
 #[derive(Drop)]
 pub struct AllWalks<'a, M: ArchivedMap> {
-    pub len: u32,
+    pub len: usize,
     pub entries: Iter<'a, M>,
     pub keys: Keys<'a, M>,
     pub values: Values<'a, M>,
@@ -222,11 +228,11 @@ pub fn walks<'a, K: CheckBytes, V: CheckBytes, const E: usize>(
     })
 }
 
-/// So does a set: it tells the length of that list, and its walk gives the keys.
+/// So does a set: it says the length of that list, and its walk gives the keys.
 pub fn walk_of_set<'a, K: CheckBytes, const E: usize>(
     buf: &'a [u8],
     pos: u32,
-) -> Result<(u32, SetIter<'a, K, E>), Refusal>
+) -> Result<(usize, SetIter<'a, K, E>), Refusal>
     requires { IsTrue (are_fitting K.kind unit_kind E) }
     ensures accepted { IfOk result (λ walk. (m : _) × IsMap K.kind unit_kind E buf.now pos m) }
     ensures refused { IfErr result (λ refusal. IsNoMap K.kind unit_kind E buf.now pos) }
@@ -298,7 +304,8 @@ pub fn within<'a, K: CheckBytes + ViewOrd, V: CheckBytes, const E: usize>(
     requires { IsTrue (are_fitting K.kind V.kind E) }
     ensures within { (m : _) → IsMap K.kind V.kind E buf.now pos m → IfOk result (λ range.
         (given : List (K.kind.Value × V.kind.Value)) × IsRun given m
-        × ShowsAll ⟦<Range<'a, ArchivedBTreeMap<K, V, E>> as Iterator>⟧.next_gives reads_both range given
+        × ShowsAll ⟦<Range<'a, ArchivedBTreeMap<K, V, E>> as Iterator>⟧.next_gives reads_both range
+        given
         × IsWithin (bound_map (λ q. K.kind.order (reads q)) low.entry)
         (bound_map (λ q. K.kind.order (reads q)) high.entry) m given) }
     ensures ends { IfOk result (λ range.
@@ -339,7 +346,8 @@ pub fn sealed<K: CheckBytes + ViewOrd, V: InPlace, const E: usize>(
 ) -> Result<bool, Refusal>
     requires { IsTrue (are_fitting K.kind V.kind E) }
     ensures one { (m : _) → IsMap K.kind V.kind E buf.old pos m → IfOk result (λ found.
-        IsSealed K.kind V.kind E buf.old pos (K.kind.order (reads key.entry)) (V.in_place.own value) m buf.new found) }
+        IsSealed K.kind V.kind E buf.old pos (K.kind.order (reads key.entry)) (V.in_place.own value)
+        m buf.new found) }
     ensures refused { IfErr result (λ refusal. IsNoMap K.kind V.kind E buf.old pos) }
     ensures kept { OnErr result (buf.new ≡ buf.old) }
 {

@@ -1,14 +1,14 @@
 //! A map that is archived and made native again.
 ghost use Rattle.std.specs.Prelude.{◌≡◌, IfOk, IfErr, string_bytes};
 ghost use Rattle.examples.specs.RoundTrip.{IsNoRefusal};
-ghost use Rattle.rkyv_btree.specs.Maps.{told_both};
+ghost use Rattle.rkyv_btree.specs.Maps.{model_both};
 
 use rkyv_btree::base::fault::Fault;
 use rkyv_btree::base::numbers::ArchivedU32;
 use rkyv_btree::base::text::ArchivedText;
 use rkyv_btree::base::whole::to_archive;
-use rkyv_btree::round_trip::{maps_are_given_back, natives_are_given_back, texts_are_given_back};
-use rkyv_btree::whole::{ArchiveFault, from_archive};
+use rkyv_btree::laws::{maps_are_given_back, natives_are_given_back, texts_are_given_back};
+use rkyv_btree::whole::{FromArchiveFault, from_archive};
 use std::alloc::{AllocError, Global};
 use std::collections::BTreeMap;
 
@@ -18,7 +18,7 @@ pub enum TripFault {
     /// It wasn't archived.
     Unarchived(Fault<AllocError>),
     /// Nothing was made of its archive.
-    NotBack(ArchiveFault),
+    NotBack(FromArchiveFault),
 }
 
 /// The map that comes of archiving a map and making its archive native again: one with the same texts and numbers. No
@@ -28,8 +28,8 @@ pub fn there_and_back(
     map: &BTreeMap<String, u32>,
 ) -> Result<BTreeMap<String, u32>, TripFault>
     ensures same { IfOk result (λ back.
-        told_both string_bytes (λ n. n) back.entries
-        ≡ told_both string_bytes (λ n. n) map.now.entries) }
+        model_both string_bytes (λ n. n) back.entries
+        ≡ model_both string_bytes (λ n. n) map.now.entries) }
     ensures accepted { IfErr result IsNoRefusal }
 {
     maps_are_given_back::<String, u32, ArchivedText, ArchivedU32, 5>();

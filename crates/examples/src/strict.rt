@@ -7,7 +7,7 @@ ghost use Rattle.std.specs.Ordering.{nat_cmp};
 ghost use Rattle.std.specs.Prelude.{◌≡◌, ℕ, List, slice_get, string_bytes, IfOk};
 ghost use Rattle.std.specs.declared.ops.Bound.TheVariants.{Included, Unbounded};
 ghost use Rattle.rkyv_btree.specs.RoundTrip.{both_mean};
-ghost use Rattle.rkyv_btree.specs.Strict.{entries_within};
+ghost use Rattle.rkyv_btree.specs.Bounds.{entries_within};
 ghost use Rattle.examples.specs.Strict.{IsPriceFile};
 
 use rkyv_btree::base::fault::Fault;
@@ -15,7 +15,8 @@ use rkyv_btree::base::numbers::ArchivedU32;
 use rkyv_btree::base::refusal::Refusal;
 use rkyv_btree::base::text::ArchivedText;
 use rkyv_btree::base::whole::to_archive;
-use rkyv_btree::strict::{natives_are_ordered_alike, open_strict, std_maps_are_increasing};
+use rkyv_btree::laws::{natives_are_ordered_alike, std_maps_are_increasing};
+use rkyv_btree::strict::open_strict;
 use rkyv_btree::view::View;
 use std::alloc::{AllocError, Global};
 use std::collections::BTreeMap;

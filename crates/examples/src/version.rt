@@ -14,9 +14,9 @@ use rkyv_btree::base::check::{CheckBytes, Portable, Window, check_place};
 use rkyv_btree::base::fault::{EntryFault, Fault, ResolveFault};
 use rkyv_btree::base::place::{Place, Writer};
 use rkyv_btree::base::refusal::Refusal;
+use rkyv_btree::compare_native::CompareWith;
 use rkyv_btree::deserialize::DeserializeNative;
 use rkyv_btree::native::ToNative;
-use rkyv_btree::query::CompareWith;
 use rkyv_btree::view::View;
 use std::cmp::Ordering;
 

@@ -4,7 +4,7 @@ ghost use Rattle.std.specs.Cmp.Lexicographic.{slice_cmp};
 ghost use Rattle.std.specs.Ordering.{nat_cmp};
 ghost use Rattle.std.specs.Prelude.{◌≡◌, IsTrue, IfOk, IfErr, Ok, string_bytes};
 ghost use Rattle.rkyv_btree.specs.Deserializing.{IsByMeaning, IsRefused, both};
-ghost use Rattle.rkyv_btree.specs.Maps.{told_both};
+ghost use Rattle.rkyv_btree.specs.Maps.{model_both};
 ghost use Rattle.rkyv_btree.specs.View.{entries_of};
 ghost use Rattle.examples.specs.Whole.{entries_given};
 
@@ -16,7 +16,7 @@ use rkyv_btree::base::text::ArchivedText;
 use rkyv_btree::base::whole::to_archive;
 use rkyv_btree::deserialize::DeserializeFault;
 use rkyv_btree::entry_type::EntryType;
-use rkyv_btree::std_maps::{archives_are_same_as_std, look_ups_find_as_std};
+use rkyv_btree::laws::{archives_are_same_as_std, look_ups_find_as_std};
 use rkyv_btree::view::View;
 use rkyv_btree::whole::open;
 use std::alloc::{AllocError, Global};
@@ -65,10 +65,11 @@ fn owned_entry<K: EntryType, V: EntryType>(
     value: &View<'_, V>,
 ) -> Result<(K::Owned, V::Owned), DeserializeFault>
     ensures ok { IfOk result (λ owned.
-        both (K.native key.now.buf.now key.now.pos) (V.native value.now.buf.now value.now.pos)
-        ≡ Ok (K.told owned.0, V.told owned.1)) }
+        both (K.decoded key.now.buf.now key.now.pos) (V.decoded value.now.buf.now value.now.pos)
+        ≡ Ok (K.model owned.0, V.model owned.1)) }
     ensures refused { IfErr result (IsRefused
-        (both (K.native key.now.buf.now key.now.pos) (V.native value.now.buf.now value.now.pos))) }
+        (both (K.decoded key.now.buf.now key.now.pos) (V.decoded value.now.buf.now
+        value.now.pos))) }
 {
     let key = K::deserialize(alloc, key)?;
     let value = V::deserialize(alloc, value)?;
@@ -80,10 +81,10 @@ pub fn owned_entries<K: EntryType, V: EntryType>(
     alloc: Global,
     map: View<'_, ArchivedBTreeMap<K, V, 5>>,
 ) -> Result<Vec<(K::Owned, V::Owned)>, DeserializeFault>
-    ensures ok { (key : IsByMeaning K.kind K.native) (value : IsByMeaning V.kind V.native) →
+    ensures ok { (key : IsByMeaning K.kind K.decoded) (value : IsByMeaning V.kind V.decoded) →
         IfOk result (λ owned. entries_given key value (entries_of K.kind V.kind 5 map.entry)
-        ≡ Ok (told_both K.told V.told owned.items)) }
-    ensures refused { (key : IsByMeaning K.kind K.native) (value : IsByMeaning V.kind V.native) →
+        ≡ Ok (model_both K.model V.model owned.items)) }
+    ensures refused { (key : IsByMeaning K.kind K.decoded) (value : IsByMeaning V.kind V.decoded) →
         IfErr result (IsRefused (entries_given key value (entries_of K.kind V.kind 5 map.entry))) }
 {
     let mut owned = Vec::new(alloc);

@@ -120,7 +120,7 @@ where
         }
         Call::FromArchive => match from_archive::<T>(alloc, bytes) {
             Ok(made) => Outcome::of_result(made == *value),
-            Err(ArchiveFault::NotMade(DeserializeFault::Memory(_))) => Outcome::Memory,
+            Err(FromArchiveFault::NotMade(DeserializeFault::Memory(_))) => Outcome::Memory,
             Err(_) => Outcome::Other,
         },
     };

@@ -62,7 +62,8 @@ impl FailingWriter {
 impl Writer for FailingWriter {
     type Error = AllocError;
 
-    ghost state = { λ w. record { base = w.base; contents = w.bytes.items; failures = w.failures } };
+    ghost state = { λ w.
+        record { base = w.base; contents = w.bytes.items; failures = w.failures } };
 
     fn pos(&self) -> u64 {
         u64::from(self.base) + self.bytes.len() as u64

@@ -1,18 +1,15 @@
 //! Prices by name: serialized, validated, looked up, changed in place and deserialized.
 #![tactic(auto)]
 
-use anyhow::{Result, bail};
+use anyhow::Result;
 use rkyv_btree::prelude::*;
 use std::collections::BTreeMap;
-use std::ops::Bound;
 
 type Prices = Archived<BTreeMap<String, u32>>;
 
 fn main(rt: HostRuntime) -> Result<()> {
     let alloc = rt.alloc();
-    if !Prices::fits() {
-        bail!("a node of these types is larger than 4 GiB");
-    }
+    sizes_fit::<Prices>();
     let mut prices: BTreeMap<String, u32> = BTreeMap::new(alloc);
     for (name, price) in [("apple", 3), ("fig", 8), ("pear", 5)] {
         prices.insert(String::from_str(alloc, name)?, price)?;
@@ -22,16 +19,15 @@ fn main(rt: HostRuntime) -> Result<()> {
 
     // Validates the bytes. Nothing is copied from them, then or later.
     let map = open::<Prices>(bytes.as_slice())?;
-    if let Some(price) = map.get_by("pear") {
-        println!(rt; "pear costs {}", price.to_native())?;
+    if let Some(price) = map.get_native_by("pear") {
+        println!(rt; "pear costs {price}")?;
     }
-    for (name, price) in map.range_by(Bound::Included("b"), Bound::Unbounded) {
-        println!(rt; "from b on: {} {}", name.as_str(), price.to_native())?;
+    for (name, price) in map.range_of("b"..) {
+        println!(rt; "from b on: {name} {}", price.to_native())?;
     }
 
     // Overwrites the four bytes of one value.
-    let pos = map.pos;
-    let mut map = access_mut::<ArchivedText, ArchivedU32, 5>(bytes.as_mut_slice(), pos)?;
+    let mut map = open_mut::<Prices>(bytes.as_mut_slice())?;
     println!(rt; "changed: {}", map.set_by("pear", 6))?;
 
     let changed: BTreeMap<String, u32> = from_archive(alloc, bytes.as_slice())?;

@@ -1,6 +1,6 @@
 //! Archives that are cut to each length, or of which each byte is set to each other value.
 ghost use Rattle.std.specs.Prelude.{IsSome, IsTrue};
-ghost use Rattle.rkyv_btree.specs.Cursor.{lent_place};
+ghost use Rattle.rkyv_btree.specs.Cursor.{current_place};
 ghost use Rattle.rkyv_btree_base.specs.Layout.{are_fitting};
 
 use crate::input::Input;
@@ -117,7 +117,7 @@ fn is_at<K: ViewEq, VU: Drop, V: InPlace<Native = VU> + SameAs<VU>, const E: usi
     key: View<K>,
     value: View<V>,
 ) -> bool
-    requires { IsSome (lent_place cursor.now) }
+    requires { IsSome (current_place cursor.now) }
 {
     cursor.key() == key && V::same_as(&value, &cursor.read())
 }
@@ -131,7 +131,7 @@ fn is_cursor_along<
 >(alloc: Global, map: &View<ArchivedBTreeMap<K, V, E>>) -> anyhow::Result<bool> {
     let mut bytes = map.buf.to_vec(alloc)?;
     let mut cursor = sealed::<K, V, E>(&mut bytes, map.pos)?.iter_seal();
-    let mut met = 0u32;
+    let mut met = 0usize;
     let mut entries = map.iter();
     while let Some((key, value)) = entries.next() {
         if !cursor.next() || !is_at::<K, VU, V, E>(&cursor, key, value) {

@@ -9,6 +9,8 @@ mod input;
 mod modes;
 mod opening;
 mod shown;
+mod sources;
+mod unverified;
 mod writing;
 
 use crate::modes::{Mode, built, native, sealed};
@@ -118,8 +120,11 @@ fn replay_line(alloc: Global, line: &str, out: &mut String) -> anyhow::Result<()
     }
     let (kind, rest) = line.split_once(' ').context("no mode")?;
     let (name, digits) = rest.split_once(' ').context("no case")?;
-    let mode = Mode::named(name).context("no such mode")?;
     let case = bytes_of(alloc, digits)?;
+    if name == "source" {
+        return sources::lookup(alloc, kind, &case, out);
+    }
+    let mode = Mode::named(name).context("no such mode")?;
     of_numbers(alloc, kind, mode, &case, out)
 }
 

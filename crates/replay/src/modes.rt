@@ -2,7 +2,7 @@
 
 use crate::input::Wire;
 use crate::shown::Shown;
-use crate::{asking, building, damage, opening, writing};
+use crate::{asking, building, damage, opening, unverified, writing};
 use anyhow::bail;
 use rkyv_btree::deserialize::DeserializeKey;
 use rkyv_btree::prelude::*;
@@ -28,6 +28,7 @@ pub enum Mode {
     Strict,
     BuildStrict,
     Migrate,
+    Lookup,
 }
 
 impl Mode {
@@ -50,6 +51,7 @@ impl Mode {
             "strict" => Some(Mode::Strict),
             "build-strict" => Some(Mode::BuildStrict),
             "migrate" => Some(Mode::Migrate),
+            "lookup" => Some(Mode::Lookup),
             _ => None,
         }
     }
@@ -73,6 +75,7 @@ pub fn built<
         Mode::Strict => asking::strict::<K, V, E>(alloc, case, out),
         Mode::BuildStrict => building::build_strict::<KU, VU, K, V, E>(alloc, case, out),
         Mode::Migrate => building::migrated::<KU, VU, K, V>(alloc, case, out),
+        Mode::Lookup => unverified::lookup::<K, V, E>(case, out),
         _ => bail!("no such mode of this type"),
     }
 }

@@ -1,6 +1,6 @@
 //! Values that are written in place, by a key and along all entries.
 ghost use Rattle.std.specs.Prelude.{IsSome};
-ghost use Rattle.rkyv_btree.specs.Cursor.{lent_place};
+ghost use Rattle.rkyv_btree.specs.Cursor.{current_place};
 
 use crate::asking::viewed;
 use crate::building::{show_native, take_all};
@@ -75,7 +75,7 @@ fn write_lent<
     value: VU,
     out: &mut String,
 ) -> anyhow::Result<()>
-    requires { IsSome (lent_place cursor.old) }
+    requires { IsSome (current_place cursor.old) }
 {
     let old = cursor.read();
     cursor.write(value);
@@ -93,7 +93,7 @@ fn write_along<
     const E: usize,
 >(alloc: Global, buf: &mut [u8], pos: u32, values: &[VU], out: &mut String) -> anyhow::Result<()> {
     let map = sealed::<K, V, E>(buf, pos)?;
-    let mut left = map.as_view().len() as usize;
+    let mut left = map.as_view().len();
     let mut cursor = map.iter_seal();
     for value in values {
         if cursor.len() != left || cursor.size_hint() != (left, Some(left)) {

@@ -3,12 +3,14 @@ pub use Rattle.rkyv_btree_convert.specs.Deserializing
 pub use Rattle.rkyv_btree_convert.specs.Maps
 pub use Rattle.rkyv_btree_convert.specs.RoundTrip
 pub use Rattle.rkyv_btree_convert.specs.Sets
+pub use Rattle.rkyv_btree_convert.specs.Sizes
 pub use Rattle.rkyv_btree_convert.specs.StdMaps
 pub use Rattle.rkyv_btree_convert.specs.Whole
 pub use Rattle.rkyv_btree_convert.specs.declared.deserialize.DeserializeFault
-pub use Rattle.rkyv_btree_convert.specs.declared.whole.ArchiveFault
+pub use Rattle.rkyv_btree_convert.specs.declared.from_archive.FromArchiveFault
+pub use Rattle.rkyv_btree_plain.specs.PlainValues
 pub use Rattle.rkyv_btree_seal.specs.Alone
-pub use Rattle.rkyv_btree_seal.specs.Along
+pub use Rattle.rkyv_btree_walk.specs.EntryPlaces
 pub use Rattle.rkyv_btree_seal.specs.Apart
 pub use Rattle.rkyv_btree_seal.specs.Calls
 pub use Rattle.rkyv_btree_seal.specs.Cursor
@@ -16,7 +18,7 @@ pub use Rattle.rkyv_btree_seal.specs.Lent
 pub use Rattle.rkyv_btree_seal.specs.Places
 pub use Rattle.rkyv_btree_seal.specs.Put
 pub use Rattle.rkyv_btree_seal.specs.Visits
-pub use Rattle.rkyv_btree_seal.specs.declared.lent.LentKey
+pub use Rattle.rkyv_btree_seal.specs.declared.lent_key.LentKey
 pub use Rattle.rkyv_btree_seal.specs.declared.seal.Seal
 pub use Rattle.rkyv_btree_strict.specs.Migrated
 pub use Rattle.rkyv_btree_strict.specs.Stays

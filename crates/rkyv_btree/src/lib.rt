@@ -2,18 +2,24 @@
 #![tactic(auto)]
 
 pub use rkyv_btree_base as base;
-pub use rkyv_btree_view::entry;
+pub use rkyv_btree_view::entry_view;
 
 /// Comparisons of views: those of what is read, wherever it stands.
 pub mod compare {
     pub use rkyv_btree_view::compare::{ViewEq, ViewHash, ViewOrd};
 }
 
+/// Comparisons of views with native values: their order, by which keys are looked up, and their equality.
+pub mod compare_native {
+    pub use rkyv_btree_view::compare_native::{CompareWith, SameAs};
+    pub use rkyv_btree_walk::search::Compared;
+}
+
 /// Cursors along the entries of a map, whose values they can write.
 pub mod cursor {
     pub use rkyv_btree_seal::cursor::{IterSeal, ValuesSeal};
     pub use rkyv_btree_seal::range_cursor::RangeSeal;
-    pub use rkyv_btree_seal::range_walk::RangeWalk;
+    pub use rkyv_btree_walk::range_walk::RangeWalk;
 }
 
 /// Views in messages, as what they read.
@@ -24,9 +30,8 @@ pub mod debug {
 /// Native values from views.
 pub mod deserialize {
     pub use rkyv_btree_convert::deserialize::{Deserialize, DeserializeFault};
-    pub use rkyv_btree_convert::key::DeserializeKey;
-    pub use rkyv_btree_convert::map::{last_values_count, maps_are_given_by_entries};
-    pub use rkyv_btree_convert::native::DeserializeNative;
+    pub use rkyv_btree_convert::deserialize_native::DeserializeNative;
+    pub use rkyv_btree_convert::native_key::DeserializeKey;
 }
 
 /// The archived types that keys and values of maps have.
@@ -44,34 +49,43 @@ pub mod keys {
     pub use rkyv_btree_view::keys::{Keys, Values};
 }
 
-/// What is known of look-ups.
-pub mod lookup {
+/// Laws of maps and of the calls on them. Each function has an empty body: call it to make its clauses known to the prover.
+pub mod laws {
+    pub use rkyv_btree_base::laws::{
+        archives_are_accepted, claims_are_apart, each_tree_needs_room, entries_are_determined,
+        entries_compare_key_first, faults_are_exact, left_complete_is_smallest, logarithm,
+        natives_are_determined, plan_is_recursive, plan_is_the_left_complete_tree,
+        spelled_trees_have_the_shape, std_types_are_determined, texts_are_determined,
+        trees_are_determined, wasteful_trees, worked_trees, written_maps_are_held,
+    };
+    pub use rkyv_btree_convert::native_map::{last_values_count, maps_are_given_by_entries};
+    pub use rkyv_btree_convert::round_trip::{
+        maps_are_given_back, natives_are_given_back, pairs_are_given_back, sets_are_given_back,
+        texts_are_given_back,
+    };
+    pub use rkyv_btree_convert::sizes::sizes_fit;
+    pub use rkyv_btree_convert::std_maps::{archives_are_same_as_std, look_ups_find_as_std};
+    pub use rkyv_btree_seal::edit_laws::{values_are_apart, writes_put_values};
+    pub use rkyv_btree_strict::strict_laws::{
+        natives_are_ordered_alike, neighbours_decide_order, pairs_are_ordered_alike,
+        std_maps_are_increasing, visits_keep_strict_maps, writes_keep_strict_maps,
+    };
+    pub use rkyv_btree_unverified::unverified_laws::{lookups_are_determined, maps_are_searched};
     pub use rkyv_btree_view::lookup::{
         increasing_keys_are_found, searched_trees_are_spelled, what_is_found_is_equal,
     };
 }
 
-/// What is known of archives of std's maps.
-pub mod std_maps {
-    pub use rkyv_btree_convert::std_maps::{archives_are_same_as_std, look_ups_find_as_std};
-}
-
 /// Archived maps, read in place, and with their values written there.
 pub mod map {
-    pub use rkyv_btree_seal::map::{MapSeal, access_mut};
-    pub use rkyv_btree_view::map::{ShowsEntries, access, access_valid};
-    pub use rkyv_btree_walk::map::ArchivedMap;
+    pub use rkyv_btree_seal::map_seal::{MapSeal, access_mut};
+    pub use rkyv_btree_view::map_view::{ShowsEntries, access, access_valid};
+    pub use rkyv_btree_walk::archived_map::ArchivedMap;
 }
 
 /// Archived types whose values are native ones.
 pub mod native {
     pub use rkyv_btree_view::native::ToNative;
-}
-
-/// Native values with which archived keys are compared.
-pub mod query {
-    pub use rkyv_btree_view::query::CompareWith;
-    pub use rkyv_btree_walk::search::Compared;
 }
 
 /// Ranges of the entries of a map, and of its keys.
@@ -80,39 +94,41 @@ pub mod range {
     pub use rkyv_btree_view::range_keys::RangeKeys;
 }
 
-/// What is known of values that are archived and made native again.
-pub mod round_trip {
-    pub use rkyv_btree_convert::round_trip::{
-        maps_are_given_back, natives_are_given_back, pairs_are_given_back, sets_are_given_back,
-        texts_are_given_back,
-    };
-}
-
-/// Tests of archived values with native ones, for equality.
-pub mod same_as {
-    pub use rkyv_btree_view::same_as::SameAs;
+/// Types of one's own whose archived values are a fixed number of bytes.
+pub mod plain {
+    pub use rkyv_btree_plain::archived_plain::ArchivedPlain;
+    pub use rkyv_btree_plain::plain_value::PlainValue;
 }
 
 /// Values that are written in place.
 pub mod seal {
-    pub use rkyv_btree_seal::lent::LentKey;
-    pub use rkyv_btree_seal::place::EntryPlace;
-    pub use rkyv_btree_seal::put::{values_are_apart, writes_put_values};
+    pub use rkyv_btree_seal::lent_key::LentKey;
     pub use rkyv_btree_seal::seal::Seal;
+    pub use rkyv_btree_walk::entry_place::EntryPlace;
 }
 
 /// Archived sets, read in place.
 pub mod set {
     pub use rkyv_btree_strict::strict_set::{StrictSetView, access_strict, open_strict};
-    pub use rkyv_btree_view::set::{Iter, Range, access, access_valid};
+    pub use rkyv_btree_view::set_view::{Iter, Range, access, access_valid};
 }
 
-/// Maps whose keys increase: their validation, their views, and laws.
+/// Lookups in a source of bytes that isn't read whole, as a file.
+pub mod source {
+    pub use rkyv_btree_source::fetch::Fetch;
+    pub use rkyv_btree_source::reader::Reader;
+    pub use rkyv_btree_source::source::{ReadAt, SeekSource};
+    pub use rkyv_btree_source::source_fault::SourceFault;
+    pub use rkyv_btree_source::unverified_source::UnverifiedSource;
+}
+
+/// How many entries a node of a std map or set has.
+pub mod std_types {
+    pub use rkyv_btree_archive::std_types::DEFAULT_ENTRIES_PER_NODE;
+}
+
+/// Maps whose keys increase: their validation and their views.
 pub mod strict {
-    pub use rkyv_btree_strict::laws::{
-        natives_are_ordered_alike, neighbours_decide_order, pairs_are_ordered_alike,
-        std_maps_are_increasing, visits_keep_strict_maps, writes_keep_strict_maps,
-    };
     pub use rkyv_btree_strict::migrate::migrate;
     pub use rkyv_btree_strict::strict::{access_strict, open_strict, verify_strict};
     pub use rkyv_btree_strict::strict_map::{Strict, StrictView};
@@ -120,7 +136,6 @@ pub mod strict {
 
 /// Lookups in bytes that nobody has validated.
 pub mod unverified {
-    pub use rkyv_btree_unverified::laws::lookups_are_determined;
     pub use rkyv_btree_unverified::unverified::Unverified;
 }
 
@@ -130,15 +145,15 @@ pub mod view {
     pub use rkyv_btree_walk::shows::Shows;
 }
 
-/// Whole archives, opened and made native again.
+/// Whole archives: opened for reading, opened for edits in place, and deserialized.
 pub mod whole {
-    pub use rkyv_btree_convert::whole::{ArchiveFault, from_archive, open};
+    pub use rkyv_btree_convert::from_archive::{FromArchiveFault, from_archive, open, open_mut};
 }
 
 /// What most programs name.
 pub mod prelude {
-    pub use rkyv_btree_base::archive::{Archive, Archived, Serialize};
-    pub use rkyv_btree_base::check::{CheckBytes, Portable};
+    pub use rkyv_btree_base::archive::{Archive, Archived, Native, Serialize};
+    pub use rkyv_btree_base::check::{CheckBytes, InPlace, Portable};
     pub use rkyv_btree_base::fault::Fault;
     pub use rkyv_btree_base::io_writer::IoWriter;
     pub use rkyv_btree_base::map::ArchivedBTreeMap;
@@ -152,16 +167,24 @@ pub mod prelude {
     pub use rkyv_btree_base::util::Entry;
     pub use rkyv_btree_base::whole::to_archive;
     pub use rkyv_btree_convert::deserialize::{Deserialize, DeserializeFault};
+    pub use rkyv_btree_convert::deserialize_native::DeserializeNative;
     pub use rkyv_btree_convert::entry_type::EntryType;
-    pub use rkyv_btree_convert::whole::{ArchiveFault, from_archive, open};
-    pub use rkyv_btree_seal::map::{MapSeal, access_mut};
+    pub use rkyv_btree_convert::from_archive::{FromArchiveFault, from_archive, open, open_mut};
+    pub use rkyv_btree_convert::sizes::sizes_fit;
+    pub use rkyv_btree_plain::archived_plain::ArchivedPlain;
+    pub use rkyv_btree_plain::plain_value::PlainValue;
+    pub use rkyv_btree_seal::cursor::IterSeal;
+    pub use rkyv_btree_seal::lent_key::LentKey;
+    pub use rkyv_btree_seal::map_seal::{MapSeal, access_mut};
+    pub use rkyv_btree_seal::range_cursor::RangeSeal;
+    pub use rkyv_btree_seal::seal::Seal;
     pub use rkyv_btree_strict::strict::{access_strict, open_strict};
     pub use rkyv_btree_strict::strict_map::{Strict, StrictView};
     pub use rkyv_btree_unverified::unverified::Unverified;
     pub use rkyv_btree_view::compare::{ViewEq, ViewHash, ViewOrd};
-    pub use rkyv_btree_view::map::access;
+    pub use rkyv_btree_view::compare_native::{CompareWith, SameAs};
+    pub use rkyv_btree_view::map_view::access;
     pub use rkyv_btree_view::native::ToNative;
-    pub use rkyv_btree_view::query::CompareWith;
-    pub use rkyv_btree_view::same_as::SameAs;
     pub use rkyv_btree_view::view::View;
+    pub use std::ops::{Bound, ControlFlow};
 }

@@ -6,7 +6,7 @@ use Rattle.rkyv_btree_writer.specs.Writing.{Writing}
 use Rattle.rkyv_btree_writer.specs.declared.fault.Fault.{Fault}
 use Rattle.rkyv_btree_writer.specs.declared.fault.Fault.TheVariants.{Length, LengthOverflow, PositionOverflow, OffsetOverflow, Writer, Memory, Entry, OutOfOrder}
 use Rattle.rkyv_btree_writer.specs.declared.fault.IteratorLengthMismatch.{IteratorLengthMismatch}
-use Rattle.rkyv_btree_image.specs.Serialising.{BuildFault}
+use Rattle.rkyv_btree_writing_laws.specs.Serialising.{BuildFault}
 use Rattle.rkyv_btree_archive.specs.mirror.Ended.{FaultAt}
 
 module _ {M N R S P : Type 0} (K V : Kind) (E : ℕ) (KA : Archival M R) (VA : Archival N S) (steps : P → Option (Bor M × Bor N) → P → Type 0) {X : Type 0} (iter : P) (claim : ℕ) (from : Writing) where

@@ -12,14 +12,14 @@ use Rattle.rkyv_btree_writer.specs.Archiving.{Archival}
 use Rattle.rkyv_btree_writer.specs.Writing.{Writing}
 use Rattle.rkyv_btree_writer.specs.declared.fault.Fault.{Fault}
 use Rattle.rkyv_btree_writer.specs.declared.fault.Fault.TheVariants.{Length, LengthOverflow, PositionOverflow, OffsetOverflow, Writer, Memory, Entry, OutOfOrder}
-use Rattle.rkyv_btree_image.specs.Entries.{now_of}
-use Rattle.rkyv_btree_image.specs.Increasing.{Increasing, IsOutOfOrder}
-use Rattle.rkyv_btree_image.specs.Miscounts.{IsMiscount}
-use Rattle.rkyv_btree_image.specs.Serialising.{BeginClaimed, Serialised, StoppedBuilding, Miscounted}
-use Rattle.rkyv_btree_image.specs.StrictBuilding.{SerialisedInOrder, MetOutOfOrder, StoppedInOrder, StrictFault}
-use Rattle.rkyv_btree_image.proofs.Increasing.{alone, increasing_snoc, nothing}
+use Rattle.rkyv_btree_writing_laws.specs.Entries.{now_of}
+use Rattle.rkyv_btree_writing_laws.specs.Increasing.{Increasing, IsOutOfOrder}
+use Rattle.rkyv_btree_writing_laws.specs.Miscounts.{IsMiscount}
+use Rattle.rkyv_btree_writing_laws.specs.Serialising.{BeginClaimed, Serialised, StoppedBuilding, Miscounted}
+use Rattle.rkyv_btree_writing_laws.specs.StrictBuilding.{SerialisedInOrder, MetOutOfOrder, StoppedInOrder, StrictFault}
+use Rattle.rkyv_btree_writing_laws.proofs.Increasing.{alone, increasing_snoc, nothing}
 use Rattle.rkyv_btree_archive.specs.declared.items.Source.{Source}
-use Rattle.rkyv_btree_archive.specs.declared.strict.InOrder.{InOrder}
+use Rattle.rkyv_btree_archive.specs.declared.strict_build.InOrder.{InOrder}
 use Rattle.rkyv_btree_archive.specs.mirror.Ended.{CountsTo, FaultAt}
 use Rattle.rkyv_btree_archive.specs.mirror.InOrder.{IsNext, IsNotNext, met_out_of_order}
 use Rattle.rkyv_btree_archive.specs.mirror.Source.{Gives}

@@ -1,7 +1,7 @@
 -- Of values of own bytes, texts and pairs, what they mean determines how they are archived.
 use Rattle.std.proofs.Common.{◌≡◌, ℕ, ◌+◌, List, ◌++◌, length, refl, sym, ap, subst, ◌∙◌}
 use Rattle.rkyv_btree_writer.specs.Archiving.{Archival, own_archival}
-use Rattle.rkyv_btree_image.specs.Determined.{IsDetermined}
+use Rattle.rkyv_btree_writing_laws.specs.Determined.{IsDetermined}
 use Rattle.rkyv_btree_portable.specs.Entry.{value_offset, entry_size}
 use Rattle.rkyv_btree_archive.specs.EntryArchival.{EntryWrites, EntryResolves, entry_archival}
 use Rattle.rkyv_btree_portable.specs.Bytes.{filled}

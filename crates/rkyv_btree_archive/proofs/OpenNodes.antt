@@ -7,9 +7,9 @@ use Rattle.rkyv_btree_shape.proofs.Filled.{full_up}
 use Rattle.rkyv_btree_writer.specs.Archiving.{Archival}
 use Rattle.rkyv_btree_writer.specs.Writing.{Writing}
 use Rattle.rkyv_btree_writer.specs.declared.fault.Fault.{Fault}
-use Rattle.rkyv_btree_image.specs.Entries.{now_of}
-use Rattle.rkyv_btree_image.specs.Image.{inner_image}
-use Rattle.rkyv_btree_image.specs.Written.{NodeWritten, NodeStopped}
+use Rattle.rkyv_btree_writing_laws.specs.Entries.{now_of}
+use Rattle.rkyv_btree_writing_laws.specs.Image.{inner_image}
+use Rattle.rkyv_btree_writing_laws.specs.Written.{NodeWritten, NodeStopped}
 use Rattle.rkyv_btree_shape.specs.mirror.Filled.{most}
 use Rattle.rkyv_btree_archive.specs.mirror.Passing.{NextWritten, NextStopped, NextShort, RowTaken, Frame, waiting_of, children_of, starts_of, Opened, Done}
 use Rattle.rkyv_btree_shape.proofs.Pairs.{some_pairs}

@@ -9,12 +9,12 @@ use Rattle.rkyv_btree_shape.proofs.Filled.{count, same, full_up}
 use Rattle.rkyv_btree_writer.specs.Archiving.{Archival}
 use Rattle.rkyv_btree_writer.specs.Writing.{Writing}
 use Rattle.rkyv_btree_writer.specs.declared.fault.Fault.{Fault}
-use Rattle.rkyv_btree_image.specs.Begun.{RowBegun, ChildBegun}
-use Rattle.rkyv_btree_image.specs.Entries.{now_of}
-use Rattle.rkyv_btree_image.proofs.Begun.{written_begun}
-use Rattle.rkyv_btree_image.proofs.Building.{Yields-both, then-behind}
-use Rattle.rkyv_btree_image.specs.Image.{inner_image}
-use Rattle.rkyv_btree_image.specs.Written.{NodeWritten, NodeStopped, RowWritten, ChildWritten, RowStopped, ChildStopped}
+use Rattle.rkyv_btree_writing_laws.specs.Begun.{RowBegun, ChildBegun}
+use Rattle.rkyv_btree_writing_laws.specs.Entries.{now_of}
+use Rattle.rkyv_btree_writing_laws.proofs.Begun.{written_begun}
+use Rattle.rkyv_btree_writing_laws.proofs.Building.{Yields-both, then-behind}
+use Rattle.rkyv_btree_writing_laws.specs.Image.{inner_image}
+use Rattle.rkyv_btree_writing_laws.specs.Written.{NodeWritten, NodeStopped, RowWritten, ChildWritten, RowStopped, ChildStopped}
 use Rattle.rkyv_btree_shape.specs.mirror.Pairs.{row_from, pairs_list, Leads}
 use Rattle.rkyv_btree_archive.specs.mirror.Passing.{PairsWritten, NextWritten, NextStopped, NextShort, RowTaken}
 use Rattle.rkyv_btree_shape.proofs.Pairs.{pairs_push, pairs_close, row_from_entries, row_from_list, pairs_list_push, pairs_count, shorter_begins, row_splits, row_leads, is_inner, capped, not_bare, row_fits, next_some, some_pairs}

@@ -7,10 +7,10 @@ use Rattle.rkyv_btree_portable.specs.InPlace.{OwnBytes}
 use Rattle.rkyv_btree_portable.specs.Bytes.{filled, zeros}
 use Rattle.rkyv_btree_portable.specs.laws.Holding.{length-filled}
 use Rattle.rkyv_btree_format.specs.Layout.{NodeLayout, keys_at, values_at, len_at, leaf_size, inner_size}
-use Rattle.rkyv_btree_image.specs.Image.{entry_bytes, leaf_bytes, inner_bytes, pointers}
-use Rattle.rkyv_btree_image.proofs.NodesHeld.{length-pointers}
-use Rattle.rkyv_btree_image.proofs.PointerRuns.{pointers-append}
-use Rattle.rkyv_btree_image.proofs.Resolving.{paired, filled_columns, filled_leaf}
+use Rattle.rkyv_btree_writing_laws.specs.Image.{entry_bytes, leaf_bytes, inner_bytes, pointers}
+use Rattle.rkyv_btree_writing_laws.proofs.NodesHeld.{length-pointers}
+use Rattle.rkyv_btree_writing_laws.proofs.PointerRuns.{pointers-append}
+use Rattle.rkyv_btree_writing_laws.proofs.Resolving.{paired, filled_columns, filled_leaf}
 
 -- bytes written over a part of a list
 pub put_part : (xs own : List ℕ) (start count : ℕ) → count ≡ length own → take start xs ++ (own ++ drop count (drop start xs)) ≡ splice xs start (start + length own) own

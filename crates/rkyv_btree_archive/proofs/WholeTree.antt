@@ -18,17 +18,17 @@ use Rattle.rkyv_btree_writer.specs.Writing.{Writing}
 use Rattle.rkyv_btree_writer.specs.declared.fault.Fault.{Fault}
 use Rattle.rkyv_btree_writer.specs.declared.fault.IteratorLengthMismatch.{IteratorLengthMismatch}
 use Rattle.rkyv_btree_writer.specs.declared.fault.Fault.TheVariants.{Length, LengthOverflow, PositionOverflow, OffsetOverflow, Writer, Memory, Entry, OutOfOrder}
-use Rattle.rkyv_btree_image.specs.Begun.{ChildBegun}
-use Rattle.rkyv_btree_image.specs.Entries.{now_of}
-use Rattle.rkyv_btree_image.specs.Image.{leaf_image}
-use Rattle.rkyv_btree_image.specs.Kept.{NeverGrows}
-use Rattle.rkyv_btree_image.proofs.Begun.{untouched}
-use Rattle.rkyv_btree_image.proofs.Building.{some_claimed}
-use Rattle.rkyv_btree_image.proofs.Kept.{same_begins, went_begins}
-use Rattle.rkyv_btree_image.specs.Serialising.{BeginClaimed, StoppedBuilding, BuildFault}
-use Rattle.rkyv_btree_image.specs.Written.{NodeWritten, NodeStopped, ChildWritten, ChildStopped}
-use Rattle.rkyv_btree_image.proofs.Untold.{uncounted, unordered, unasked}
-use Rattle.rkyv_btree_image.proofs.TreesKept.{stops_begin, begun_went}
+use Rattle.rkyv_btree_writing_laws.specs.Begun.{ChildBegun}
+use Rattle.rkyv_btree_writing_laws.specs.Entries.{now_of}
+use Rattle.rkyv_btree_writing_laws.specs.Image.{leaf_image}
+use Rattle.rkyv_btree_writing_laws.specs.Kept.{NeverGrows}
+use Rattle.rkyv_btree_writing_laws.proofs.Begun.{untouched}
+use Rattle.rkyv_btree_writing_laws.proofs.Building.{some_claimed}
+use Rattle.rkyv_btree_writing_laws.proofs.Kept.{same_begins, went_begins}
+use Rattle.rkyv_btree_writing_laws.specs.Serialising.{BeginClaimed, StoppedBuilding, BuildFault}
+use Rattle.rkyv_btree_writing_laws.specs.Written.{NodeWritten, NodeStopped, ChildWritten, ChildStopped}
+use Rattle.rkyv_btree_writing_laws.proofs.Untold.{uncounted, unordered, unasked}
+use Rattle.rkyv_btree_writing_laws.proofs.TreesKept.{stops_begin, begun_went}
 use Rattle.rkyv_btree_archive.specs.mirror.Passing.{NextWritten, NextStopped, NextShort, NextFault}
 use Rattle.rkyv_btree_archive.specs.mirror.Ended.{CountsTo, FaultAt}
 use Rattle.rkyv_btree_archive.proofs.Ended.{ended_of_fault}

@@ -1,7 +1,7 @@
 //! Values that can be archived.
 ghost use Rattle.std.specs.Prelude.{◌≡◌, ◌+◌, ◌≤◌, length, IsTrue, OnOk, OnErr, IfOk, IfErr};
-ghost use Rattle.rkyv_btree_image.specs.Determined.{IsDetermined};
-ghost use Rattle.rkyv_btree_image.specs.Kept.{OnlyAppended};
+ghost use Rattle.rkyv_btree_writing_laws.specs.Determined.{IsDetermined};
+ghost use Rattle.rkyv_btree_writing_laws.specs.Kept.{OnlyAppended};
 ghost use Rattle.rkyv_btree_portable.specs.Kind.{IsLawful};
 ghost use Rattle.rkyv_btree_portable.specs.Plain.{plain_kind};
 ghost use Rattle.rkyv_btree_portable.specs.Scalars.{u8_kind, u16_kind, u32_kind, u64_kind, i8_kind, i16_kind, i32_kind, i64_kind};
@@ -73,7 +73,11 @@ pub trait Serialize<W: Writer, A>: Archive {
         ensures kept { OnErr result (BeginsWith (W.state writer.new) (W.state writer.old)) };
 }
 
-/// Resolves into the bytes at a position.
+/// Writes the own bytes of a serialized value at a position.
+///
+/// # Errors
+///
+/// Those of the type's `resolve`. All bytes are unchanged then.
 pub fn resolve_into<T: Archive>(
     value: &T,
     resolver: T::Resolver,

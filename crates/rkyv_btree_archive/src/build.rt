@@ -2,33 +2,33 @@
 ghost use Rattle.std.specs.Prelude.{◌≡◌, ℕ, ◌+◌, ◌-◌, ◌*◌, ◌^◌, ◌<◌, ◌≤◌, ◌↔◌, length, map, true, alloc_error, IsOk, OnOk, OnErr, IfOk, IfErr, IsErrOf, IsTrue};
 ghost use Rattle.std.specs.Iterator.{UpTo};
 ghost use Rattle.rkyv_btree_writer.specs.Archiving.{BeginsWith};
-ghost use Rattle.rkyv_btree_image.specs.Archives.{SerialisedIsAccepted, EmptyIsAccepted, WrittenIsHeld};
-ghost use Rattle.rkyv_btree_image.specs.Alike.{TreesAreDetermined};
-ghost use Rattle.rkyv_btree_image.specs.Image.{root_bytes, root_reaches, root_image};
+ghost use Rattle.rkyv_btree_writing_laws.specs.Archives.{SerialisedIsAccepted, EmptyIsAccepted, WrittenIsHeld};
+ghost use Rattle.rkyv_btree_writing_laws.specs.Alike.{TreesAreDetermined};
+ghost use Rattle.rkyv_btree_writing_laws.specs.Image.{root_bytes, root_reaches, root_image};
 ghost use Rattle.rkyv_btree_format.specs.Layout.{layout_of, are_fitting};
 ghost use Rattle.rkyv_btree_shape.specs.Logarithm.{ilog};
 ghost use Rattle.rkyv_btree_portable.specs.Rounding.{round_up};
-ghost use Rattle.rkyv_btree_image.specs.OneTree.{BuildsOneTree};
+ghost use Rattle.rkyv_btree_writing_laws.specs.OneTree.{BuildsOneTree};
 ghost use Rattle.rkyv_btree_archive.specs.mirror.Ended.{FaultAt};
 ghost use Rattle.rkyv_btree_archive.specs.mirror.Scratch.{IsFree, IsReserved};
 ghost use Rattle.rkyv_btree_archive.specs.mirror.Source.{Gives};
-ghost use Rattle.rkyv_btree_image.specs.Kept.{NeverGrows, OnlyAppended};
-ghost use Rattle.rkyv_btree_image.specs.Miscounts.{IsMiscount};
-ghost use Rattle.rkyv_btree_image.specs.Serialising.{Serialised, BuildsTree, FailsToBuild, RootFault};
-ghost use Rattle.rkyv_btree_image.specs.SmallestMaps.{BuildsSmallest};
+ghost use Rattle.rkyv_btree_writing_laws.specs.Kept.{NeverGrows, OnlyAppended};
+ghost use Rattle.rkyv_btree_writing_laws.specs.Miscounts.{IsMiscount};
+ghost use Rattle.rkyv_btree_writing_laws.specs.Serialising.{Serialised, BuildsTree, FailsToBuild, RootFault};
+ghost use Rattle.rkyv_btree_writing_laws.specs.SmallestMaps.{ArchivesItems, BuildsSmallest};
 ghost use Rattle.rkyv_btree_writer.specs.Writing.{position, Wrote, last_end};
 
 use crate::archive::{Archive, Serialize};
 use crate::items::{AnyOrder, Look, Source, none_left};
-use crate::map::ArchivedBTreeMap;
+use crate::map_type::ArchivedBTreeMap;
+use crate::node_writes::reserve_scratch;
 use crate::tree::{Lists, write_tree};
-use crate::writes::reserve_scratch;
 use rkyv_btree_format::layout;
 use rkyv_btree_portable::check::Portable;
 use rkyv_btree_shape::height::entries_to_height;
+use rkyv_btree_writer::bounded_writes::{LAST_END, pad, put};
 use rkyv_btree_writer::fault::{Fault, IteratorLengthMismatch, ResolveFault};
 use rkyv_btree_writer::place::{Place, Writer, write_offset};
-use rkyv_btree_writer::writes::{LAST_END, pad, put};
 use std::alloc::{AllocError, Allocator};
 use std::marker::Model;
 
@@ -193,12 +193,23 @@ where
 impl<K: Portable, V: Portable, const E: usize> ArchivedBTreeMap<K, V, E> {
     /// Serializes the items of an iterator, in their order, as the tree of a map, and returns the position of its root node.
     /// `len` is the declared number of items. The entries of a node are serialized before the node is written, each key before
-    /// its value.
+    /// its value. All memory is reserved before the first byte is written. `next` isn't called again after it has returned `None`.
     ///
-    /// If `len` is past 32 bits, it fails before an item is taken. All memory is reserved before the first byte is written.
-    /// After an error the writer's contents begin with the old ones. After an error of memory they are unchanged, unless the
-    /// memory was for serializing a key or value. With too many items the error has the count of all of them. `next` isn't
-    /// called again after it has returned `None`.
+    /// # Errors
+    ///
+    /// - `LengthOverflow` if `len` is past 32 bits. No item is taken then.
+    /// - `Memory` if an allocation fails. The writer's contents are unchanged, unless the memory was for serializing a key or value.
+    /// - `Length` if there are fewer or more items than `len`. With too many items it has the count of all of them.
+    /// - `PositionOverflow` or `OffsetOverflow` if a position or the distance of a pointer doesn't fit.
+    /// - `Writer` with the writer's own error, and `Entry` with that of a key or value.
+    ///
+    /// After an error the writer's contents begin with the old ones.
+    ///
+    /// # Examples
+    ///
+    /// ```rust
+    /// Numbers::serialize_from_ordered_iter(alloc, entries.len(), items, writer)
+    /// ```
     pub fn serialize_from_ordered_iter<'x, KU, VU, W, A, I>(
         alloc: A,
         len: usize,
@@ -214,13 +225,17 @@ impl<K: Portable, V: Portable, const E: usize> ArchivedBTreeMap<K, V, E> {
         requires fitting { IsTrue (are_fitting K.kind V.kind E) }
         requires can { I.can_next iter }
         requires ends { UpTo (I.remaining iter) 18446744073709551615 }
-        ensures ok { IfOk result
-            (BuildsTree K.kind V.kind E KU.archival VU.archival I.next_gives iter len
+        // With the map after it, what was appended is a map of the iterator's items.
+        ensures archived { IfOk result
+            (ArchivesItems K.kind V.kind E KU.archival VU.archival I.next_gives iter len
             W.state writer.old writer.new) }
-        // With the map after it, the tree is accepted, and means the items. No accepted map with as many entries has fewer
-        // nodes, node bytes or levels.
+        // No accepted map with as many entries has fewer nodes, node bytes or levels.
         ensures smallest { IfOk result
             (BuildsSmallest K.kind V.kind E KU.archival VU.archival I.next_gives iter len
+            W.state writer.old writer.new) }
+        // docs/FORMAT.md says which bytes these are.
+        ensures written { IfOk result
+            (BuildsTree K.kind V.kind E KU.archival VU.archival I.next_gives iter len
             W.state writer.old writer.new) }
         // The tree is the only left-complete tree of the items, and the appended bytes are its image.
         ensures one_tree { IfOk result
@@ -238,11 +253,11 @@ impl<K: Portable, V: Portable, const E: usize> ArchivedBTreeMap<K, V, E> {
         ensures memory { NeverGrows KU.archival → NeverGrows VU.archival →
             IsErrOf result (Fault.Memory alloc_error) → W.state writer.new ≡ W.state writer.old }
         // A length past 32 bits is always the error `LengthOverflow`, and nothing is written.
-        ensures past { last_end < len → IsErrOf result Fault.LengthOverflow }
-        ensures past_kept { last_end < len → W.state writer.new ≡ W.state writer.old }
+        ensures past { last_end < len →
+            IsErrOf result Fault.LengthOverflow × (W.state writer.new ≡ W.state writer.old) }
         // With a declared length of 0 the only error is a wrong count, and nothing is written.
-        ensures none { len ≡ 0 → IfErr result IsMiscount }
-        ensures none_kept { len ≡ 0 → W.state writer.new ≡ W.state writer.old }
+        ensures none { len ≡ 0 →
+            IfErr result IsMiscount × (W.state writer.new ≡ W.state writer.old) }
         // Keys in any order are serialized: no error is `OutOfOrder`.
         ensures any_order { (index : ℕ) → IsErrOf result (Fault.OutOfOrder index) → ⊥ }
     {
@@ -283,7 +298,12 @@ pub(crate) fn fill_root(
 }
 
 impl<K, V, const E: usize> ArchivedBTreeMap<K, V, E> {
-    /// Writes the map of a root node that was serialized for `len` entries. After an error the place is unchanged.
+    /// Writes the map of a root node that was serialized for `len` entries.
+    ///
+    /// # Errors
+    ///
+    /// `LengthOverflow` if `len` is past 32 bits, and `OffsetOverflow` if the distance to the root is no offset. The place is unchanged
+    /// then.
     pub fn resolve_from_len(
         len: usize,
         resolver: BTreeMapResolver,
@@ -300,8 +320,19 @@ impl<K, V, const E: usize> ArchivedBTreeMap<K, V, E> {
         fill_root(pos, bytes, len, resolver.root)
     }
 
-    /// Writes zeros up to a multiple of 4 and then the map, and returns the map's position. After an error what was written
-    /// remains.
+    /// Writes zeros up to a multiple of 4 and then the map, and returns the map's position.
+    ///
+    /// # Errors
+    ///
+    /// `Writer` with the writer's own error, `PositionOverflow`, and those of `resolve_from_len`. What was written remains.
+    ///
+    /// # Examples
+    ///
+    /// ```rust
+    /// let mut writer = IoWriter::new(BufWriter::new(alloc, file)?);
+    /// let tree = Prices::serialize_from_exact_iter(alloc, items, &mut writer)?;
+    /// let root = Prices::write_root(prices.len(), tree, &mut writer)?;
+    /// ```
     pub fn write_root<W: Writer>(
         len: usize,
         resolver: BTreeMapResolver,

@@ -1,6 +1,6 @@
 //! Serializing the entries of a node.
 ghost use Rattle.std.specs.Prelude.{◌≡◌, ◌≤◌, [], length, map, vec_capacity, IsTrue, OnOk, IfErr};
-ghost use Rattle.rkyv_btree_image.specs.Entries.{AreSerialised, AreUnserialised, now_of};
+ghost use Rattle.rkyv_btree_writing_laws.specs.Entries.{AreSerialised, AreUnserialised, now_of};
 
 use crate::archive::{Archive, Serialize};
 use crate::waiting::push;

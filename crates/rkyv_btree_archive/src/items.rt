@@ -98,8 +98,11 @@ pub fn take_items<
     true
 }
 
-/// Takes all items that are left. Fails if a source that has yielded `len` items yields more. The error has the count of all of
-/// them.
+/// Takes all items that are left.
+///
+/// # Errors
+///
+/// `Length` with the count of all items, if a source that has yielded `len` items yields more.
 pub fn none_left<'x, M: 'x, N: 'x, I: Iterator<Item = (&'x M, &'x N)>, L: Look<'x, M> + Drop>(
     source: &mut Source<I, L>,
     len: usize,

@@ -1,14 +1,14 @@
 //! Std's maps and sets, archived as trees with five entries in a node.
 ghost use Rattle.std.specs.Prelude.{◌≡◌, ◌<◌, length, alloc_error, IsTrue, IsErrOf, OnOk, OnErr, IfOk, IfErr};
 ghost use Rattle.rkyv_btree_format.specs.Layout.{layout_of, are_fitting};
-ghost use Rattle.rkyv_btree_image.specs.Determined.{IsDetermined};
-ghost use Rattle.rkyv_btree_image.specs.Kept.{NeverGrows, OnlyAppended};
-ghost use Rattle.rkyv_btree_image.specs.OneTree.{OneTreeWritten};
-ghost use Rattle.rkyv_btree_image.specs.Sets.{unit_archival, with_units};
-ghost use Rattle.rkyv_btree_image.specs.SmallestMaps.{IsSmallestArchive};
-ghost use Rattle.rkyv_btree_image.specs.TreeArchival.{IsRoot, tree_archival};
-ghost use Rattle.rkyv_btree_image.proofs.MapSame.{same_map};
-ghost use Rattle.rkyv_btree_image.proofs.TreeArchived.{tree_archived, tree_causes};
+ghost use Rattle.rkyv_btree_writing_laws.specs.Determined.{IsDetermined};
+ghost use Rattle.rkyv_btree_writing_laws.specs.Kept.{NeverGrows, OnlyAppended};
+ghost use Rattle.rkyv_btree_writing_laws.specs.OneTree.{OneTreeWritten};
+ghost use Rattle.rkyv_btree_writing_laws.specs.Sets.{unit_archival, with_units};
+ghost use Rattle.rkyv_btree_writing_laws.specs.SmallestMaps.{IsSmallestArchive};
+ghost use Rattle.rkyv_btree_writing_laws.specs.TreeArchival.{IsRoot, tree_archival};
+ghost use Rattle.rkyv_btree_writing_laws.proofs.MapSame.{same_map};
+ghost use Rattle.rkyv_btree_writing_laws.proofs.TreeArchived.{tree_archived, tree_causes};
 ghost use Rattle.rkyv_btree_portable.specs.Natives.{unit_form};
 ghost use Rattle.rkyv_btree_portable.specs.Scalars.{unit_kind};
 ghost use Rattle.rkyv_btree_portable.specs.laws.Natives.{unit_faithful};
@@ -19,8 +19,8 @@ ghost use Rattle.rkyv_btree_writer.proofs.Archiving.{native_archived, native_cau
 
 use crate::archive::{Archive, Serialize};
 use crate::build::{BTreeMapResolver, fill_root};
-use crate::map::ArchivedBTreeMap;
-use crate::set::{ArchivedBTreeSet, BTreeSetResolver};
+use crate::map_type::ArchivedBTreeMap;
+use crate::set_type::{ArchivedBTreeSet, BTreeSetResolver};
 use rkyv_btree_writer::fault::{Fault, ResolveFault};
 use rkyv_btree_writer::place::{Place, Writer};
 use std::alloc::Allocator;
@@ -55,13 +55,16 @@ impl<KU: Archive + Ord, VU: Archive> Archive for BTreeMap<KU, VU> {
         fill_root(pos, bytes, entries, resolver.root)
     }
 
-    ghost same_kind = { same_map KU.archival.kind VU.archival.kind KU.Archived.kind VU.Archived.kind 5 KU.same_kind VU.same_kind };
+    ghost same_kind = { same_map KU.archival.kind VU.archival.kind KU.Archived.kind VU.Archived.kind
+        5 KU.same_kind VU.same_kind };
 
     ghost lawful = { map_laws KU.archival.kind VU.archival.kind 5 KU.lawful VU.lawful };
 
-    ghost archived = { tree_archived 5 KU.archival VU.archival KU.lawful VU.lawful KU.archived VU.archived (λ map. map.entries) };
+    ghost archived = { tree_archived 5 KU.archival VU.archival KU.lawful VU.lawful KU.archived
+        VU.archived (λ map. map.entries) };
 
-    ghost causes = { tree_causes 5 KU.archival VU.archival KU.lawful VU.lawful KU.archived VU.archived (λ map. map.entries) KU.causes VU.causes };
+    ghost causes = { tree_causes 5 KU.archival VU.archival KU.lawful VU.lawful KU.archived
+        VU.archived (λ map. map.entries) KU.causes VU.causes };
 }
 
 impl<W: Writer, A: Allocator + Copy, KU: Serialize<W, A> + Ord, VU: Serialize<W, A>> Serialize<W, A>
@@ -124,7 +127,8 @@ impl<KU: Archive + Ord> Archive for BTreeSet<KU> {
         fill_root(pos, bytes, keys, resolver.root)
     }
 
-    ghost same_kind = { same_map KU.archival.kind unit_kind KU.Archived.kind unit_kind 5 KU.same_kind (itself unit_kind) };
+    ghost same_kind = { same_map KU.archival.kind unit_kind KU.Archived.kind unit_kind 5
+        KU.same_kind (itself unit_kind) };
 
     ghost lawful = { map_laws KU.archival.kind unit_kind 5 KU.lawful unit_laws };
 

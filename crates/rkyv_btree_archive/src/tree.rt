@@ -12,8 +12,8 @@ ghost use Rattle.rkyv_btree_writer.specs.Writing.{position, last_end};
 
 use crate::archive::{Archive, Serialize};
 use crate::items::{Look, Source, take_items};
+use crate::node_writes::{Scratch, write_leaf};
 use crate::waiting::{push, wait, write_above};
-use crate::writes::{Scratch, write_leaf};
 use rkyv_btree_portable::check::Portable;
 use rkyv_btree_writer::fault::{Fault, IteratorLengthMismatch};
 use rkyv_btree_writer::place::Writer;
@@ -63,7 +63,8 @@ fn open_nodes<A: Allocator>(
 
 /// Returns how many entries wait before those of the innermost open node, if a node is open.
 fn innermost<A: Allocator>(starts: &Vec<usize, A>) -> Option<usize>
-    ensures some { IfSome result (λ first. (front : List ℕ) × (starts.now.items ≡ front ++ first ∷ [])) }
+    ensures some { IfSome result
+        (λ first. (front : List ℕ) × (starts.now.items ≡ front ++ first ∷ [])) }
     ensures none { IfNone result (starts.now.items ≡ []) }
 {
     starts.last().copied()

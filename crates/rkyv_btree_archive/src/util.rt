@@ -1,7 +1,7 @@
 //! A key with its value, archived as an `Entry`.
 ghost use Rattle.std.specs.Prelude.{◌≡◌, ◌+◌, ◌≤◌, ◌<◌, ◌^◌, length, IsTrue, OnOk, IfErr};
 ghost use Rattle.rkyv_btree_writer.specs.Archiving.{IsUnresolved};
-ghost use Rattle.rkyv_btree_image.specs.Determined.{IsDetermined};
+ghost use Rattle.rkyv_btree_writing_laws.specs.Determined.{IsDetermined};
 ghost use Rattle.rkyv_btree_archive.specs.EntryArchival.{EntryResolves, both_now, entry_archival};
 ghost use Rattle.rkyv_btree_portable.specs.Entry.{value_offset, entry_size, entry_kind, RefusesEntry};
 ghost use Rattle.rkyv_btree_portable.specs.laws.EntryLaws.{entry_laws};
@@ -29,7 +29,7 @@ pub struct EntryAdapter<'r, K, V> {
 }
 
 impl<'r, K, V> EntryAdapter<'r, K, V> {
-    /// The entry of this key and this value.
+    /// Returns the entry of this key and this value.
     pub fn new(key: &'r K, value: &'r V) -> EntryAdapter<'r, K, V>
         ensures key { result.key.now ≡ key.now }
         ensures value { result.value.now ≡ value.now }
@@ -72,13 +72,16 @@ impl<'r, KU: Archive, VU: Archive> Archive for EntryAdapter<'r, KU, VU> {
         resolve_into(self.value, value, pos + offset, back)
     }
 
-    ghost same_kind = { same_entry KU.archival.kind VU.archival.kind KU.Archived.kind VU.Archived.kind KU.same_kind VU.same_kind };
+    ghost same_kind = { same_entry KU.archival.kind VU.archival.kind KU.Archived.kind
+        VU.Archived.kind KU.same_kind VU.same_kind };
 
     ghost lawful = { entry_laws KU.archival.kind VU.archival.kind KU.lawful VU.lawful };
 
-    ghost archived = { entry_archived KU.archival VU.archival both_now KU.lawful VU.lawful KU.archived VU.archived };
+    ghost archived = { entry_archived KU.archival VU.archival both_now KU.lawful VU.lawful
+        KU.archived VU.archived };
 
-    ghost causes = { entry_causes KU.archival VU.archival both_now KU.causes VU.causes KU.lawful VU.lawful KU.archived VU.archived };
+    ghost causes = { entry_causes KU.archival VU.archival both_now KU.causes VU.causes KU.lawful
+        VU.lawful KU.archived VU.archived };
 }
 
 impl<'r, W: Writer, A: Copy, KU: Serialize<W, A>, VU: Serialize<W, A>> Serialize<W, A>

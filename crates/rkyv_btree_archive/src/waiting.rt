@@ -3,12 +3,12 @@ ghost use Rattle.std.specs.Prelude.{◌≡◌, ◌+◌, ◌≤◌, ◌<◌, [], 
 ghost use Rattle.rkyv_btree_format.specs.Layout.{layout_of, are_fitting, inner_size};
 ghost use Rattle.rkyv_btree_archive.specs.mirror.Scratch.{IsFree};
 ghost use Rattle.rkyv_btree_writer.specs.Writing.{position, last_end};
-ghost use Rattle.rkyv_btree_image.specs.Entries.{now_of};
-ghost use Rattle.rkyv_btree_image.specs.Image.{inner_image};
-ghost use Rattle.rkyv_btree_image.specs.Written.{NodeWritten, NodeStopped};
+ghost use Rattle.rkyv_btree_writing_laws.specs.Entries.{now_of};
+ghost use Rattle.rkyv_btree_writing_laws.specs.Image.{inner_image};
+ghost use Rattle.rkyv_btree_writing_laws.specs.Written.{NodeWritten, NodeStopped};
 
 use crate::archive::{Archive, Serialize};
-use crate::writes::{Scratch, write_inner};
+use crate::node_writes::{Scratch, write_inner};
 use rkyv_btree_portable::check::Portable;
 use rkyv_btree_writer::fault::Fault;
 use rkyv_btree_writer::place::Writer;
@@ -45,6 +45,10 @@ pub fn wait<T: Drop, A: Allocator>(
 
 /// Writes the inner node of the waiting entries from `first` on, the waiting children from `first_child` on and the child
 /// `last`, and returns its position. Then it removes these entries and children from their lists.
+///
+/// # Errors
+///
+/// Those of `write_inner`. The lists are unchanged then.
 pub fn write_above<'x, KU, VU, K, V, W, A, const E: usize>(
     alloc: A,
     scratch: &mut Scratch<KU::Resolver, VU::Resolver, A>,

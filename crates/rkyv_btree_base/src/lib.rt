@@ -2,15 +2,17 @@
 //! names that writes archives. It has no code of its own.
 #![tactic(auto)]
 
-pub use rkyv_btree_archive::{build, map, set, std_types, text, util, whole};
 pub use rkyv_btree_portable::{numbers, refusal, scalars, signed};
 pub use rkyv_btree_writer::{fault, io_writer};
 
 /// Values that can be archived.
 pub mod archive {
-    pub use rkyv_btree_archive::archive::{
-        Archive, Archived, Native, Serialize, natives_are_determined,
-    };
+    pub use rkyv_btree_archive::archive::{Archive, Archived, Native, Serialize};
+}
+
+/// What a serialized map or set leaves to be written: where its root is.
+pub mod build {
+    pub use rkyv_btree_archive::build::BTreeMapResolver;
 }
 
 /// Numbers and pointers in a buffer.
@@ -20,7 +22,9 @@ pub mod bytes {
 
 /// Archived types, and the check of their bytes.
 pub mod check {
-    pub use rkyv_btree_portable::check::{CheckBytes, Portable, Scalar, Window, check_place};
+    pub use rkyv_btree_portable::check::{
+        CheckBytes, Portable, Scalar, Window, check_in_place, check_place,
+    };
     pub use rkyv_btree_portable::in_place::InPlace;
 }
 
@@ -38,13 +42,49 @@ pub mod place {
     pub use rkyv_btree_writer::place::{Place, RelPtr, VecWriter, Writer};
 }
 
-/// The laws of planned trees.
-pub mod shape {
+/// Laws of archives, of their validation and of their trees. Each function has an empty body: call it to make its clauses known to the
+/// prover.
+pub mod laws {
+    pub use rkyv_btree_archive::archive::natives_are_determined;
+    pub use rkyv_btree_archive::build::{
+        archives_are_accepted, trees_are_determined, written_maps_are_held,
+    };
+    pub use rkyv_btree_archive::std_types::std_types_are_determined;
+    pub use rkyv_btree_archive::string::texts_are_determined;
+    pub use rkyv_btree_archive::util::entries_are_determined;
     pub use rkyv_btree_format::competitors::spelled_trees_have_the_shape;
+    pub use rkyv_btree_portable::entry::entries_compare_key_first;
     pub use rkyv_btree_shape::shape::{
         each_tree_needs_room, left_complete_is_smallest, logarithm, plan_is_recursive,
         plan_is_the_left_complete_tree, wasteful_trees, worked_trees,
     };
+    pub use rkyv_btree_verify::verify::{claims_are_apart, faults_are_exact};
+}
+
+/// Archived maps, as a type of bytes.
+pub mod map {
+    pub use rkyv_btree_archive::map_type::ArchivedBTreeMap;
+}
+
+/// Archived sets, as a type of bytes.
+pub mod set {
+    pub use rkyv_btree_archive::set_type::{ArchivedBTreeSet, BTreeSetResolver};
+}
+
+/// Archived texts, as a type of bytes.
+pub mod text {
+    pub use rkyv_btree_portable::text::{ArchivedText, text_range};
+}
+
+/// Entries and pairs, as types of bytes, and entries that are serialized from references.
+pub mod util {
+    pub use rkyv_btree_archive::util::{EntryAdapter, EntryResolver};
+    pub use rkyv_btree_portable::entry::{Entry, value_offset};
+}
+
+/// Whole archives: one value, whose own bytes come last.
+pub mod whole {
+    pub use rkyv_btree_archive::to_archive::{to_archive, write_value};
 }
 
 /// Counting the steps of a check.
@@ -54,7 +94,5 @@ pub mod steps {
 
 /// The check of foreign bytes for a map.
 pub mod verify {
-    pub use rkyv_btree_verify::verify::{
-        claims_are_apart, faults_are_exact, verify, verify_counted,
-    };
+    pub use rkyv_btree_verify::verify::{verify, verify_counted};
 }

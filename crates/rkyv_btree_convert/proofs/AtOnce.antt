@@ -1,4 +1,4 @@
--- Native maps that are made of all entries at once: of equal keys some one is kept, and these are the same by what is told of them.
+-- Native maps that are made of all entries at once: of equal keys some one is kept, and these are the same by the models of them.
 use Rattle.std.proofs.Common.{◌≡◌, cond, List, [], ◌∷◌, Option, Some, None, refl, sym, ap, ◌∙◌}
 use Rattle.std.proofs.lemmas.Map.Made.{is_some-lookup, is_some-update_all}
 use Rattle.std.specs.BTreeMap.{insert_entry, is_at}
@@ -12,9 +12,9 @@ use Rattle.std.specs.Ordering.{eq_by_cmp, ordering_reverse}
 use Rattle.std.specs.declared.cmp.Ordering.{Ordering}
 use Rattle.std.specs.declared.cmp.Ordering.TheVariants.{Less, Equal, Greater}
 use Rattle.rkyv_btree_base.specs.Sets.{with_units}
-use Rattle.rkyv_btree_convert.specs.Maps.{last_wins, told_both}
-use Rattle.rkyv_btree_convert.proofs.Puts.{told_put}
-use Rattle.rkyv_btree_convert.proofs.Units.{told_keys}
+use Rattle.rkyv_btree_convert.specs.Maps.{last_wins, model_both}
+use Rattle.rkyv_btree_convert.proofs.Puts.{model_put}
+use Rattle.rkyv_btree_convert.proofs.Units.{model_keys}
 use Rattle.rkyv_btree_convert.proofs.LastWins.{put_in, lookup_put, sorted_all, all_map}
 
 module _ {T U : Type 0} {cmp : T → T → Ordering} (total : IsTotalOrder cmp) where
@@ -70,23 +70,23 @@ module _ {T U : Type 0} {cmp : T → T → Ordering} (total : IsTotalOrder cmp) 
           ] refl
 
   module _ {A B : Type 0} (key : T → A) (value : U → B) (ties : (x y : T) → cmp x y ≡ Equal → key x ≡ key y) where
-    -- ascending entries in which the same is found are the same, by what is told of them
-    same_told : (es fs : List (T × U)) → IsStrictlySortedBy cmp (keys_of es) → IsStrictlySortedBy cmp (keys_of fs) → AreAlike es fs → told_both key value es ≡ told_both key value fs
+    -- ascending entries in which the same is found are the same, by the models of them
+    same_model : (es fs : List (T × U)) → IsStrictlySortedBy cmp (keys_of es) → IsStrictlySortedBy cmp (keys_of fs) → AreAlike es fs → model_both key value es ≡ model_both key value fs
     unfolding IsStrictlySortedBy
-    same_told [] [] first second alike = refl
-    same_told [] (f ∷ fs) first second alike = let a = found f fs in let c = alike f.0 in absurd (cc)
-    same_told (e ∷ es) [] first second alike = let a = found e es in let c = alike e.0 in absurd (cc)
-    same_told (e ∷ es) (f ∷ fs) first second alike =
-        elim (cmp e.0 f.0) as (λ o. cmp e.0 f.0 ≡ o → told_both key value (e ∷ es) ≡ told_both key value (f ∷ fs)) [
+    same_model [] [] first second alike = refl
+    same_model [] (f ∷ fs) first second alike = let a = found f fs in let c = alike f.0 in absurd (cc)
+    same_model (e ∷ es) [] first second alike = let a = found e es in let c = alike e.0 in absurd (cc)
+    same_model (e ∷ es) (f ∷ fs) first second alike =
+        elim (cmp e.0 f.0) as (λ o. cmp e.0 f.0 ≡ o → model_both key value (e ∷ es) ≡ model_both key value (f ∷ fs)) [
           | Less ↦ λ less. absurd (not_less e f es fs first second alike less)
           | Equal ↦ λ same.
               let k = ties e.0 f.0 same in
               let v = same_value e f es fs first second alike same in
-              let rest = same_told es fs first.1 second.1 (rest_alike e f es fs first second alike same) in cc
+              let rest = same_model es fs first.1 second.1 (rest_alike e f es fs first second alike same) in cc
           | Greater ↦ λ past. absurd (not_past e f es fs first second alike past)
         ] refl
 
--- what is told of the map that all entries make at once is the map that they make in turn, as told
+-- the model of the map that all entries make at once is the map that they make in turn, as models
 module _ {T U A B : Type 0} {cmp : T → T → Ordering} {order : A → A → Ordering} (key : T → A) (value : U → B) (total : IsTotalOrder order) (ordered : (x y : T) → cmp x y ≡ order (key x) (key y)) where
   cmp_total : IsTotalOrder cmp
   cmp_total = record {
@@ -95,17 +95,17 @@ module _ {T U A B : Type 0} {cmp : T → T → Ordering} {order : A → A → Or
     congr = λ x y z p. ordered x z ∙ total.congr (key x) (key y) (key z) (sym (ordered x y) ∙ p) ∙ sym (ordered y z);
   }
 
-  told_all : (xs m : List (T × U)) → told_both key value (put_in cmp_total m xs) ≡ put_in total (told_both key value m) (told_both key value xs)
-  told_all [] m = refl
-  told_all (x ∷ xs) m = told_all xs (insert_entry cmp m x.0 x.1) ∙ ap (λ n. put_in total n (told_both key value xs)) (told_put order key value ordered x.0 x.1 m)
+  model_all : (xs m : List (T × U)) → model_both key value (put_in cmp_total m xs) ≡ put_in total (model_both key value m) (model_both key value xs)
+  model_all [] m = refl
+  model_all (x ∷ xs) m = model_all xs (insert_entry cmp m x.0 x.1) ∙ ap (λ n. put_in total n (model_both key value xs)) (model_put order key value ordered x.0 x.1 m)
 
   -- `made` ascends and has what an update by each of the entries gives
   pub made_at_once : ((x y : A) → order x y ≡ Equal → x ≡ y) → (xs made : List (T × U)) → ((q : T) → lookup (is_at (cmp q)) made ≡ update_all (eq_by_cmp cmp) (λ _. None) xs q) → IsStrictlySortedBy cmp (keys_of made)
-      → told_both key value made ≡ last_wins order (told_both key value xs)
+      → model_both key value made ≡ last_wins order (model_both key value xs)
   unfolding IsStrictlySortedBy
   made_at_once ties xs made finds sorted =
-      same_told cmp_total key value (λ x y same. ties (key x) (key y) (sym (ordered x y) ∙ same)) made (put_in cmp_total [] xs) sorted (sorted_all cmp_total xs [] tt) (λ q. finds q ∙ sym (lookup_all cmp_total q xs [] (λ _. None) refl))
-      ∙ told_all xs []
+      same_model cmp_total key value (λ x y same. ties (key x) (key y) (sym (ordered x y) ∙ same)) made (put_in cmp_total [] xs) sorted (sorted_all cmp_total xs [] tt) (λ q. finds q ∙ sym (lookup_all cmp_total q xs [] (λ _. None) refl))
+      ∙ model_all xs []
 
 -- the same of a set, as the map whose values are ()
 module _ {T A : Type 0} {cmp : T → T → Ordering} {order : A → A → Ordering} (key : T → A) (total : IsTotalOrder order) (ordered : (x y : T) → cmp x y ≡ order (key x) (key y)) where
@@ -120,7 +120,7 @@ module _ {T A : Type 0} {cmp : T → T → Ordering} {order : A → A → Orderi
   one_unit (Some u) (Some v) same = refl
 
   pub keys_at_once : ((x y : A) → order x y ≡ Equal → x ≡ y) → (xs : List (T × Unit {0})) (s : BTreeSet T) → IsFromIterResult cmp (keys_of xs) s
-      → told_keys key s.keys ≡ last_wins order (told_both key (λ unit. unit) xs)
+      → model_keys key s.keys ≡ last_wins order (model_both key (λ unit. unit) xs)
   keys_at_once ties xs s made =
       let laws = eq_by_cmp_equiv (cmp_total key (λ (unit : Unit {0}). unit) total ordered) in
       made_at_once key (λ unit. unit) total ordered ties xs (with_units s.keys)

@@ -7,3 +7,5 @@ pub mod Opened
 pub mod StdMaps
 pub mod Units
 pub mod RoundTrip
+pub mod Sorted
+pub mod SmallNodes

@@ -11,7 +11,7 @@ use Rattle.rkyv_btree_base.specs.Tree.{list}
 use Rattle.rkyv_btree_convert.specs.declared.deserialize.DeserializeFault.{DeserializeFault}
 use Rattle.rkyv_btree_convert.specs.declared.deserialize.DeserializeFault.TheVariants.{Memory, Entry}
 use Rattle.rkyv_btree_convert.specs.Deserializing.{IsByMeaning, IsRefused, all, both}
-use Rattle.rkyv_btree_convert.specs.Maps.{given_entries}
+use Rattle.rkyv_btree_convert.specs.Maps.{decoded_entries}
 use Rattle.rkyv_btree_convert.specs.laws.Maps.{given_by_meaning}
 use Rattle.rkyv_btree_convert.proofs.Puts.{take_all, all_taken}
 
@@ -22,7 +22,7 @@ module _ (K V : Kind) (E : ℕ) {A B M : Type 0} {key : List ℕ → ℕ → Res
 
   -- what all entries make, or the first fault
   abbrev pub made_of : List ℕ → ℕ → Result M EntryFault
-  made_of b at = result_map_both (fold step none) (λ fault. fault) (given_entries K V E key value b at)
+  made_of b at = result_map_both (fold step none) (λ fault. fault) (decoded_entries K V E key value b at)
 
   -- `m` was made of the map at a position, and `rest` is left to be taken
   pub record IsMade (b : List ℕ) (at : ℕ) (m : M) (rest : List (K.Value × V.Value)) : Type 0 where

@@ -9,7 +9,7 @@ use Rattle.std.specs.Result.{result_map_both}
 use Rattle.std.specs.declared.cmp.Ordering.{Ordering}
 use Rattle.std.specs.declared.cmp.Ordering.TheVariants.{Less, Equal, Greater}
 use Rattle.rkyv_btree_convert.specs.Deserializing.{both, all}
-use Rattle.rkyv_btree_convert.specs.Maps.{told_both}
+use Rattle.rkyv_btree_convert.specs.Maps.{model_both}
 
 -- what is made of elements that are taken in turn, up to the first fault
 module _ {A M F : Type 0} (step : M → A → M) where
@@ -49,20 +49,20 @@ all_pushed (Err fault) = refl
 abbrev pub put_all : {A B F : Type 0} → (A → A → Ordering) → List (A × B) → List (Result (A × B) F) → Result (List (A × B)) F
 put_all order = take_all (put order)
 
--- what is told of a map into which an entry was put
+-- the model of a map into which an entry was put
 module _ {T U A B : Type 0} {cmp : T → T → Ordering} (order : A → A → Ordering) (key : T → A) (value : U → B) (ordered : (x y : T) → cmp x y ≡ order (key x) (key y)) (k : T) (v : U) where
-  chosen : (o p : Ordering) → o ≡ p → (xs ys zs : List (T × U)) → told_both key value (match_ordering o xs ys zs) ≡ match_ordering p (told_both key value xs) (told_both key value ys) (told_both key value zs)
+  chosen : (o p : Ordering) → o ≡ p → (xs ys zs : List (T × U)) → model_both key value (match_ordering o xs ys zs) ≡ match_ordering p (model_both key value xs) (model_both key value ys) (model_both key value zs)
   chosen Less p e xs ys zs = rw (← e) refl
   chosen Equal p e xs ys zs = rw (← e) refl
   chosen Greater p e xs ys zs = rw (← e) refl
 
-  pub told_put : (m : List (T × U)) → told_both key value (insert_entry cmp m k v) ≡ insert_entry order (told_both key value m) (key k) (value v)
-  told_put [] = refl
-  told_put (e ∷ m) =
+  pub model_put : (m : List (T × U)) → model_both key value (insert_entry cmp m k v) ≡ insert_entry order (model_both key value m) (key k) (value v)
+  model_put [] = refl
+  model_put (e ∷ m) =
       chosen (cmp k e.0) (order (key k) (key e.0)) (ordered k e.0) ((k, v) ∷ e ∷ m) ((e.0, v) ∷ m) (e ∷ insert_entry cmp m k v)
-      ∙ ap (λ rest. match_ordering (order (key k) (key e.0)) ((key k, value v) ∷ told_both key value (e ∷ m)) ((key e.0, value v) ∷ told_both key value m) ((key e.0, value e.1) ∷ rest)) (told_put m)
+      ∙ ap (λ rest. match_ordering (order (key k) (key e.0)) ((key k, value v) ∷ model_both key value (e ∷ m)) ((key e.0, value v) ∷ model_both key value m) ((key e.0, value e.1) ∷ rest)) (model_put m)
 
--- what is told of a list behind which an entry was put
-pub told_pushed : {T U A B : Type 0} (key : T → A) (value : U → B) (es : List (T × U)) (e : T × U) → told_both key value (es ++ e ∷ []) ≡ told_both key value es ++ (key e.0, value e.1) ∷ []
-told_pushed key value [] e = refl
-told_pushed key value (d ∷ es) e = ap (λ rest. (key d.0, value d.1) ∷ rest) (told_pushed key value es e)
+-- the model of a list behind which an entry was put
+pub model_pushed : {T U A B : Type 0} (key : T → A) (value : U → B) (es : List (T × U)) (e : T × U) → model_both key value (es ++ e ∷ []) ≡ model_both key value es ++ (key e.0, value e.1) ∷ []
+model_pushed key value [] e = refl
+model_pushed key value (d ∷ es) e = ap (λ rest. (key d.0, value d.1) ∷ rest) (model_pushed key value es e)

@@ -16,7 +16,7 @@ use Rattle.rkyv_btree_base.specs.EntryFault.{EntryFault}
 use Rattle.rkyv_btree_convert.specs.declared.deserialize.DeserializeFault.{DeserializeFault}
 use Rattle.rkyv_btree_convert.specs.declared.deserialize.DeserializeFault.TheVariants.{Memory, Entry}
 use Rattle.rkyv_btree_convert.specs.Deserializing.{IsRefused}
-use Rattle.rkyv_btree_convert.specs.Maps.{told_both}
+use Rattle.rkyv_btree_convert.specs.Maps.{model_both}
 
 -- a key is put into the set as into the map
 pub put_unit : {T : Type 0} (cmp : T → T → Ordering) (k : T) (ks : List T) → with_units (insert_key cmp ks k) ≡ insert_entry cmp (with_units ks) k tt
@@ -28,14 +28,14 @@ put_unit cmp k (x ∷ ks) =
       | Greater ↦ ap (λ rest. (x, tt) ∷ rest) (put_unit cmp k ks)
     ]
 
--- what is told of a set's keys, as of a map's
-abbrev pub told_keys : {T A : Type 0} → (T → A) → List T → List (A × Unit {0})
-told_keys key ks = told_both key (λ unit. unit) (with_units ks)
+-- the model of a set's keys, as of a map's
+abbrev pub model_keys : {T A : Type 0} → (T → A) → List T → List (A × Unit {0})
+model_keys key ks = model_both key (λ unit. unit) (with_units ks)
 
--- what is told of the set's keys are the keys of what is told of the map
-pub units_told : {T A : Type 0} (key : T → A) (ks : List T) → keys_of (told_keys key ks) ≡ map key ks
-units_told key [] = refl
-units_told key (k ∷ ks) = ap (λ rest. key k ∷ rest) (units_told key ks)
+-- the model of the set's keys are the keys of the model of the map
+pub units_model : {T A : Type 0} (key : T → A) (ks : List T) → keys_of (model_keys key ks) ≡ map key ks
+units_model key [] = refl
+units_model key (k ∷ ks) = ap (λ rest. key k ∷ rest) (units_model key ks)
 
 -- what refuses the map refuses the set
 pub still_refused : {A B : Type 0} (f : A → B) (given : Result A EntryFault) (fault : DeserializeFault) → IsRefused given fault → IsRefused (result_map_both f (λ fault. fault) given) fault

@@ -3,6 +3,7 @@ pub mod Deserializing
 pub mod Maps
 pub mod RoundTrip
 pub mod Sets
+pub mod Sizes
 pub mod StdMaps
 pub mod Whole
 pub mod laws

@@ -21,26 +21,26 @@ last_wins order entries = fold (λ m e. insert_entry order m e.0 e.1) [] entries
 abbrev pub map_given : {A B : Type 0} → (A → A → Ordering) → List (Result (A × B) EntryFault) → Result (List (A × B)) EntryFault
 map_given order given = result_map_both (last_wins order) (λ fault. fault) (all given)
 
--- what is told of a map's entries
-abbrev pub told_both : {T U A B : Type 0} → (T → A) → (U → B) → List (T × U) → List (A × B)
-told_both key value entries = map (λ e. (key e.0, value e.1)) entries
+-- the model of a map's entries
+abbrev pub model_both : {T U A B : Type 0} → (T → A) → (U → B) → List (T × U) → List (A × B)
+model_both key value entries = map (λ e. (key e.0, value e.1)) entries
 
--- an entry is given, and put into the one map to give the other, as what is told of them says
+-- an entry is given, and put into the one map to give the other, by the models of them
 abbrev pub Puts : {T U A B : Type 0} → (A → A → Ordering) → (T → A) → (U → B) → Result (A × B) EntryFault → List (T × U) → List (T × U) → Type 0
-Puts {A} {B} order key value given old new = (e : A × B) × (given ≡ Ok e) × (told_both key value new ≡ insert_entry order (told_both key value old) e.0 e.1)
+Puts {A} {B} order key value given old new = (e : A × B) × (given ≡ Ok e) × (model_both key value new ≡ insert_entry order (model_both key value old) e.0 e.1)
 
--- an entry is given, and put behind the one list to give the other, as what is told of them says
+-- an entry is given, and put behind the one list to give the other, by the models of them
 abbrev pub Pushes : {T U A B : Type 0} → (T → A) → (U → B) → Result (A × B) EntryFault → List (T × U) → List (T × U) → Type 0
-Pushes {A} {B} key value given old new = (e : A × B) × (given ≡ Ok e) × (told_both key value new ≡ told_both key value old ++ e ∷ [])
+Pushes {A} {B} key value given old new = (e : A × B) × (given ≡ Ok e) × (model_both key value new ≡ model_both key value old ++ e ∷ [])
 
 module _ (K V : Kind) (E : ℕ) {A B : Type 0} (key : List ℕ → ℕ → Result A EntryFault) (value : List ℕ → ℕ → Result B EntryFault) where
   -- what an entry gives, by its node and number
   abbrev pub given_at : List ℕ → ℕ × ℕ → Result (A × B) EntryFault
   given_at b e = let s = layout_of K V E in both (key b (e.0 + key_at s e.1)) (value b (e.0 + value_at s e.1))
 
-  -- what the entries of the map at a position give, or the first fault
-  abbrev pub given_entries : List ℕ → ℕ → Result (List (A × B)) EntryFault
-  given_entries b at = all (map (given_at b) (list (map_tree (layout_of K V E) b at)))
+  -- the decoded entries of the map at a position, in order, or the first error
+  abbrev pub decoded_entries : List ℕ → ℕ → Result (List (A × B)) EntryFault
+  decoded_entries b at = all (map (given_at b) (list (map_tree (layout_of K V E) b at)))
 
   -- what the map at a position gives
   abbrev pub native_map : (A → A → Ordering) → List ℕ → ℕ → Result (List (A × B)) EntryFault

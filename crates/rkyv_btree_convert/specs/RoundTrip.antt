@@ -3,10 +3,10 @@ use Rattle.std.specs.Prelude.{◌≡◌, ℕ, List, map, Result, Ok}
 use Rattle.rkyv_btree_base.specs.EntryFault.{EntryFault}
 use Rattle.rkyv_btree_base.specs.Kind.{Kind}
 
-module _ {X H : Type 0} (kind : Kind) (meaning : X → kind.Value) (native : List ℕ → ℕ → Result H EntryFault) (told : X → H) where
-  -- wherever bytes mean what a value means, they give the value: all that is told of it
+module _ {X H : Type 0} (kind : Kind) (meaning : X → kind.Value) (native : List ℕ → ℕ → Result H EntryFault) (model : X → H) where
+  -- wherever bytes mean what a value means, they give the value: its model
   abbrev pub IsGivenBack : X → Type 0
-  IsGivenBack x = (b : List ℕ) (at : ℕ) → kind.read b at ≡ meaning x → native b at ≡ Ok (told x)
+  IsGivenBack x = (b : List ℕ) (at : ℕ) → kind.read b at ≡ meaning x → native b at ≡ Ok (model x)
 
   -- so it is with each value
   abbrev pub GivesBack : Type 0

@@ -7,11 +7,11 @@ use Rattle.rkyv_btree_base.specs.Refusal.TheVariants.{TooLong}
 use Rattle.rkyv_btree_base.specs.RefusalText.{refusal_text}
 use Rattle.rkyv_btree_base.specs.Whole.{IsArchiveOf, own_at}
 use Rattle.rkyv_btree_convert.specs.Deserializing.{IsRefused, deserialize_text}
-use Rattle.rkyv_btree_convert.specs.declared.whole.ArchiveFault.{ArchiveFault}
-use Rattle.rkyv_btree_convert.specs.declared.whole.ArchiveFault.TheVariants.{Refused, NotMade}
+use Rattle.rkyv_btree_convert.specs.declared.from_archive.FromArchiveFault.{FromArchiveFault}
+use Rattle.rkyv_btree_convert.specs.declared.from_archive.FromArchiveFault.TheVariants.{Refused, NotMade}
 
 -- what a fault says
-abbrev pub archive_text : ArchiveFault → List ℕ
+abbrev pub archive_text : FromArchiveFault → List ℕ
 archive_text (Refused refusal) = refusal_text refusal
 archive_text (NotMade fault) = deserialize_text fault
 
@@ -26,6 +26,6 @@ module _ (kind : Kind) (Refuses : List ℕ → ℕ → ℕ → ℕ → Refusal �
     refused : {e : Refusal} → length bytes ≤ 4294967295 → Refuses bytes 0 (own_at kind bytes) (own_at kind bytes) e → IsUnopened bytes e
 
   -- why no native value is made of them: they are no archive, or what the archive holds gives none
-  abbrev pub IsUnmade : {H : Type 0} → (List ℕ → ℕ → Result H EntryFault) → List ℕ → ArchiveFault → Type 0
+  abbrev pub IsUnmade : {H : Type 0} → (List ℕ → ℕ → Result H EntryFault) → List ℕ → FromArchiveFault → Type 0
   IsUnmade native bytes (Refused refusal) = IsUnopened bytes refusal × IsNoArchive kind bytes
   IsUnmade native bytes (NotMade fault) = ((v : kind.Value) × IsArchiveOf kind bytes v) × IsRefused (native bytes (own_at kind bytes)) fault

@@ -11,7 +11,7 @@ ghost use Rattle.rkyv_btree_base.specs.Text.{text_kind};
 ghost use Rattle.rkyv_btree_base.specs.EntryFault.{EntryFault};
 ghost use Rattle.rkyv_btree_convert.specs.Deserializing.{IsByMeaning, IsRefused, deserialize_text};
 
-use crate::native::DeserializeNative;
+use crate::deserialize_native::DeserializeNative;
 use rkyv_btree_base::check::Portable;
 use rkyv_btree_base::fault::EntryFault;
 use rkyv_btree_base::scalars::ArchivedNonZeroU32;
@@ -44,41 +44,45 @@ impl fmt::Display for DeserializeFault {
 
 impl Error for DeserializeFault {}
 
-/// An archived type of whose values native ones of type `T` are made.
+/// An archived type whose values are deserialized to native ones of type `T`.
 pub trait Deserialize<T: PartialEq>: Portable {
-    /// The type of what contracts say of a native value: of a text its bytes, of a number the number.
-    ghost Told: { Type 0 };
+    /// The type of models of native values, which contracts speak of: the bytes of a text, the number of a number.
+    ghost Model: { Type 0 };
 
-    /// What contracts say of a native value.
-    ghost told: { T → Told };
+    /// The model of a native value.
+    ghost model: { T → Model };
 
-    /// The order of what contracts say: that of the native values, if these are keys.
-    ghost told_order: { Told → Told → Ordering };
+    /// The order of models: that of the native values, if these are keys.
+    ghost model_order: { Model → Model → Ordering };
 
-    /// The result of deserializing the bytes at a position of a buffer: the `told` of the native value, or the entry's own
-    /// error.
-    ghost native: { List ℕ → ℕ → Result Told EntryFault };
+    /// The result of deserializing the bytes at a position of a buffer: the model of the native value, or the entry's own error.
+    ghost decoded: { List ℕ → ℕ → Result Model EntryFault };
 
-    /// Makes the native value of what the view reads. It takes memory from `alloc`.
+    /// Returns the native value of what the view reads, in memory of `alloc`.
+    ///
+    /// # Errors
+    ///
+    /// `DeserializeFault::Memory` if an allocation fails, and an entry's own error.
     fn deserialize(alloc: Global, view: &View<'_, Self>) -> Result<T, DeserializeFault>
-        ensures ok { IfOk result (λ value. native view.now.buf.now view.now.pos ≡ Ok (told value)) }
-        ensures refused { IfErr result (IsRefused (native view.now.buf.now view.now.pos)) };
+        ensures ok { IfOk result (λ value. decoded view.now.buf.now view.now.pos
+            ≡ Ok (model value)) }
+        ensures refused { IfErr result (IsRefused (decoded view.now.buf.now view.now.pos)) };
 
     // The native value depends on the meaning of the bytes alone, at any position.
-    ghost by_meaning: { IsByMeaning Self.kind native };
+    ghost by_meaning: { IsByMeaning Self.kind decoded };
 
-    // Values with the same `told` are equal. So `told` says all that `==` sees.
-    ghost told_whole: { (x y : T) → told x ≡ told y → T.eq x y ≡ true };
+    // Values with the same model are equal. So the model has all that `==` sees.
+    ghost model_whole: { (x y : T) → model x ≡ model y → T.eq x y ≡ true };
 }
 
 impl<T: DeserializeNative> Deserialize<T::Native> for T {
-    ghost Told = { T.Native };
+    ghost Model = { T.Native };
 
-    ghost told = { λ x. x };
+    ghost model = { λ x. x };
 
-    ghost told_order = { T.Native.cmp };
+    ghost model_order = { T.Native.cmp };
 
-    ghost native = { λ b p. Ok (T.read_native b p) };
+    ghost decoded = { λ b p. Ok (T.read_native b p) };
 
     /// Returns the native value. It never fails.
     fn deserialize(_alloc: Global, view: &View<'_, T>) -> Result<T::Native, DeserializeFault>
@@ -92,18 +96,18 @@ impl<T: DeserializeNative> Deserialize<T::Native> for T {
       reads = λ b at. ap Ok (T.reads.reads b at);
     } };
 
-    ghost told_whole = { λ x y same.
+    ghost model_whole = { λ x y same.
         ap (T.Native.eq x) (sym same) ∙ T.Native.Eq.laws.refl x };
 }
 
 impl Deserialize<NonZeroU32> for ArchivedNonZeroU32 {
-    ghost Told = { ℕ };
+    ghost Model = { ℕ };
 
-    ghost told = { non_zero_u32_get };
+    ghost model = { non_zero_u32_get };
 
-    ghost told_order = { nat_cmp };
+    ghost model_order = { nat_cmp };
 
-    ghost native = { λ b p. Ok (non_zero_kind.read b p) };
+    ghost decoded = { λ b p. Ok (non_zero_kind.read b p) };
 
     /// Returns the number. It never fails.
     fn deserialize(
@@ -119,17 +123,17 @@ impl Deserialize<NonZeroU32> for ArchivedNonZeroU32 {
 
     ghost by_meaning = { record { of_value = λ number. Ok number; reads = λ b at. refl } };
 
-    ghost told_whole = { λ x y same. Prim.search (rules, common_steps) };
+    ghost model_whole = { λ x y same. Prim.search (rules, common_steps) };
 }
 
 impl Deserialize<String> for ArchivedText {
-    ghost Told = { List ℕ };
+    ghost Model = { List ℕ };
 
-    ghost told = { string_bytes };
+    ghost model = { string_bytes };
 
-    ghost told_order = { slice_cmp nat_cmp };
+    ghost model_order = { slice_cmp nat_cmp };
 
-    ghost native = { λ b p. Ok (text_kind.read b p) };
+    ghost decoded = { λ b p. Ok (text_kind.read b p) };
 
     /// Returns a copy of the text. The only error is one of memory.
     fn deserialize(
@@ -144,5 +148,5 @@ impl Deserialize<String> for ArchivedText {
 
     ghost by_meaning = { record { of_value = λ text. Ok text; reads = λ b at. refl } };
 
-    ghost told_whole = { λ x y same. Prim.search (rules, common_steps) };
+    ghost model_whole = { λ x y same. Prim.search (rules, common_steps) };
 }

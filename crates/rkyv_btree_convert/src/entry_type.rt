@@ -1,5 +1,5 @@
 //! Bundles of the traits that keys and values of maps need.
-use crate::key::DeserializeKey;
+use crate::native_key::DeserializeKey;
 use rkyv_btree_base::check::CheckBytes;
 use rkyv_btree_base::numbers::{ArchivedU16, ArchivedU32, ArchivedU64};
 use rkyv_btree_base::scalars::{ArchivedChar, ArchivedNonZeroU32};

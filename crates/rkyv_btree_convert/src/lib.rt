@@ -2,12 +2,13 @@
 #![tactic(auto)]
 
 pub mod deserialize;
+pub mod deserialize_native;
 pub mod entry_type;
-pub mod key;
-pub mod map;
-pub mod native;
-mod pair;
+pub mod from_archive;
+pub mod native_key;
+pub mod native_map;
+mod native_pair;
+pub mod native_set;
 pub mod round_trip;
-pub mod set;
+pub mod sizes;
 pub mod std_maps;
-pub mod whole;

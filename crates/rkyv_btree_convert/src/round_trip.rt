@@ -10,12 +10,12 @@ ghost use Rattle.rkyv_btree_base.specs.Scalars.{bool_kind, char_kind, i16_kind, 
 ghost use Rattle.rkyv_btree_base.specs.Scalars.{u16_kind, u32_kind, u64_kind, u8_kind, unit_kind};
 ghost use Rattle.rkyv_btree_base.specs.Sets.{with_units};
 ghost use Rattle.rkyv_btree_base.specs.Text.{text_kind};
-ghost use Rattle.rkyv_btree_convert.specs.Maps.{native_map, told_both};
+ghost use Rattle.rkyv_btree_convert.specs.Maps.{native_map, model_both};
 ghost use Rattle.rkyv_btree_convert.specs.RoundTrip.{GivesBack, GivesItselfBack, IsGivenBack, both_mean};
 ghost use Rattle.rkyv_btree_convert.specs.Sets.{native_set};
 
 use crate::deserialize::Deserialize;
-use crate::key::DeserializeKey;
+use crate::native_key::DeserializeKey;
 use rkyv_btree_base::numbers::{ArchivedU16, ArchivedU32, ArchivedU64};
 use rkyv_btree_base::scalars::{ArchivedChar, ArchivedNonZeroU32};
 use rkyv_btree_base::signed::{ArchivedI16, ArchivedI32, ArchivedI64};
@@ -26,25 +26,25 @@ use std::num::NonZeroU32;
 
 /// What a number, a truth value, a character or a `()` means gives it back.
 pub fn natives_are_given_back()
-    ensures u8 { GivesItselfBack u8_kind ⟦<u8 as Deserialize<u8>>⟧.native }
-    ensures u16 { GivesItselfBack u16_kind ⟦<ArchivedU16 as Deserialize<u16>>⟧.native }
-    ensures u32 { GivesItselfBack u32_kind ⟦<ArchivedU32 as Deserialize<u32>>⟧.native }
-    ensures u64 { GivesItselfBack u64_kind ⟦<ArchivedU64 as Deserialize<u64>>⟧.native }
-    ensures i8 { GivesItselfBack i8_kind ⟦<i8 as Deserialize<i8>>⟧.native }
-    ensures i16 { GivesItselfBack i16_kind ⟦<ArchivedI16 as Deserialize<i16>>⟧.native }
-    ensures i32 { GivesItselfBack i32_kind ⟦<ArchivedI32 as Deserialize<i32>>⟧.native }
-    ensures i64 { GivesItselfBack i64_kind ⟦<ArchivedI64 as Deserialize<i64>>⟧.native }
-    ensures truths { GivesItselfBack bool_kind ⟦<bool as Deserialize<bool>>⟧.native }
-    ensures units { GivesItselfBack unit_kind ⟦<() as Deserialize<()>>⟧.native }
-    ensures chars { GivesItselfBack char_kind ⟦<ArchivedChar as Deserialize<char>>⟧.native }
+    ensures u8 { GivesItselfBack u8_kind ⟦<u8 as Deserialize<u8>>⟧.decoded }
+    ensures u16 { GivesItselfBack u16_kind ⟦<ArchivedU16 as Deserialize<u16>>⟧.decoded }
+    ensures u32 { GivesItselfBack u32_kind ⟦<ArchivedU32 as Deserialize<u32>>⟧.decoded }
+    ensures u64 { GivesItselfBack u64_kind ⟦<ArchivedU64 as Deserialize<u64>>⟧.decoded }
+    ensures i8 { GivesItselfBack i8_kind ⟦<i8 as Deserialize<i8>>⟧.decoded }
+    ensures i16 { GivesItselfBack i16_kind ⟦<ArchivedI16 as Deserialize<i16>>⟧.decoded }
+    ensures i32 { GivesItselfBack i32_kind ⟦<ArchivedI32 as Deserialize<i32>>⟧.decoded }
+    ensures i64 { GivesItselfBack i64_kind ⟦<ArchivedI64 as Deserialize<i64>>⟧.decoded }
+    ensures truths { GivesItselfBack bool_kind ⟦<bool as Deserialize<bool>>⟧.decoded }
+    ensures units { GivesItselfBack unit_kind ⟦<() as Deserialize<()>>⟧.decoded }
+    ensures chars { GivesItselfBack char_kind ⟦<ArchivedChar as Deserialize<char>>⟧.decoded }
     ensures non_zero { GivesBack non_zero_kind non_zero_u32_get
-        ⟦<ArchivedNonZeroU32 as Deserialize<NonZeroU32>>⟧.native non_zero_u32_get }
+        ⟦<ArchivedNonZeroU32 as Deserialize<NonZeroU32>>⟧.decoded non_zero_u32_get }
 {}
 
 /// What a text means gives the text back.
 pub fn texts_are_given_back()
     ensures { GivesBack text_kind (string_bytes {Z = Global})
-        ⟦<ArchivedText as Deserialize<String>>⟧.native string_bytes }
+        ⟦<ArchivedText as Deserialize<String>>⟧.decoded string_bytes }
 {}
 
 /// A pair is given back where its key and its value are.
@@ -55,10 +55,10 @@ pub fn pairs_are_given_back<
     V: Deserialize<U>,
 >()
     ensures { (key : T → K.kind.Value) (value : U → V.kind.Value) (pair : T × U)
-        → IsGivenBack K.kind key K.native K.told pair.0
-        → IsGivenBack V.kind value V.native V.told pair.1
+        → IsGivenBack K.kind key K.decoded K.model pair.0
+        → IsGivenBack V.kind value V.decoded V.model pair.1
         → IsGivenBack {X = T × U} (entry_kind K.kind V.kind) (λ e. (key e.0, value e.1))
-        ⟦<Entry<K, V> as Deserialize<(T, U)>>⟧.native (λ e. (K.told e.0, V.told e.1)) pair }
+        ⟦<Entry<K, V> as Deserialize<(T, U)>>⟧.decoded (λ e. (K.model e.0, V.model e.1)) pair }
 {}
 
 /// A map is given back, all its entries in order, where its keys ascend, as those of every native map do, and each key
@@ -72,18 +72,19 @@ pub fn maps_are_given_back<
 >()
     ensures { (key : T → K.kind.Value) (value : U → V.kind.Value) (entries : List (T × U))
         → IsStrictlySortedBy T.cmp (keys_of entries)
-        → All (λ e. IsGivenBack K.kind key K.native K.told e.0
-        × IsGivenBack V.kind value V.native V.told e.1) entries
+        → All (λ e. IsGivenBack K.kind key K.decoded K.model e.0
+        × IsGivenBack V.kind value V.decoded V.model e.1) entries
         → IsGivenBack (map_kind K.kind V.kind E) (both_mean key value)
-        (native_map K.kind V.kind E K.native V.native K.told_order)
-        (told_both K.told V.told) entries }
+        (native_map K.kind V.kind E K.decoded V.decoded K.model_order)
+        (model_both K.model V.model) entries }
 {}
 
 /// A set is given back, all its keys in order, where these ascend, as those of every native set do, and each key is.
 pub fn sets_are_given_back<T: Ord + Drop, K: DeserializeKey<T>, const E: usize>()
     ensures { (key : T → K.kind.Value) (keys : List T)
         → IsStrictlySortedBy T.cmp keys
-        → All (IsGivenBack K.kind key K.native K.told) keys
-        → IsGivenBack (map_kind K.kind unit_kind E) (λ ks. both_mean key (λ unit. unit) (with_units ks))
-        (native_set K.kind E K.native K.told_order) (map K.told) keys }
+        → All (IsGivenBack K.kind key K.decoded K.model) keys
+        → IsGivenBack (map_kind K.kind unit_kind E)
+        (λ ks. both_mean key (λ unit. unit) (with_units ks))
+        (native_set K.kind E K.decoded K.model_order) (map K.model) keys }
 {}

@@ -31,7 +31,7 @@ fn values_at<K: Portable, V: Portable, const E: usize>() -> u64
     round_up(keys_at::<K>() + E as u64 * u64::from(K::size()), V::align())
 }
 
-/// The alignment of a node's kind, keys and values.
+/// Returns the greatest alignment of a node's kind, keys and values.
 #[tactic(auto, unfolding(crate::specs::Layout::node_align))]
 pub fn node_align<K: Portable, V: Portable, const E: usize>() -> u32
     ensures value { result ≡ node_align (layout_of K.kind V.kind E) }
@@ -41,7 +41,7 @@ pub fn node_align<K: Portable, V: Portable, const E: usize>() -> u32
     K::align().max(V::align()).max(1)
 }
 
-/// The alignment of leaves and inner nodes.
+/// Returns the alignment of leaves and inner nodes.
 #[tactic(auto, unfolding(crate::specs::Layout::align))]
 pub fn align<K: Portable, V: Portable, const E: usize>() -> u32
     ensures value { result ≡ align (layout_of K.kind V.kind E) }
@@ -89,7 +89,7 @@ fn wide_inner_size<K: Portable, V: Portable, const E: usize>() -> u64
     round_up(tail_at::<K, V, E>() + 4 * E as u64 + 4, align::<K, V, E>())
 }
 
-/// The test for what every call over `K`, `V` and `E` asks: both types fit, `E` is at least 1, and an inner node
+/// Returns whether what every call over `K`, `V` and `E` asks: both types fit, `E` is at least 1, and an inner node
 /// has at most 4294967295 bytes.
 #[tactic(auto, unfolding(crate::specs::Layout::are_fitting))]
 pub fn fits<K: Portable, V: Portable, const E: usize>() -> bool
@@ -110,7 +110,7 @@ pub fn fits<K: Portable, V: Portable, const E: usize>() -> bool
     wide_inner_size::<K, V, E>() <= u64::from(u32::MAX)
 }
 
-/// Where key `i` stands.
+/// Returns the offset of key `i` in its node.
 #[tactic(auto, unfolding(crate::specs::Layout::keys_at))]
 pub fn key_at<K: Portable, V: Portable, const E: usize>(i: usize) -> u32
     requires fitting { IsTrue (are_fitting K.kind V.kind E) }
@@ -121,7 +121,7 @@ pub fn key_at<K: Portable, V: Portable, const E: usize>(i: usize) -> u32
     (keys_at::<K>() + i as u64 * u64::from(K::size())) as u32
 }
 
-/// Where value `i` stands.
+/// Returns the offset of value `i` in its node.
 pub fn value_at<K: Portable, V: Portable, const E: usize>(i: usize) -> u32
     requires fitting { IsTrue (are_fitting K.kind V.kind E) }
     requires within { i ≤ E }
@@ -131,7 +131,7 @@ pub fn value_at<K: Portable, V: Portable, const E: usize>(i: usize) -> u32
     (values_at::<K, V, E>() + i as u64 * u64::from(V::size())) as u32
 }
 
-/// Where a leaf's length stands.
+/// Returns the offset of a leaf's length.
 pub fn len_at<K: Portable, V: Portable, const E: usize>() -> u32
     requires { IsTrue (are_fitting K.kind V.kind E) }
     ensures value { result ≡ len_at (layout_of K.kind V.kind E) }
@@ -140,7 +140,7 @@ pub fn len_at<K: Portable, V: Portable, const E: usize>() -> u32
     tail_at::<K, V, E>() as u32
 }
 
-/// The size of a leaf.
+/// Returns the size of a leaf.
 #[tactic(auto, unfolding(crate::specs::Layout::leaf_size))]
 pub fn leaf_size<K: Portable, V: Portable, const E: usize>() -> u32
     requires { IsTrue (are_fitting K.kind V.kind E) }
@@ -150,7 +150,7 @@ pub fn leaf_size<K: Portable, V: Portable, const E: usize>() -> u32
     round_up(u64::from(len_at::<K, V, E>()) + 4, align::<K, V, E>()) as u32
 }
 
-/// Where an inner node's pointer before entry `i` stands; at `E` it is `greater_at`.
+/// Returns the offset of an inner node's pointer before entry `i`. At `E` it is `greater_at`.
 pub fn lesser_at<K: Portable, V: Portable, const E: usize>(i: usize) -> u32
     requires fitting { IsTrue (are_fitting K.kind V.kind E) }
     requires within { i ≤ E }
@@ -160,7 +160,7 @@ pub fn lesser_at<K: Portable, V: Portable, const E: usize>(i: usize) -> u32
     tail_at::<K, V, E>() as u32 + 4 * i as u32
 }
 
-/// Where an inner node's pointer behind its last entry stands.
+/// Returns the offset of an inner node's last pointer.
 pub fn greater_at<K: Portable, V: Portable, const E: usize>() -> u32
     requires { IsTrue (are_fitting K.kind V.kind E) }
     ensures { result ≡ pointer_at (layout_of K.kind V.kind E) E }
@@ -168,7 +168,7 @@ pub fn greater_at<K: Portable, V: Portable, const E: usize>() -> u32
     lesser_at::<K, V, E>(E)
 }
 
-/// The size of an inner node.
+/// Returns the size of an inner node.
 pub fn inner_size<K: Portable, V: Portable, const E: usize>() -> u32
     requires { IsTrue (are_fitting K.kind V.kind E) }
     ensures value { result ≡ inner_size (layout_of K.kind V.kind E) }

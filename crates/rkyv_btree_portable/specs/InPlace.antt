@@ -29,7 +29,7 @@ pub record NativeForm (X : Type 0) : Type 1 where
 pub record IsFaithful {X : Type 0} (form : NativeForm X) : Type 0 where
   pub lawful : IsLawful (plain_kind form.plain)
   pub is_own : (x : X) → IsOwn (plain_kind form.plain) (form.own x)
-  pub told : (x : X) → form.IsIn x → value_of (plain_kind form.plain) (form.own x) ≡ form.meaning x
+  pub means : (x : X) → form.IsIn x → value_of (plain_kind form.plain) (form.own x) ≡ form.meaning x
   pub one_own : (x y : X) → form.meaning x ≡ form.meaning y → form.own x ≡ form.own y
 
 -- values that lie in their own bytes alone: these leave the window as it was, and mean the value wherever they stand
@@ -37,31 +37,31 @@ pub record LiesAlone (kind : Kind) : Type 0 where
   pub unmoved : (b : List ℕ) (lo hi at left : ℕ) (v : kind.Value) → kind.Means b lo hi at left v → left ≡ lo
   pub own : (b : List ℕ) (lo hi at left : ℕ) (v : kind.Value) → kind.Means b lo hi at left v → IsOwn kind (bytes_at b at kind.size)
 
--- how native values are written in place: their own bytes, what is told of a value, and what own bytes tell
+-- how native values are written in place: their own bytes, the model of a value, and the model that own bytes have
 pub record InPlaceForm (X : Type 0) : Type 1 where
-  pub Told : Type 0
-  pub told : X → Told
+  pub Model : Type 0
+  pub model : X → Model
   pub own : X → List ℕ
-  pub tells : List ℕ → Told
+  pub model_of_bytes : List ℕ → Model
 
--- what such a form owes: the values lie in their own bytes alone, the own bytes of each native value mean one, and what
--- own bytes tell is what they mean
+-- what such a form owes: the values lie in their own bytes alone, the own bytes of each native value mean one, and
+-- the models of own bytes agree exactly where their meanings do
 pub record IsInPlace (kind : Kind) {X : Type 0} (form : InPlaceForm X) : Type 0 where
   pub alone : LiesAlone kind
   pub written : (x : X) → IsOwn kind (form.own x)
-  pub told : IsTrue kind.is_fitting → (b c : List ℕ) → IsOwn kind b → IsOwn kind c → form.tells b ≡ form.tells c ↔ (value_of kind b ≡ value_of kind c)
+  pub same_model : IsTrue kind.is_fitting → (b c : List ℕ) → IsOwn kind b → IsOwn kind c → form.model_of_bytes b ≡ form.model_of_bytes c ↔ (value_of kind b ≡ value_of kind c)
 
 -- the form of a native type
 abbrev pub scalar_form : {X : Type 0} → NativeForm X → InPlaceForm X
-scalar_form form = record { Told = form.plain.Value; told = form.meaning; own = form.own; tells = form.plain.value }
+scalar_form form = record { Model = form.plain.Value; model = form.meaning; own = form.own; model_of_bytes = form.plain.value }
 
 -- that of pairs, as entries: the key, then the value at its place, and zeros wherever nothing stands
 abbrev pub pair_form : {X Y : Type 0} → Kind → Kind → InPlaceForm X → InPlaceForm Y → InPlaceForm (X × Y)
 pair_form K V key value = record {
-  Told = key.Told × value.Told;
-  told = λ x. (key.told x.0, value.told x.1);
+  Model = key.Model × value.Model;
+  model = λ x. (key.model x.0, value.model x.1);
   own = λ x. filled (filled (key.own x.0) (value_offset K V) ++ value.own x.1) (entry_size K V);
-  tells = λ b. (key.tells (bytes_at b 0 K.size), value.tells (bytes_at b (value_offset K V) V.size));
+  model_of_bytes = λ b. (key.model_of_bytes (bytes_at b 0 K.size), value.model_of_bytes (bytes_at b (value_offset K V) V.size));
 }
 
 -- the own bytes of an entry's key and value

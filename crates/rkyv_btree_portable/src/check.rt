@@ -92,7 +92,11 @@ pub trait CheckBytes: Portable {
     ghost refusals: { IsTrue Self.kind.is_fitting → AreRefusals Self.kind Refuses };
 }
 
-/// The test that `size` own bytes at position `pos` lie in the buffer, at a multiple of `align`.
+/// Tests that `size` own bytes at position `pos` are in the buffer, at a multiple of `align`.
+///
+/// # Errors
+///
+/// `TooLong`, `OutOfRange` or `Misaligned`, whichever comes first in this order.
 pub fn check_own_bytes(buf: &[u8], pos: u32, size: u32, align: u32) -> Result<(), Refusal>
     requires { 0 < align }
     ensures ok { IfOk result (λ _. HasPlace buf.now size align pos) }
@@ -112,7 +116,11 @@ pub fn check_own_bytes(buf: &[u8], pos: u32, size: u32, align: u32) -> Result<()
     Ok(())
 }
 
-/// The same test for a `T`.
+/// Tests that the own bytes of a `T` at position `pos` are in the buffer, at a multiple of its alignment.
+///
+/// # Errors
+///
+/// Those of `check_own_bytes`.
 pub fn check_place<T: Portable>(buf: &[u8], pos: u32) -> Result<(), Refusal>
     requires { IsTrue T.kind.is_fitting }
     ensures ok { IfOk result (λ _. HasPlace buf.now T.kind.size T.kind.align pos) }
@@ -123,12 +131,12 @@ pub fn check_place<T: Portable>(buf: &[u8], pos: u32) -> Result<(), Refusal>
     check_own_bytes(buf, pos, T::size(), T::align())
 }
 
-/// The check of a value that lies in its own bytes alone, which leaves the window as it was.
-pub(crate) fn check_in_place<T: Scalar>(
-    buf: &[u8],
-    pos: u32,
-    window: Window,
-) -> Result<Window, Refusal>
+/// Validates a value without outlying bytes, and returns the window that it was given.
+///
+/// # Errors
+///
+/// Those of `check_place`, and `BadEntry` if the bytes are no value of the type.
+pub fn check_in_place<T: Scalar>(buf: &[u8], pos: u32, window: Window) -> Result<Window, Refusal>
     requires ordered { window.lo ≤ window.hi }
     requires before { window.hi ≤ pos }
     ensures ok { IfOk result (λ left.
@@ -147,7 +155,12 @@ pub(crate) fn check_in_place<T: Scalar>(
     }
 }
 
-/// A key or value at position `pos`, whose outlying bytes may lie from `lo` up to `hi`: the window's start that it leaves.
+/// Validates a key or value at position `pos`, whose outlying bytes may lie from `lo` up to `hi`, and returns the start of the
+/// window that it leaves.
+///
+/// # Errors
+///
+/// `BadEntry` at `pos` if the bytes mean no value.
 pub fn check_part<T: CheckBytes>(buf: &[u8], pos: u32, lo: u32, hi: u32) -> Result<u32, Refusal>
     requires fitting { IsTrue T.kind.is_fitting }
     requires ordered { lo ≤ hi }

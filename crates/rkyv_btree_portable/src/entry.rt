@@ -29,7 +29,7 @@ fn wide_value_offset<K: Portable, V: Portable>() -> u64
     round_up(u64::from(K::size()), V::align())
 }
 
-/// Where the value stands, counted from the key.
+/// Returns the offset of the value in an entry.
 pub fn value_offset<K: Portable, V: Portable>() -> u32
     requires { IsTrue (entry_kind K.kind V.kind).is_fitting }
     ensures value { result ≡ value_offset K.kind V.kind }

@@ -20,14 +20,14 @@ pub trait InPlace: CheckBytes {
     fn read(bytes: &[u8]) -> Self::Native
         requires fitting { IsTrue Self.kind.is_fitting }
         requires own { IsOwn Self.kind bytes.now }
-        ensures { in_place.told result ≡ in_place.tells bytes.now };
+        ensures { in_place.model result ≡ in_place.model_of_bytes bytes.now };
 
     /// Writes the own bytes of a value. What is read of them is the value again.
     fn write(value: Self::Native, bytes: &mut [u8])
         requires fitting { IsTrue Self.kind.is_fitting }
         requires size { length bytes.old ≡ Self.kind.size }
         ensures bytes { bytes.new ≡ in_place.own value }
-        ensures told { in_place.tells (in_place.own value) ≡ in_place.told value };
+        ensures model { in_place.model_of_bytes (in_place.own value) ≡ in_place.model value };
 
     ghost is_in_place: { IsInPlace Self.kind in_place };
 }

@@ -2,7 +2,7 @@
 ghost use Rattle.std.specs.Prelude.{◌≡◌, ◌+◌, ◌≤◌, ◌<◌, ◌^◌};
 ghost use Rattle.rkyv_btree_portable.specs.Rounding.{round_up};
 
-/// The least multiple of `align` that is at least `n`.
+/// Returns the least multiple of `align` that is at least `n`.
 #[tactic(auto, using(crate::specs::laws::Rounding::rounding), unfolding(crate::specs::Rounding::round_up))]
 pub fn round_up(n: u64, align: u32) -> u64
     requires positive { 0 < align }

@@ -31,7 +31,7 @@ impl Portable for ArchivedText {
     ghost laws = { text_laws };
 }
 
-/// Where the bytes of the text at `pos` stand, or `None` if they don't lie in `window`.
+/// Returns where the bytes of the text at `pos` are, or `None` if they aren't in `window`.
 pub fn text_range(buf: &[u8], pos: u32, window: Window) -> Option<Window>
     requires short { length buf.now ≤ 4294967295 }
     requires room { pos + 8 ≤ length buf.now }

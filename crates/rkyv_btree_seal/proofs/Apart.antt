@@ -10,7 +10,7 @@ use Rattle.rkyv_btree_base.specs.Tree.{Tree, leaf, inner, Row, last, step, Child
 use Rattle.rkyv_btree_base.proofs.Local.{key_room, value_room, child_from, row_from}
 use Rattle.rkyv_btree_base.proofs.Sizes.{follow, sound_of}
 use Rattle.rkyv_btree_seal.specs.Apart.{size_at, ValueIsApart, ValuesAreApart}
-use Rattle.rkyv_btree_seal.specs.Put.{entry_places}
+use Rattle.rkyv_btree_walk.specs.EntryPlaces.{entry_places}
 use Rattle.rkyv_btree_seal.proofs.Pairs.{Each, Pairs, each_more, each_append, pairs_append, each_get, pairs_get}
 
 module _ (K V : Kind) (E : ℕ) (b : List ℕ) where

@@ -13,12 +13,13 @@ use Rattle.rkyv_btree_walk.specs.mirror.Range.{is_stop}
 use Rattle.rkyv_btree_walk.proofs.BelowKept.{walk_kept, walk_rest_kept, range_rest_kept}
 use Rattle.rkyv_btree_walk.proofs.Props.{places_had}
 use Rattle.rkyv_btree_walk.proofs.Ranges.{stop_same, stop_at}
-use Rattle.rkyv_btree_seal.specs.Along.{walk_left, range_left, IsWalk, IsRangeWalk, IsAmong, Takes, lent_list}
-use Rattle.rkyv_btree_seal.specs.Places.{place_of}
-use Rattle.rkyv_btree_seal.specs.Put.{entry_places}
-use Rattle.rkyv_btree_seal.specs.declared.place.EntryPlace.{EntryPlace}
-use Rattle.rkyv_btree_seal.specs.declared.range_walk.RangeWalk.{RangeWalk}
-use Rattle.rkyv_btree_seal.specs.declared.walk.Walk.{Walk}
+use Rattle.rkyv_btree_seal.specs.Along.{IsAmong, lent_list}
+use Rattle.rkyv_btree_walk.specs.mirror.Along.{walk_left, range_left, IsWalk, IsRangeWalk, Takes}
+use Rattle.rkyv_btree_walk.specs.EntryPlaces.{place_of}
+use Rattle.rkyv_btree_walk.specs.EntryPlaces.{entry_places}
+use Rattle.rkyv_btree_walk.specs.declared.entry_place.EntryPlace.{EntryPlace}
+use Rattle.rkyv_btree_walk.specs.declared.range_walk.RangeWalk.{RangeWalk}
+use Rattle.rkyv_btree_walk.specs.declared.entry_walk.Walk.{Walk}
 
 abbrev IsListed : ℕ × ℕ → List (ℕ × ℕ) → Type 0
 IsListed e all = (i : ℕ) × (slice_get all i ≡ Some e)

@@ -14,7 +14,8 @@ use Rattle.rkyv_btree_base.proofs.MapLaws.{map_laws}
 use Rattle.rkyv_btree_base.proofs.Sizes.{room_of, sound_of}
 use Rattle.rkyv_btree_seal.specs.Alone.{StandsAlone}
 use Rattle.rkyv_btree_seal.specs.Places.{IsEntry, PutsEntry}
-use Rattle.rkyv_btree_seal.specs.Put.{key_place, value_place, entry_places, put_bytes, put_value, WritesEntry}
+use Rattle.rkyv_btree_seal.specs.Put.{key_place, value_place, put_bytes, put_value, WritesEntry}
+use Rattle.rkyv_btree_walk.specs.EntryPlaces.{entry_places}
 use Rattle.rkyv_btree_seal.proofs.Maps.{writes_values}
 use Rattle.rkyv_btree_seal.proofs.Standing.{entry_stands}
 

@@ -8,8 +8,9 @@ use Rattle.rkyv_btree_base.specs.Read.{entry_at, map_tree}
 use Rattle.rkyv_btree_walk.specs.Search.{probe}
 use Rattle.rkyv_btree_walk.specs.mirror.Search.{answers_at}
 use Rattle.rkyv_btree_walk.proofs.Hits.{probe_answers, probe_is_entry}
-use Rattle.rkyv_btree_seal.specs.Places.{FindsPlace, IsEntry, place_of}
-use Rattle.rkyv_btree_seal.specs.declared.place.EntryPlace.{EntryPlace}
+use Rattle.rkyv_btree_seal.specs.Places.{FindsPlace, IsEntry}
+use Rattle.rkyv_btree_walk.specs.EntryPlaces.{place_of}
+use Rattle.rkyv_btree_walk.specs.declared.entry_place.EntryPlace.{EntryPlace}
 
 module _ (K V : Kind) (E : ℕ) (b : List ℕ) (at : ℕ) (answer : K.Value → Ordering) where
   entry_found : (found : Option (ℕ × ℕ)) → found ≡ probe (answers_at K V E b answer) (map_tree (layout_of K V E) b at) → IfSome found (IsEntry K V E b at)

@@ -14,7 +14,7 @@ use Rattle.rkyv_btree_seal.specs.Calls.{CallsEntry}
 use Rattle.rkyv_btree_seal.specs.Places.{PutsEntry}
 use Rattle.rkyv_btree_seal.specs.Put.{put_bytes, key_place, value_place}
 use Rattle.rkyv_btree_seal.specs.Lent.{ShowsKey, HoldsValue, CallsAt, MayCall}
-use Rattle.rkyv_btree_seal.specs.declared.lent.LentKey.{LentKey}
+use Rattle.rkyv_btree_seal.specs.declared.lent_key.LentKey.{LentKey}
 use Rattle.rkyv_btree_seal.specs.declared.seal.Seal.{Seal}
 
 same_front : (b : List ℕ) (value from to : ℕ) → value ≤ length b → to ≤ value → SameBytes b (take value b) from to

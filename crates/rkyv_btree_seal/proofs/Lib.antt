@@ -10,5 +10,6 @@ pub mod Lending
 pub mod Standing
 pub mod Entered
 pub mod Found
+pub mod Setting
 pub mod Cursors
 pub mod Visiting

@@ -14,7 +14,8 @@ use Rattle.rkyv_btree_base.proofs.Readings.{map_is_read}
 use Rattle.rkyv_btree_base.proofs.Root.{spelled_within}
 use Rattle.rkyv_btree_base.proofs.Unique.{map_unique}
 use Rattle.rkyv_btree_base.specs.InPlace.{LiesAlone}
-use Rattle.rkyv_btree_seal.specs.Put.{put_bytes, put_value, value_place, entry_places, WritesValues}
+use Rattle.rkyv_btree_seal.specs.Put.{put_bytes, put_value, value_place, WritesValues}
+use Rattle.rkyv_btree_walk.specs.EntryPlaces.{entry_places}
 use Rattle.rkyv_btree_seal.proofs.Kept.{own_value}
 use Rattle.rkyv_btree_seal.proofs.Puts.{length-put_value, get_put, Wrote, wrote, wrote_none, wrote_own, later}
 use Rattle.rkyv_btree_seal.proofs.Trees.{tree_put}

@@ -17,7 +17,7 @@ use Rattle.rkyv_btree_base.proofs.MapLaws.{map_length}
 use Rattle.rkyv_btree_walk.proofs.Nodes.{tree_node, child_stands}
 use Rattle.rkyv_btree_walk.proofs.Paths.{leaf_run, inner_run}
 use Rattle.rkyv_btree_walk.proofs.Roots.{root_stands}
-use Rattle.rkyv_btree_seal.specs.Put.{entry_places}
+use Rattle.rkyv_btree_walk.specs.EntryPlaces.{entry_places}
 
 all_put : {X : Type 0} (P : X → Type 0) (x : X) (xs : List X) → P x → All P xs → All P (x ∷ xs)
 all_put P x xs first rest zero d within = first

@@ -14,9 +14,10 @@ use Rattle.rkyv_btree_seal.proofs.Cursors.{at_seam}
 use Rattle.rkyv_btree_seal.proofs.Entered.{entry_means}
 use Rattle.rkyv_btree_seal.specs.Calls.{CallsEntry, MayCallAt}
 use Rattle.rkyv_btree_seal.specs.Places.{IsNumber}
-use Rattle.rkyv_btree_seal.specs.Put.{entry_places, key_place, value_place, put_value}
+use Rattle.rkyv_btree_seal.specs.Put.{key_place, value_place, put_value}
+use Rattle.rkyv_btree_walk.specs.EntryPlaces.{entry_places}
 use Rattle.rkyv_btree_seal.specs.Visits.{Visits, MayVisit, Goes}
-use Rattle.rkyv_btree_seal.specs.declared.lent.LentKey.{LentKey}
+use Rattle.rkyv_btree_seal.specs.declared.lent_key.LentKey.{LentKey}
 use Rattle.rkyv_btree_seal.specs.declared.seal.Seal.{Seal}
 
 get_drop : {X : Type 0} (xs : List X) (i : ℕ) → slice_get (drop i xs) 0 ≡ slice_get xs i

@@ -4,7 +4,8 @@ use Rattle.rkyv_btree_base.specs.Claims.{Range, Apart}
 use Rattle.rkyv_btree_base.specs.Kind.{Kind}
 use Rattle.rkyv_btree_base.specs.Layout.{NodeLayout, layout_of, len_at, leaf_size, inner_size}
 use Rattle.rkyv_btree_base.specs.Spells.{Accepted}
-use Rattle.rkyv_btree_seal.specs.Put.{key_place, value_place, entry_places}
+use Rattle.rkyv_btree_seal.specs.Put.{key_place, value_place}
+use Rattle.rkyv_btree_walk.specs.EntryPlaces.{entry_places}
 
 -- the size of the node at a position
 abbrev pub size_at : NodeLayout → List ℕ → ℕ → ℕ

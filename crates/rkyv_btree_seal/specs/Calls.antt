@@ -9,7 +9,7 @@ use Rattle.rkyv_btree_base.specs.Read.{read_map}
 use Rattle.rkyv_btree_seal.specs.Places.{FindsPlace, PutsEntry}
 use Rattle.rkyv_btree_seal.specs.Put.{key_place, value_place}
 use Rattle.rkyv_btree_seal.specs.Lent.{CallsAt, MayCall}
-use Rattle.rkyv_btree_seal.specs.declared.lent.LentKey.{LentKey}
+use Rattle.rkyv_btree_seal.specs.declared.lent_key.LentKey.{LentKey}
 use Rattle.rkyv_btree_seal.specs.declared.seal.Seal.{Seal}
 
 module _ {X Y R : Type 0} (K V : Kind) (E : ℕ) (b : List ℕ) where

@@ -1,36 +1,43 @@
--- Where a cursor along the entries of a map stands. Entries are given by their places.
+-- The current entry of a cursor along the entries of a map, and the entries that remain. Entries are given by their places.
 use Rattle.std.specs.Prelude.{◌≡◌, ℕ, List, [], ◌∷◌, map, Option, Some, None, Bool, true, false}
+use Rattle.std.specs.Borrow.{MutBor}
 use Rattle.std.specs.Option.{option_map}
 use Rattle.rkyv_btree_base.specs.Layout.{layout_of}
 use Rattle.rkyv_btree_base.specs.Read.{entry_at}
 use Rattle.rkyv_btree_portable.specs.declared.check.Portable
-use Rattle.rkyv_btree_seal.specs.Along.{walk_left, range_left}
-use Rattle.rkyv_btree_seal.specs.Places.{place_of}
+use Rattle.rkyv_btree_walk.specs.mirror.Along.{walk_left, range_left}
+use Rattle.rkyv_btree_walk.specs.EntryPlaces.{place_of}
 use Rattle.rkyv_btree_seal.specs.declared.cursor.IterSeal.{IterSeal}
 use Rattle.rkyv_btree_seal.specs.declared.range_cursor.RangeSeal.{RangeSeal}
-use Rattle.rkyv_btree_walk.specs.declared.map.ArchivedMap
+use Rattle.rkyv_btree_walk.specs.declared.archived_map.ArchivedMap
 
--- a step lends the first of the entries that were left; or none was left, and none is lent
-abbrev pub Lends : List (ℕ × ℕ) → List (ℕ × ℕ) → Option (ℕ × ℕ) → Bool → Type 0
-Lends old new lent true = (e : ℕ × ℕ) × (old ≡ e ∷ new) × (lent ≡ Some e)
-Lends old new lent false = (old ≡ []) × (new ≡ []) × (lent ≡ None)
+-- a cursor keeps its buffer with all its bytes, and the position of its map
+pub record SameBuffer (old : MutBor (List ℕ)) (from : ℕ) (new : MutBor (List ℕ)) (to : ℕ) : Type 0 where
+  pub same_reference : new.ghost_name ≡ old.ghost_name
+  pub bytes : new.now ≡ old.now
+  pub position : to ≡ from
+
+-- the first entry that remained is the current one; or none remained, and there is none
+abbrev pub Advances : List (ℕ × ℕ) → List (ℕ × ℕ) → Option (ℕ × ℕ) → Bool → Type 0
+Advances old new lent true = (e : ℕ × ℕ) × (old ≡ e ∷ new) × (lent ≡ Some e)
+Advances old new lent false = (old ≡ []) × (new ≡ []) × (lent ≡ None)
 
 module _ {M K V : Type 0} {g : ArchivedMap.Ghosts M K V} {m : Portable.Ghosts M} {k : Portable.Ghosts K} {v : Portable.Ghosts V} where
-  -- the entries that a cursor has left
-  abbrev pub places_left : IterSeal M K V g m k v → List (ℕ × ℕ)
-  places_left s = walk_left (layout_of k.kind v.kind g.E) s.buf.now s.walk
+  -- the entries that remain of a cursor
+  abbrev pub remaining_places : IterSeal M K V g m k v → List (ℕ × ℕ)
+  remaining_places s = walk_left (layout_of k.kind v.kind g.E) s.buf.now s.walk
 
-  -- the entry that it lends, if it does
-  abbrev pub lent_place : IterSeal M K V g m k v → Option (ℕ × ℕ)
-  lent_place s = option_map place_of s.lent
+  -- its current entry, if it has one
+  abbrev pub current_place : IterSeal M K V g m k v → Option (ℕ × ℕ)
+  current_place s = option_map place_of s.lent
 
-  -- the entries that a cursor within bounds has left, and what they mean
-  abbrev pub range_places_left : RangeSeal M K V g m k v → List (ℕ × ℕ)
-  range_places_left s = range_left (layout_of k.kind v.kind g.E) s.buf.now s.walk
+  -- the entries that remain of a cursor within bounds, and what they mean
+  abbrev pub range_remaining_places : RangeSeal M K V g m k v → List (ℕ × ℕ)
+  range_remaining_places s = range_left (layout_of k.kind v.kind g.E) s.buf.now s.walk
 
-  abbrev pub range_entries_left : RangeSeal M K V g m k v → List (k.kind.Value × v.kind.Value)
-  range_entries_left s = map (entry_at k.kind v.kind g.E s.buf.now) (range_places_left s)
+  abbrev pub range_remaining_entries : RangeSeal M K V g m k v → List (k.kind.Value × v.kind.Value)
+  range_remaining_entries s = map (entry_at k.kind v.kind g.E s.buf.now) (range_remaining_places s)
 
-  -- the entry that it lends, if it does
-  abbrev pub range_lent_place : RangeSeal M K V g m k v → Option (ℕ × ℕ)
-  range_lent_place s = option_map place_of s.lent
+  -- its current entry, if it has one
+  abbrev pub range_current_place : RangeSeal M K V g m k v → Option (ℕ × ℕ)
+  range_current_place s = option_map place_of s.lent

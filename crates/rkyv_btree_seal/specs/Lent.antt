@@ -7,7 +7,7 @@ use Rattle.rkyv_btree_base.specs.Kind.{Kind}
 use Rattle.rkyv_btree_base.specs.Views.{stands}
 use Rattle.rkyv_btree_seal.specs.Alone.{StandsAlone}
 use Rattle.rkyv_btree_seal.specs.Put.{put_bytes}
-use Rattle.rkyv_btree_seal.specs.declared.lent.LentKey.{LentKey}
+use Rattle.rkyv_btree_seal.specs.declared.lent_key.LentKey.{LentKey}
 use Rattle.rkyv_btree_seal.specs.declared.seal.Seal.{Seal}
 
 -- a lent key is this value

@@ -2,19 +2,17 @@
 use Rattle.std.specs.Prelude.{◌≡◌, ℕ, List, Option, Some, IfSome, MatchOption, Bool, is_some, slice_get}
 use Rattle.std.specs.Option.{option_map}
 use Rattle.std.specs.declared.cmp.Ordering.{Ordering}
+use Rattle.std.specs.declared.cmp.Ordering.TheVariants.{Equal}
 use Rattle.rkyv_btree_base.specs.Bytes.{bytes_at}
 use Rattle.rkyv_btree_base.specs.InPlace.{value_of}
 use Rattle.rkyv_btree_base.specs.Kind.{Kind}
 use Rattle.rkyv_btree_base.specs.Layout.{layout_of}
 use Rattle.rkyv_btree_base.specs.Read.{entry_at, map_tree, read_map}
 use Rattle.rkyv_btree_base.specs.Spells.{Accepted}
-use Rattle.rkyv_btree_seal.specs.Put.{put_bytes, put_value, key_place, value_place, entry_places}
-use Rattle.rkyv_btree_seal.specs.declared.place.EntryPlace.{EntryPlace}
+use Rattle.rkyv_btree_seal.specs.Put.{put_bytes, put_value, key_place, value_place}
+use Rattle.rkyv_btree_walk.specs.EntryPlaces.{entry_places}
+use Rattle.rkyv_btree_walk.specs.declared.entry_place.EntryPlace.{EntryPlace}
 use Rattle.rkyv_btree_walk.specs.Search.{Answers, probe}
-
--- the node of an entry, and its number there
-abbrev pub place_of : EntryPlace → ℕ × ℕ
-place_of p = (p.node, p.index)
 
 module _ (K V : Kind) (E : ℕ) (b : List ℕ) (at : ℕ) where
   -- it is entry i of the map
@@ -48,9 +46,15 @@ module _ (K V : Kind) (E : ℕ) (b : List ℕ) (at : ℕ) where
         → Accepted K V E c lo hi at left (put_value m i (value_of V own))
     pub tree : map_tree (layout_of K V E) c at ≡ map_tree (layout_of K V E) b at
 
+  -- in the list, the value of one entry with a key that gives Equal is another one
+  abbrev pub ReplacesAtEqual : (K.Value → Ordering) → V.Value → List (K.Value × V.Value) → Type 0
+  ReplacesAtEqual answer value new =
+      (i : ℕ) × (e : K.Value × V.Value) × (slice_get (read_map K V E b at) i ≡ Some e) × (answer e.0 ≡ Equal)
+      × (new ≡ put_value (read_map K V E b at) i value)
+
   -- a search for an entry, and such a write over its value, if it is there
   pub record SetsFound (answer : K.Value → Ordering) (own : List ℕ) (c : List ℕ) (result : Bool) : Type 0 where
     pub found : Option (ℕ × ℕ)
     pub finds : FindsPlace answer found
-    pub told : result ≡ is_some found
+    pub has_found : result ≡ is_some found
     pub puts : MatchOption found (c ≡ b) (λ e. PutsEntry e own c)

@@ -8,7 +8,7 @@ use Rattle.rkyv_btree_base.specs.Kind.{Kind}
 use Rattle.rkyv_btree_base.specs.Layout.{layout_of, key_at, value_at}
 use Rattle.rkyv_btree_base.specs.Read.{map_tree}
 use Rattle.rkyv_btree_base.specs.Spells.{Accepted}
-use Rattle.rkyv_btree_base.specs.Tree.{list}
+use Rattle.rkyv_btree_walk.specs.EntryPlaces.{entry_places}
 
 -- the buffer with these bytes in place of its own from a position on
 abbrev pub put_bytes : List ℕ → ℕ → List ℕ → List ℕ
@@ -27,10 +27,6 @@ module _ (K V : Kind) (E : ℕ) where
 
   abbrev pub value_place : ℕ × ℕ → ℕ
   value_place e = e.0 + value_at (layout_of K V E) e.1
-
-  -- the entries of the map at a position, in order
-  abbrev pub entry_places : List ℕ → ℕ → List (ℕ × ℕ)
-  entry_places b at = list (map_tree (layout_of K V E) b at)
 
   module _ (b : List ℕ) (lo hi at left : ℕ) (m : List (K.Value × V.Value)) (i : ℕ) (e : ℕ × ℕ) where
     -- own bytes, written over the value of entry i, put what they mean there into the list; the map leaves of its window

@@ -5,7 +5,7 @@ use Rattle.std.specs.declared.ops.ControlFlow.{ControlFlow}
 use Rattle.std.specs.declared.ops.ControlFlow.TheVariants.{Continue, Break}
 use Rattle.rkyv_btree_base.specs.Kind.{Kind}
 use Rattle.rkyv_btree_seal.specs.Calls.{CallsEntry, MayCallEach}
-use Rattle.rkyv_btree_seal.specs.declared.lent.LentKey.{LentKey}
+use Rattle.rkyv_btree_seal.specs.declared.lent_key.LentKey.{LentKey}
 use Rattle.rkyv_btree_seal.specs.declared.seal.Seal.{Seal}
 
 -- after a call: a break ends the visit with its value, and else the rest is visited

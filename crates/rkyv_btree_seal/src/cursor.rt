@@ -4,16 +4,20 @@ ghost use Rattle.std.specs.Option.{option_map};
 ghost use Rattle.rkyv_btree_base.specs.Bytes.{bytes_at};
 ghost use Rattle.rkyv_btree_base.specs.Layout.{layout_of};
 ghost use Rattle.rkyv_btree_base.specs.Views.{stands};
-ghost use Rattle.rkyv_btree_seal.specs.Along.{walk_left, IsWalk, IsAmong};
-ghost use Rattle.rkyv_btree_seal.specs.Places.{place_of, ShowsEntry, PutsEntry};
-ghost use Rattle.rkyv_btree_seal.specs.Put.{entry_places, key_place, value_place};
+ghost use Rattle.rkyv_btree_seal.specs.Along.{IsAmong};
+ghost use Rattle.rkyv_btree_walk.specs.mirror.Along.{walk_left, IsWalk, Takes};
+ghost use Rattle.rkyv_btree_seal.specs.Places.{ShowsEntry, PutsEntry};
+ghost use Rattle.rkyv_btree_walk.specs.EntryPlaces.{place_of};
+ghost use Rattle.rkyv_btree_seal.specs.Put.{key_place, value_place};
+ghost use Rattle.rkyv_btree_walk.specs.EntryPlaces.{entry_places};
 
-use crate::map::MapSeal;
-use crate::place::{EntryPlace, key_at, put_at, read_at};
-use crate::walk::{Walk, start, step};
+use crate::map_seal::MapSeal;
+use crate::value_place::{key_at, put_at, read_at};
 use rkyv_btree_base::check::{InPlace, Portable};
 use rkyv_btree_view::view::View;
-use rkyv_btree_walk::map::ArchivedMap;
+use rkyv_btree_walk::archived_map::ArchivedMap;
+use rkyv_btree_walk::entry_place::EntryPlace;
+use rkyv_btree_walk::entry_walk::{Walk, start, step};
 use std::marker::PhantomData;
 
 /// Lends the entries of a map in order, each until the next call. A key that is kept over `next` is refused by the
@@ -36,18 +40,38 @@ pub struct IterSeal<'a, M: ArchivedMap> {
 /// keys need not be asked for.
 pub type ValuesSeal<'a, M> = IterSeal<'a, M>;
 
-impl<'a, K: Portable, V: InPlace, M: ArchivedMap<Key = K, Mapped = V>> IterSeal<'a, M> {
-    ghost use Rattle.rkyv_btree_seal.specs.Cursor.{places_left, lent_place, Lends};
+/// Takes the next entry of the map at `pos`, and returns its place, or `None` if no entry remains.
+// Of a slice that a cursor holds the prover knows nothing after a call that takes it shared. So this takes it as it is held, and says
+// that it is unchanged.
+#[inline(always)]
+fn step_in<K: Portable, V: Portable, M: ArchivedMap<Key = K, Mapped = V>>(
+    buf: &mut [u8],
+    pos: u32,
+    walk: &mut Walk,
+) -> Option<EntryPlace>
+    requires stands { IsTrue (stands M.kind buf.old pos) }
+    requires walks { IsWalk (layout_of K.kind V.kind M.E) buf.old pos walk.old }
+    ensures same { buf.new ≡ buf.old }
+    ensures walks { IsWalk (layout_of K.kind V.kind M.E) buf.old pos walk.new }
+    ensures takes { let s = layout_of K.kind V.kind M.E in
+        Takes (walk_left s buf.old walk.old) (walk_left s buf.old walk.new) result }
+{
+    step::<K, V, M>(buf, pos, walk)
+}
 
-    /// The cursor before the first entry of the map at position `pos` of `buf`, where one stands: `access` is the test for
-    /// that. It takes no memory.
+impl<'a, K: Portable, V: InPlace, M: ArchivedMap<Key = K, Mapped = V>> IterSeal<'a, M> {
+    ghost use Rattle.rkyv_btree_seal.specs.Cursor.{remaining_places, current_place, Advances, SameBuffer};
+
+    /// Returns the cursor before the first entry of the map at position `pos`. Requires that the bytes mean a map: `access` is the
+    /// test. No memory is allocated.
     pub fn at(buf: &'a mut [u8], pos: u32) -> IterSeal<'a, M>
         requires { IsTrue (stands M.kind buf.old pos) }
         ensures same_reference { result.buf.ghost_name ≡ buf.entry.ghost_name }
         ensures buffer { result.buf.now ≡ buf.entry.now }
         ensures position { result.pos ≡ pos }
-        ensures all { places_left result ≡ entry_places K.kind V.kind M.E buf.entry.now pos }
-        ensures lent { lent_place result ≡ None }
+        ensures remaining { remaining_places result ≡ entry_places K.kind V.kind M.E buf.entry.now
+            pos }
+        ensures current { current_place result ≡ None }
     {
         let walk = start::<K, V, M>(buf, pos);
         IterSeal {
@@ -59,24 +83,22 @@ impl<'a, K: Portable, V: InPlace, M: ArchivedMap<Key = K, Mapped = V>> IterSeal<
         }
     }
 
-    /// Lends the next entry, if there is one, and tells whether there is.
+    /// Goes to the next entry, and returns whether there is one.
     pub fn next(&mut self) -> bool
-        ensures same_reference { self.new.buf.ghost_name ≡ self.old.buf.ghost_name }
-        ensures buffer { self.new.buf.now ≡ self.old.buf.now }
-        ensures position { self.new.pos ≡ self.old.pos }
-        ensures lends { Lends (places_left self.old) (places_left self.new) (lent_place self.new)
-            result }
+        ensures same_buffer { SameBuffer self.old.buf self.old.pos self.new.buf self.new.pos }
+        ensures advances { Advances (remaining_places self.old) (remaining_places self.new)
+            (current_place self.new) result }
     {
         let pos = self.pos;
-        self.lent = step::<K, V, M>(&mut *self.buf, pos, &mut self.walk);
+        self.lent = step_in::<K, V, M>(&mut *self.buf, pos, &mut self.walk);
         self.lent.is_some()
     }
 
     /// Returns the current entry's key. Requires that the last `next()` returned `true`.
     pub fn key(&self) -> View<'_, K>
-        requires { IsSome (lent_place self.now) }
+        requires { IsSome (current_place self.now) }
         ensures buffer { result.buf.now ≡ self.now.buf.now }
-        ensures position { IfSome (lent_place self.now) (λ e.
+        ensures position { IfSome (current_place self.now) (λ e.
             result.pos ≡ key_place K.kind V.kind M.E e) }
     {
         let place = self.lent.unwrap();
@@ -85,11 +107,11 @@ impl<'a, K: Portable, V: InPlace, M: ArchivedMap<Key = K, Mapped = V>> IterSeal<
 
     /// Returns the current entry's value. Requires that the last `next()` returned `true`.
     pub fn read(&self) -> V::Native
-        requires { IsSome (lent_place self.now) }
-        ensures told { IfSome (lent_place self.now) (λ e. V.in_place.told result
-            ≡ V.in_place.tells
+        requires { IsSome (current_place self.now) }
+        ensures model { IfSome (current_place self.now) (λ e. V.in_place.model result
+            ≡ V.in_place.model_of_bytes
             (bytes_at self.now.buf.now (value_place K.kind V.kind M.E e) V.kind.size)) }
-        ensures shows { IfSome (lent_place self.now)
+        ensures shows { IfSome (current_place self.now)
             (ShowsEntry K.kind V.kind M.E self.now.buf.now self.now.pos) }
     {
         let place = self.lent.unwrap();
@@ -98,12 +120,12 @@ impl<'a, K: Portable, V: InPlace, M: ArchivedMap<Key = K, Mapped = V>> IterSeal<
 
     /// Overwrites the current entry's value. All other bytes are unchanged. Requires that the last `next()` returned `true`.
     pub fn write(&mut self, value: V::Native)
-        requires { IsSome (lent_place self.old) }
+        requires { IsSome (current_place self.old) }
         ensures same_reference { self.new.buf.ghost_name ≡ self.old.buf.ghost_name }
         ensures position { self.new.pos ≡ self.old.pos }
-        ensures lent { lent_place self.new ≡ lent_place self.old }
-        ensures left { places_left self.new ≡ places_left self.old }
-        ensures puts { IfSome (lent_place self.old) (λ e.
+        ensures current { current_place self.new ≡ current_place self.old }
+        ensures remaining { remaining_places self.new ≡ remaining_places self.old }
+        ensures puts { IfSome (current_place self.old) (λ e.
             PutsEntry K.kind V.kind M.E self.old.buf.now self.old.pos e (V.in_place.own value)
             self.new.buf.now) }
     {
@@ -112,17 +134,17 @@ impl<'a, K: Portable, V: InPlace, M: ArchivedMap<Key = K, Mapped = V>> IterSeal<
         put_at::<K, V, M>(&mut *self.buf, pos, place, value);
     }
 
-    /// How many entries are left.
+    /// Returns how many entries remain.
     pub fn len(&self) -> usize
-        ensures { result ≡ length (places_left self.now) }
+        ensures { result ≡ length (remaining_places self.now) }
     {
         self.walk.behind as usize + self.walk.end.saturating_sub(self.walk.next) as usize
     }
 
-    /// How many entries are left, at least and at most: both are exact.
+    /// Returns how many entries remain, at least and at most: both are exact.
     pub fn size_hint(&self) -> (usize, Option<usize>)
-        ensures exact { result.0 ≡ length (places_left self.now) }
-        ensures exact_upper { result.1 ≡ Some (length (places_left self.now)) }
+        ensures exact { result.0 ≡ length (remaining_places self.now) }
+        ensures exact_upper { result.1 ≡ Some (length (remaining_places self.now)) }
     {
         let left = self.len();
         (left, Some(left))
@@ -130,29 +152,39 @@ impl<'a, K: Portable, V: InPlace, M: ArchivedMap<Key = K, Mapped = V>> IterSeal<
 }
 
 impl<'a, K: Portable, V: InPlace, M: ArchivedMap<Key = K, Mapped = V>> MapSeal<'a, M> {
-    ghost use Rattle.rkyv_btree_seal.specs.Cursor.{places_left, lent_place};
+    ghost use Rattle.rkyv_btree_seal.specs.Cursor.{remaining_places, current_place};
 
-    /// The cursor before the first entry. What the buffer has become in the end is told where the cursor was made by
-    /// `IterSeal::at`.
+    /// Returns the cursor before the first entry. A contract can say what the buffer is in the end of a cursor that `IterSeal::at`
+    /// makes.
+    ///
+    /// # Examples
+    ///
+    /// ```rust
+    /// let mut cursor = open_prices(bytes)?.iter_seal();
+    /// while cursor.next() {
+    ///     let old = cursor.read();
+    ///     cursor.write(old.wrapping_add(old));
+    /// }
+    /// ```
     pub fn iter_seal(self) -> IterSeal<'a, M>
         ensures same_reference { result.buf.ghost_name ≡ self.entry.buf.ghost_name }
         ensures buffer { result.buf.now ≡ self.entry.buf.now }
         ensures position { result.pos ≡ self.entry.pos }
-        ensures all { places_left result
+        ensures remaining { remaining_places result
             ≡ entry_places K.kind V.kind M.E self.entry.buf.now self.entry.pos }
-        ensures lent { lent_place result ≡ None }
+        ensures current { current_place result ≡ None }
     {
         IterSeal::at(self.buf, self.pos)
     }
 
-    /// The cursor before the first value, as `iter_seal` makes it.
+    /// Returns the cursor before the first value, which is that of `iter_seal`.
     pub fn values_seal(self) -> ValuesSeal<'a, M>
         ensures same_reference { result.buf.ghost_name ≡ self.entry.buf.ghost_name }
         ensures buffer { result.buf.now ≡ self.entry.buf.now }
         ensures position { result.pos ≡ self.entry.pos }
-        ensures all { places_left result
+        ensures remaining { remaining_places result
             ≡ entry_places K.kind V.kind M.E self.entry.buf.now self.entry.pos }
-        ensures lent { lent_place result ≡ None }
+        ensures current { current_place result ≡ None }
     {
         self.iter_seal()
     }

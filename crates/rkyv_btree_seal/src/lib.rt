@@ -1,14 +1,12 @@
 //! Values of an archived map, written in place.
 #![tactic(auto)]
 
-mod call;
+mod closures;
 pub mod cursor;
-pub mod lent;
-pub mod map;
-pub mod place;
-pub mod put;
+pub mod edit_laws;
+pub mod lent_key;
+pub mod map_seal;
 pub mod range_cursor;
-pub mod range_walk;
 pub mod seal;
-mod visit;
-pub mod walk;
+pub mod value_place;
+mod visit_seal;

@@ -3,26 +3,31 @@ ghost use Rattle.std.specs.Prelude.{◌≡◌, IsTrue, IsSome, IfSome, None, map
 ghost use Rattle.std.specs.Option.{option_map};
 ghost use Rattle.std.specs.Range.Bound.{bound_map};
 ghost use Rattle.std.specs.declared.ops.Bound.TheVariants.{Unbounded};
+ghost use Rattle.rkyv_btree_base.specs.Increasing.{Increasing};
 ghost use Rattle.rkyv_btree_base.specs.Bytes.{bytes_at};
 ghost use Rattle.rkyv_btree_base.specs.Layout.{layout_of};
 ghost use Rattle.rkyv_btree_base.specs.Read.{entry_at, read_map};
 ghost use Rattle.rkyv_btree_base.specs.Views.{stands};
-ghost use Rattle.rkyv_btree_seal.specs.Along.{range_left, IsRangeWalk, IsAmong};
-ghost use Rattle.rkyv_btree_seal.specs.Places.{place_of, ShowsEntry, PutsEntry};
-ghost use Rattle.rkyv_btree_seal.specs.Put.{entry_places, key_place, value_place};
+ghost use Rattle.rkyv_btree_seal.specs.Along.{IsAmong};
+ghost use Rattle.rkyv_btree_walk.specs.mirror.Along.{range_left, IsRangeWalk, Takes};
+ghost use Rattle.rkyv_btree_seal.specs.Places.{ShowsEntry, PutsEntry};
+ghost use Rattle.rkyv_btree_walk.specs.EntryPlaces.{place_of};
+ghost use Rattle.rkyv_btree_seal.specs.Put.{key_place, value_place};
+ghost use Rattle.rkyv_btree_walk.specs.EntryPlaces.{entry_places};
 ghost use Rattle.rkyv_btree_view.specs.Range.{ByNativeBounds};
 ghost use Rattle.rkyv_btree_view.specs.View.{reads};
-ghost use Rattle.rkyv_btree_walk.specs.Bounds.{IsRun, IsWithin, ByBounds};
+ghost use Rattle.rkyv_btree_walk.specs.Bounds.{IsRun, OrderedFor, entries_within, ByBounds};
 ghost use Rattle.rkyv_btree_walk.specs.Search.{shown};
 
-use crate::map::MapSeal;
-use crate::place::{EntryPlace, key_at, put_at, read_at};
-use crate::range_walk::{RangeWalk, start_between, step_before};
+use crate::map_seal::MapSeal;
+use crate::value_place::{key_at, put_at, read_at};
 use rkyv_btree_base::check::{InPlace, Portable};
 use rkyv_btree_view::compare::ViewOrd;
-use rkyv_btree_view::query::CompareWith;
+use rkyv_btree_view::compare_native::CompareWith;
 use rkyv_btree_view::view::View;
-use rkyv_btree_walk::map::ArchivedMap;
+use rkyv_btree_walk::archived_map::ArchivedMap;
+use rkyv_btree_walk::entry_place::EntryPlace;
+use rkyv_btree_walk::range_walk::{RangeWalk, start_between, step_before};
 use rkyv_btree_walk::shows::Shows;
 use std::cmp::Ordering;
 use std::marker::PhantomData;
@@ -43,11 +48,30 @@ pub struct RangeSeal<'a, M: ArchivedMap> {
         (range_left (layout_of M.Key.kind M.Mapped.kind M.E) buf.now walk) ∥₁ },
 }
 
-impl<'a, K: Portable, V: InPlace, M: ArchivedMap<Key = K, Mapped = V>> RangeSeal<'a, M> {
-    ghost use Rattle.rkyv_btree_seal.specs.Cursor.{range_places_left, range_entries_left, range_lent_place, Lends};
+/// Takes the next entry of the map at `pos` before the stop, and returns its place, or `None` if no entry remains.
+// Of a slice that a cursor holds the prover knows nothing after a call that takes it shared. So this takes it as it is held, and says
+// that it is unchanged.
+#[inline(always)]
+fn step_in<K: Portable, V: Portable, M: ArchivedMap<Key = K, Mapped = V>>(
+    buf: &mut [u8],
+    pos: u32,
+    walk: &mut RangeWalk,
+) -> Option<EntryPlace>
+    requires stands { IsTrue (stands M.kind buf.old pos) }
+    requires walks { IsRangeWalk (layout_of K.kind V.kind M.E) buf.old pos walk.old }
+    ensures same { buf.new ≡ buf.old }
+    ensures walks { IsRangeWalk (layout_of K.kind V.kind M.E) buf.old pos walk.new }
+    ensures takes { let s = layout_of K.kind V.kind M.E in
+        Takes (range_left s buf.old walk.old) (range_left s buf.old walk.new) result }
+{
+    step_before::<K, V, M>(buf, pos, walk)
+}
 
-    /// The cursor before the first entry of a walk between bounds, of the map at position `pos` of `buf`. The caller owes
-    /// that a map stands there, and that the walk is one of it, which `MapSeal::walk_between` tells. It takes no memory.
+impl<'a, K: Portable, V: InPlace, M: ArchivedMap<Key = K, Mapped = V>> RangeSeal<'a, M> {
+    ghost use Rattle.rkyv_btree_seal.specs.Cursor.{range_remaining_places, range_remaining_entries, range_current_place, Advances, SameBuffer};
+
+    /// Returns the cursor before the first entry of a walk between bounds, of the map at position `pos` of `buf`. The caller owes
+    /// that a map stands there, and that the walk is one of it, as `MapSeal::walk_between` gives it. It takes no memory.
     pub fn over(buf: &'a mut [u8], pos: u32, walk: RangeWalk) -> RangeSeal<'a, M>
         requires stands { IsTrue (stands M.kind buf.old pos) }
         requires walks { IsRangeWalk (layout_of K.kind V.kind M.E) buf.old pos walk }
@@ -56,10 +80,11 @@ impl<'a, K: Portable, V: InPlace, M: ArchivedMap<Key = K, Mapped = V>> RangeSeal
         ensures same_reference { result.buf.ghost_name ≡ buf.entry.ghost_name }
         ensures buffer { result.buf.now ≡ buf.entry.now }
         ensures position { result.pos ≡ pos }
-        ensures lent { range_lent_place result ≡ None }
-        ensures places { range_places_left result
+        ensures current { range_current_place result ≡ None }
+        ensures places { range_remaining_places result
             ≡ range_left (layout_of K.kind V.kind M.E) buf.entry.now walk }
-        ensures entries { range_entries_left result ≡ map (entry_at K.kind V.kind M.E buf.entry.now)
+        ensures entries { range_remaining_entries result
+            ≡ map (entry_at K.kind V.kind M.E buf.entry.now)
             (range_left (layout_of K.kind V.kind M.E) buf.entry.now walk) }
     {
         RangeSeal {
@@ -71,8 +96,8 @@ impl<'a, K: Portable, V: InPlace, M: ArchivedMap<Key = K, Mapped = V>> RangeSeal
         }
     }
 
-    /// The cursor before the first of the entries between bounds of native values, of the map at position `pos` of `buf`,
-    /// where one stands: `access` is the test for that.
+    /// Returns the cursor before the first entry within bounds of native values, of the map at position `pos`. Requires that the
+    /// bytes mean a map: `access` is the test.
     pub fn by<T: Drop>(
         buf: &'a mut [u8],
         pos: u32,
@@ -85,14 +110,22 @@ impl<'a, K: Portable, V: InPlace, M: ArchivedMap<Key = K, Mapped = V>> RangeSeal
         ensures same_reference { result.buf.ghost_name ≡ buf.entry.ghost_name }
         ensures buffer { result.buf.now ≡ buf.entry.now }
         ensures position { result.pos ≡ pos }
-        ensures lent { range_lent_place result ≡ None }
-        ensures run { IsRun (range_places_left result)
+        ensures current { range_current_place result ≡ None }
+        ensures run { IsRun (range_remaining_places result)
             (entry_places K.kind V.kind M.E buf.entry.now pos) }
         ensures whole { low ≡ Unbounded → high ≡ Unbounded
-            → range_entries_left result ≡ read_map K.kind V.kind M.E buf.entry.now pos }
+            → range_remaining_entries result ≡ read_map K.kind V.kind M.E buf.entry.now pos }
+        // If the keys increase, these are all entries within the bounds.
+        ensures sorted { ByNativeBounds K.kind K.compared_at low high (λ lo hi.
+            Increasing K.kind.order (read_map K.kind V.kind M.E buf.entry.now pos) →
+            range_remaining_entries result
+            ≡ entries_within lo hi (read_map K.kind V.kind M.E buf.entry.now pos)) }
+        // So they are if the entries are ordered for both bounds.
         ensures within { ByNativeBounds K.kind K.compared_at low high (λ lo hi.
-            IsWithin lo hi (read_map K.kind V.kind M.E buf.entry.now pos)
-            (range_entries_left result)) }
+            OrderedFor lo (read_map K.kind V.kind M.E buf.entry.now pos) →
+            OrderedFor hi (read_map K.kind V.kind M.E buf.entry.now pos) →
+            range_remaining_entries result
+            ≡ entries_within lo hi (read_map K.kind V.kind M.E buf.entry.now pos)) }
     {
         let compare = |query: &T, key: View<K>| K::compare_with(query, &key);
         let walk = start_between::<_, K, V, M, _, _>(
@@ -105,24 +138,23 @@ impl<'a, K: Portable, V: InPlace, M: ArchivedMap<Key = K, Mapped = V>> RangeSeal
         RangeSeal::over(buf, pos, walk)
     }
 
-    /// Lends the next entry, if there is one, and tells whether there is.
+    /// Goes to the next entry, and returns whether there is one.
     pub fn next(&mut self) -> bool
-        ensures same_reference { self.new.buf.ghost_name ≡ self.old.buf.ghost_name }
-        ensures buffer { self.new.buf.now ≡ self.old.buf.now }
-        ensures position { self.new.pos ≡ self.old.pos }
-        ensures lends { Lends (range_places_left self.old) (range_places_left self.new)
-            (range_lent_place self.new) result }
+        ensures same_buffer { SameBuffer self.old.buf self.old.pos self.new.buf self.new.pos }
+        ensures advances { Advances (range_remaining_places self.old)
+            (range_remaining_places self.new)
+            (range_current_place self.new) result }
     {
         let pos = self.pos;
-        self.lent = step_before::<K, V, M>(&mut *self.buf, pos, &mut self.walk);
+        self.lent = step_in::<K, V, M>(&mut *self.buf, pos, &mut self.walk);
         self.lent.is_some()
     }
 
     /// Returns the current entry's key. Requires that the last `next()` returned `true`.
     pub fn key(&self) -> View<'_, K>
-        requires { IsSome (range_lent_place self.now) }
+        requires { IsSome (range_current_place self.now) }
         ensures buffer { result.buf.now ≡ self.now.buf.now }
-        ensures position { IfSome (range_lent_place self.now) (λ e.
+        ensures position { IfSome (range_current_place self.now) (λ e.
             result.pos ≡ key_place K.kind V.kind M.E e) }
     {
         let place = self.lent.unwrap();
@@ -131,11 +163,11 @@ impl<'a, K: Portable, V: InPlace, M: ArchivedMap<Key = K, Mapped = V>> RangeSeal
 
     /// Returns the current entry's value. Requires that the last `next()` returned `true`.
     pub fn read(&self) -> V::Native
-        requires { IsSome (range_lent_place self.now) }
-        ensures told { IfSome (range_lent_place self.now) (λ e. V.in_place.told result
-            ≡ V.in_place.tells
+        requires { IsSome (range_current_place self.now) }
+        ensures model { IfSome (range_current_place self.now) (λ e. V.in_place.model result
+            ≡ V.in_place.model_of_bytes
             (bytes_at self.now.buf.now (value_place K.kind V.kind M.E e) V.kind.size)) }
-        ensures shows { IfSome (range_lent_place self.now)
+        ensures shows { IfSome (range_current_place self.now)
             (ShowsEntry K.kind V.kind M.E self.now.buf.now self.now.pos) }
     {
         let place = self.lent.unwrap();
@@ -144,12 +176,12 @@ impl<'a, K: Portable, V: InPlace, M: ArchivedMap<Key = K, Mapped = V>> RangeSeal
 
     /// Overwrites the current entry's value. All other bytes are unchanged. Requires that the last `next()` returned `true`.
     pub fn write(&mut self, value: V::Native)
-        requires { IsSome (range_lent_place self.old) }
+        requires { IsSome (range_current_place self.old) }
         ensures same_reference { self.new.buf.ghost_name ≡ self.old.buf.ghost_name }
         ensures position { self.new.pos ≡ self.old.pos }
-        ensures lent { range_lent_place self.new ≡ range_lent_place self.old }
-        ensures left { range_places_left self.new ≡ range_places_left self.old }
-        ensures puts { IfSome (range_lent_place self.old) (λ e.
+        ensures current { range_current_place self.new ≡ range_current_place self.old }
+        ensures remaining { range_remaining_places self.new ≡ range_remaining_places self.old }
+        ensures puts { IfSome (range_current_place self.old) (λ e.
             PutsEntry K.kind V.kind M.E self.old.buf.now self.old.pos e (V.in_place.own value)
             self.new.buf.now) }
     {
@@ -168,10 +200,10 @@ impl<'a, K: Portable, V: InPlace, M: ArchivedMap<Key = K, Mapped = V>> RangeSeal
 }
 
 impl<'a, K: ViewOrd, V: InPlace, M: ArchivedMap<Key = K, Mapped = V>> RangeSeal<'a, M> {
-    ghost use Rattle.rkyv_btree_seal.specs.Cursor.{range_places_left, range_entries_left, range_lent_place};
+    ghost use Rattle.rkyv_btree_seal.specs.Cursor.{range_remaining_places, range_remaining_entries, range_current_place};
 
-    /// The cursor before the first of the entries between bounds of keys, of the map at position `pos` of `buf`, where one
-    /// stands: `access` is the test for that.
+    /// Returns the cursor before the first entry within bounds of keys, of the map at position `pos`. Requires that the bytes mean
+    /// a map: `access` is the test.
     pub fn at(
         buf: &'a mut [u8],
         pos: u32,
@@ -182,14 +214,26 @@ impl<'a, K: ViewOrd, V: InPlace, M: ArchivedMap<Key = K, Mapped = V>> RangeSeal<
         ensures same_reference { result.buf.ghost_name ≡ buf.entry.ghost_name }
         ensures buffer { result.buf.now ≡ buf.entry.now }
         ensures position { result.pos ≡ pos }
-        ensures lent { range_lent_place result ≡ None }
-        ensures run { IsRun (range_places_left result)
+        ensures current { range_current_place result ≡ None }
+        ensures run { IsRun (range_remaining_places result)
             (entry_places K.kind V.kind M.E buf.entry.now pos) }
         ensures whole { low.now ≡ Unbounded → high.now ≡ Unbounded
-            → range_entries_left result ≡ read_map K.kind V.kind M.E buf.entry.now pos }
-        ensures within { IsWithin (bound_map (λ q. K.kind.order (reads q)) low.now)
+            → range_remaining_entries result ≡ read_map K.kind V.kind M.E buf.entry.now pos }
+        // If the keys increase, these are all entries within the bounds.
+        ensures sorted { Increasing K.kind.order (read_map K.kind V.kind M.E buf.entry.now pos) →
+            range_remaining_entries result
+            ≡ entries_within (bound_map (λ q. K.kind.order (reads q)) low.now)
             (bound_map (λ q. K.kind.order (reads q)) high.now)
-            (read_map K.kind V.kind M.E buf.entry.now pos) (range_entries_left result) }
+            (read_map K.kind V.kind M.E buf.entry.now pos) }
+        // So they are if the entries are ordered for both bounds.
+        ensures within { OrderedFor (bound_map (λ q. K.kind.order (reads q)) low.now)
+            (read_map K.kind V.kind M.E buf.entry.now pos) →
+            OrderedFor (bound_map (λ q. K.kind.order (reads q)) high.now)
+            (read_map K.kind V.kind M.E buf.entry.now pos) →
+            range_remaining_entries result
+            ≡ entries_within (bound_map (λ q. K.kind.order (reads q)) low.now)
+            (bound_map (λ q. K.kind.order (reads q)) high.now)
+            (read_map K.kind V.kind M.E buf.entry.now pos) }
     {
         let compare = |query: &View<'_, K>, key: View<K>| K::compare(query, &key);
         let walk = start_between::<_, K, V, M, _, _>(
@@ -204,11 +248,12 @@ impl<'a, K: ViewOrd, V: InPlace, M: ArchivedMap<Key = K, Mapped = V>> RangeSeal<
 }
 
 impl<'a, K: Portable, V: InPlace, M: ArchivedMap<Key = K, Mapped = V>> MapSeal<'a, M> {
-    ghost use Rattle.rkyv_btree_seal.specs.Cursor.{range_places_left, range_entries_left, range_lent_place};
+    ghost use Rattle.rkyv_btree_seal.specs.Cursor.{range_remaining_places, range_remaining_entries, range_current_place};
 
-    /// The walk between two bounds, by a comparison that is a function of the query, which comes first, and the key:
-    /// `Greater` means that the query is past the key. Where the entries aren't ordered for both queries, it goes along
-    /// some that stand one behind the other. `RangeSeal::over` makes a cursor of it.
+    /// Returns the walk along the entries within the bounds, of which `RangeSeal::over` makes a cursor.
+    ///
+    /// The comparison must be a function of the query, which comes first, and the key. `Greater` means that the query is
+    /// greater. If the entries aren't ordered for both queries, the walk goes along some contiguous run of entries.
     pub fn walk_between<'s, Q, W: Shows<'s, K>, C: Fn(&Q, W) -> Ordering>(
         &'s self,
         low: Bound<&Q>,
@@ -225,52 +270,74 @@ impl<'a, K: Portable, V: InPlace, M: ArchivedMap<Key = K, Mapped = V>> MapSeal<'
             (range_left (layout_of K.kind V.kind M.E) self.now.buf.now result)
             ≡ read_map K.kind V.kind M.E self.now.buf.now self.now.pos }
         ensures within { ByBounds (C.post cmp) (shown K.kind W.Shows) low.entry high.entry (λ lo hi.
-            IsWithin lo hi (read_map K.kind V.kind M.E self.now.buf.now self.now.pos)
-            (map (entry_at K.kind V.kind M.E self.now.buf.now)
-            (range_left (layout_of K.kind V.kind M.E) self.now.buf.now result))) }
+            OrderedFor lo (read_map K.kind V.kind M.E self.now.buf.now self.now.pos) →
+            OrderedFor hi (read_map K.kind V.kind M.E self.now.buf.now self.now.pos) →
+            map (entry_at K.kind V.kind M.E self.now.buf.now)
+            (range_left (layout_of K.kind V.kind M.E) self.now.buf.now result)
+            ≡ entries_within lo hi (read_map K.kind V.kind M.E self.now.buf.now self.now.pos)) }
     {
         start_between::<Q, K, V, M, W, C>(self.buf, self.pos, low, high, &cmp)
     }
 
-    /// The cursor before the first entry between bounds of native values. What the buffer has become in the end is told
-    /// where the cursor was made by `RangeSeal::by`.
+    /// Returns the cursor before the first entry within bounds of native values. A contract can say what the buffer is in the end of
+    /// a cursor that `RangeSeal::by` makes.
     pub fn range_seal_by<T: Drop>(self, low: Bound<T>, high: Bound<T>) -> RangeSeal<'a, M>
     where
         K: CompareWith<T>,
         ensures same_reference { result.buf.ghost_name ≡ self.entry.buf.ghost_name }
         ensures buffer { result.buf.now ≡ self.entry.buf.now }
         ensures position { result.pos ≡ self.entry.pos }
-        ensures lent { range_lent_place result ≡ None }
-        ensures run { IsRun (range_places_left result)
+        ensures current { range_current_place result ≡ None }
+        ensures run { IsRun (range_remaining_places result)
             (entry_places K.kind V.kind M.E self.entry.buf.now self.entry.pos) }
-        ensures whole { low ≡ Unbounded → high ≡ Unbounded → range_entries_left result
+        ensures whole { low ≡ Unbounded → high ≡ Unbounded → range_remaining_entries result
             ≡ read_map K.kind V.kind M.E self.entry.buf.now self.entry.pos }
+        // If the keys increase, these are all entries within the bounds.
+        ensures sorted { ByNativeBounds K.kind K.compared_at low high (λ lo hi.
+            Increasing K.kind.order (read_map K.kind V.kind M.E self.entry.buf.now self.entry.pos) →
+            range_remaining_entries result
+            ≡ entries_within lo hi (read_map K.kind V.kind M.E self.entry.buf.now self.entry.pos)) }
+        // So they are if the entries are ordered for both bounds.
         ensures within { ByNativeBounds K.kind K.compared_at low high (λ lo hi.
-            IsWithin lo hi (read_map K.kind V.kind M.E self.entry.buf.now self.entry.pos)
-            (range_entries_left result)) }
+            OrderedFor lo (read_map K.kind V.kind M.E self.entry.buf.now self.entry.pos) →
+            OrderedFor hi (read_map K.kind V.kind M.E self.entry.buf.now self.entry.pos) →
+            range_remaining_entries result
+            ≡ entries_within lo hi (read_map K.kind V.kind M.E self.entry.buf.now self.entry.pos)) }
     {
         RangeSeal::by(self.buf, self.pos, low, high)
     }
 }
 
 impl<'a, K: ViewOrd, V: InPlace, M: ArchivedMap<Key = K, Mapped = V>> MapSeal<'a, M> {
-    ghost use Rattle.rkyv_btree_seal.specs.Cursor.{range_places_left, range_entries_left, range_lent_place};
+    ghost use Rattle.rkyv_btree_seal.specs.Cursor.{range_remaining_places, range_remaining_entries, range_current_place};
 
-    /// The cursor before the first entry between bounds of keys. What the buffer has become in the end is told where the
-    /// cursor was made by `RangeSeal::at`.
+    /// Returns the cursor before the first entry within bounds of keys. A contract can say what the buffer is in the end of a cursor
+    /// that `RangeSeal::at` makes.
     pub fn range_seal(self, low: &Bound<View<'_, K>>, high: &Bound<View<'_, K>>) -> RangeSeal<'a, M>
         ensures same_reference { result.buf.ghost_name ≡ self.entry.buf.ghost_name }
         ensures buffer { result.buf.now ≡ self.entry.buf.now }
         ensures position { result.pos ≡ self.entry.pos }
-        ensures lent { range_lent_place result ≡ None }
-        ensures run { IsRun (range_places_left result)
+        ensures current { range_current_place result ≡ None }
+        ensures run { IsRun (range_remaining_places result)
             (entry_places K.kind V.kind M.E self.entry.buf.now self.entry.pos) }
-        ensures whole { low.now ≡ Unbounded → high.now ≡ Unbounded → range_entries_left result
+        ensures whole { low.now ≡ Unbounded → high.now ≡ Unbounded → range_remaining_entries result
             ≡ read_map K.kind V.kind M.E self.entry.buf.now self.entry.pos }
-        ensures within { IsWithin (bound_map (λ q. K.kind.order (reads q)) low.now)
+        // If the keys increase, these are all entries within the bounds.
+        ensures sorted { Increasing K.kind.order (read_map K.kind V.kind M.E self.entry.buf.now
+            self.entry.pos) →
+            range_remaining_entries result
+            ≡ entries_within (bound_map (λ q. K.kind.order (reads q)) low.now)
             (bound_map (λ q. K.kind.order (reads q)) high.now)
-            (read_map K.kind V.kind M.E self.entry.buf.now self.entry.pos)
-            (range_entries_left result) }
+            (read_map K.kind V.kind M.E self.entry.buf.now self.entry.pos) }
+        // So they are if the entries are ordered for both bounds.
+        ensures within { OrderedFor (bound_map (λ q. K.kind.order (reads q)) low.now)
+            (read_map K.kind V.kind M.E self.entry.buf.now self.entry.pos) →
+            OrderedFor (bound_map (λ q. K.kind.order (reads q)) high.now)
+            (read_map K.kind V.kind M.E self.entry.buf.now self.entry.pos) →
+            range_remaining_entries result
+            ≡ entries_within (bound_map (λ q. K.kind.order (reads q)) low.now)
+            (bound_map (λ q. K.kind.order (reads q)) high.now)
+            (read_map K.kind V.kind M.E self.entry.buf.now self.entry.pos) }
     {
         RangeSeal::at(self.buf, self.pos, low, high)
     }

@@ -29,11 +29,11 @@ impl<'a, V: InPlace> Seal<'a, V> {
         }
     }
 
-    /// The value.
+    /// Returns the value.
     pub fn read(&self) -> V::Native
         requires { StandsAlone V.kind self.now.buf.now self.now.pos }
-        ensures { V.in_place.told result
-            ≡ V.in_place.tells (bytes_at self.now.buf.now self.now.pos V.kind.size) }
+        ensures { V.in_place.model result
+            ≡ V.in_place.model_of_bytes (bytes_at self.now.buf.now self.now.pos V.kind.size) }
     {
         let at = self.pos as usize;
         V::read(&self.buf[at..at + V::size() as usize])
@@ -47,8 +47,8 @@ impl<'a, V: InPlace> Seal<'a, V> {
         ensures bytes { self.new.buf.now
             ≡ put_bytes self.old.buf.now self.old.pos (V.in_place.own value) }
         ensures stands { StandsAlone V.kind self.new.buf.now self.new.pos }
-        ensures told { V.in_place.told value
-            ≡ V.in_place.tells (bytes_at self.new.buf.now self.new.pos V.kind.size) }
+        ensures model { V.in_place.model value
+            ≡ V.in_place.model_of_bytes (bytes_at self.new.buf.now self.new.pos V.kind.size) }
     {
         let at = self.pos as usize;
         V::write(value, &mut self.buf[at..at + V::size() as usize]);

@@ -2,12 +2,7 @@
 ghost use Rattle.std.specs.Prelude.{◌≡◌, ◌+◌, ◌*◌, ◌-◌, ◌^◌, ◌≤◌, ◌<◌};
 ghost use Rattle.rkyv_btree_shape.specs.Logarithm.{ilog};
 
-/// The number of levels of the built tree of so many entries, at least 1.
-///
-/// A tree whose levels are all full has `E` entries on its first level and `E + 1` times as many on each level as on the
-/// one above, so that `h` levels have `(E + 1) ^ h - 1` in all. A built tree fills all levels but the last, and so
-/// many entries take the least `h` with `entries < (E + 1) ^ h`. That is one more than the logarithm to the base `E + 1`,
-/// rounded down: one more than how often the number can be divided by `E + 1` until less is left.
+/// Returns the number of levels of the built tree of so many entries, at least 1.
 pub fn entries_to_height<const E: usize>(entries: u64) -> u32
     requires entries { 1 ≤ E }
     requires small { E < 2 ^ 32 }
@@ -24,7 +19,7 @@ pub fn entries_to_height<const E: usize>(entries: u64) -> u32
     above + 1
 }
 
-/// One more than the entries that each child of a tree's root has above the tree's last level. For a tree of `h` levels
+/// Returns one more than the entries that each child of a tree's root has above the tree's last level. For a tree of `h` levels
 /// these are the full levels of a tree of `h - 2`, so it is `(E + 1) ^ (h - 2)`.
 pub fn child_base<const E: usize>(entries: usize) -> usize
     requires some { 1 ≤ E }

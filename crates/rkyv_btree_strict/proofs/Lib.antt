@@ -1,7 +1,5 @@
 -- The lemmas of maps and sets whose keys increase.
 pub mod Checked
-pub mod LookedUp
 pub mod Ordered
 pub mod Stays
-pub mod Within
 pub mod Migrated

@@ -35,8 +35,8 @@ then_appended s m t (first, a) (second, b) = (
 pub then_begins : (s m t : Writing) → OnlyAppended s m → BeginsWith t m → BeginsWith t s
 then_begins s m t (first, a) (base, (second, contents)) = (base ∙ a.base, (first ++ second, contents ∙ (ap (λ zs. zs ++ second) a.contents ∙ append_assoc s.contents first second)))
 
-module _ {T U A B R S : Type 0} (cmp : T → T → Ordering) (K V : Kind) (KA : Archival T R) (VA : Archival U S) (told : List (T × U) → List (A × B)) (native : Result (List (A × B)) EntryFault) where
-  module _ (entries : List (T × U)) (are : AreNative cmp K V KA VA told native entries) (claim : ℕ) (count : claim ≡ length entries) (from : Writing) where
+module _ {T U A B R S : Type 0} (cmp : T → T → Ordering) (K V : Kind) (KA : Archival T R) (VA : Archival U S) (model : List (T × U) → List (A × B)) (native : Result (List (A × B)) EntryFault) where
+  module _ (entries : List (T × U)) (are : AreNative cmp K V KA VA model native entries) (claim : ℕ) (count : claim ≡ length entries) (from : Writing) where
     built_of : (root : ℕ) (mid : Writing) → Serialised K V 5 KA VA (TakesFirst deref_pair) entries claim from root mid → Built (layout_of K V 5) KA VA from entries root mid
     built_of root mid h = subst (λ (xs : List (T × U)). Built (layout_of K V 5) KA VA from xs root mid) (entries_drained entries h.items h.all) h.built
 
@@ -45,7 +45,7 @@ module _ {T U A B R S : Type 0} (cmp : T → T → Ordering) (K V : Kind) (KA : 
 
     migrated : {X : Type 0} (root : ℕ) (mid to : Writing) (result : Result ℕ (Fault X)) → Serialised K V 5 KA VA (TakesFirst deref_pair) entries claim from root mid → IsSmallestArchive K V 5 KA VA from entries root mid → OnlyAppended from mid
         → IfOk result (λ at. at ≡ round_up (position mid) 4) → OnOk result (Wrote mid (root_image (position mid) root claim) to) → OnOk result (position to ≤ last_end) → OnOk result (claim ≤ last_end)
-        → IfOk result (λ at. Migrates cmp K V KA VA told native from at to)
+        → IfOk result (λ at. Migrates cmp K V KA VA model native from at to)
     migrated root mid to (Err fault) h smallest went at wrote end few = tt
     migrated root mid to (Ok pos) h smallest went at wrote end few = record {
       entries = entries;
@@ -64,21 +64,21 @@ module _ {T U A B R S : Type 0} (cmp : T → T → Ordering) (K V : Kind) (KA : 
     pub migrated_by : {X : Type 0} (iter : List (T × U)) → iter ≡ entries → (root : ℕ) (mid to : Writing) (result : Result ℕ (Fault X))
         → (h : Serialised K V 5 KA VA (TakesFirst deref_pair) iter claim from root mid) × IsSmallestArchive K V 5 KA VA from (map now_of h.items) root mid → OnlyAppended from mid
         → IfOk result (λ at. at ≡ round_up (position mid) 4) → OnOk result (Wrote mid (root_image (position mid) root claim) to) → OnOk result (position to ≤ last_end) → OnOk result (claim ≤ last_end)
-        → IfOk result (λ at. Migrates cmp K V KA VA told native from at to)
+        → IfOk result (λ at. Migrates cmp K V KA VA model native from at to)
     migrated_by iter same root mid to result both went at wrote end few =
         let b = subst (λ (it : List (T × U)). (h : Serialised K V 5 KA VA (TakesFirst deref_pair) it claim from root mid) × IsSmallestArchive K V 5 KA VA from (map now_of h.items) root mid) same both in
         migrated root mid to result b.0 (smallest_of root mid b.0 b.1) went at wrote end few
 
-    pub unbuilt : {X : Type 0} (fault : Fault X) (to : Writing) → BuildFault K V 5 KA VA (TakesFirst deref_pair) {X = X} entries claim from fault to → FailsToMigrate cmp K V KA VA told native from fault to
+    pub unbuilt : {X : Type 0} (fault : Fault X) (to : Writing) → BuildFault K V 5 KA VA (TakesFirst deref_pair) {X = X} entries claim from fault to → FailsToMigrate cmp K V KA VA model native from fault to
     unbuilt {X} fault to h = inr (entries, are, inl (subst (λ n. BuildFault K V 5 KA VA (TakesFirst deref_pair) {X = X} entries n from fault to) count h))
 
     pub unrooted : {X : Type 0} (root : ℕ) (mid to : Writing) (result : Result ℕ (Fault X)) → Serialised K V 5 KA VA (TakesFirst deref_pair) entries claim from root mid → IfErr result (λ fault. RootFault root claim mid fault to)
-        → IfErr result (λ fault. FailsToMigrate cmp K V KA VA told native from fault to)
+        → IfErr result (λ fault. FailsToMigrate cmp K V KA VA model native from fault to)
     unrooted root mid to (Ok at) h failed = tt
     unrooted root mid to (Err fault) h failed = inr (entries, are, inr (root, mid, built_of root mid h, subst (λ n. RootFault root n mid fault to) count failed))
 
   -- what a writer from position 0 on holds then
-  pub strict_of : WrittenIsHeld → (from : Writing) (at : ℕ) (to : Writing) → Migrates cmp K V KA VA told native from at to → MigratesToStrict cmp K V KA VA told native from at to
+  pub strict_of : WrittenIsHeld → (from : Writing) (at : ℕ) (to : Writing) → Migrates cmp K V KA VA model native from at to → MigratesToStrict cmp K V KA VA model native from at to
   strict_of held from at to m key value alike zero =
       let holds : HoldsArchive to.contents from m.mid m.root at (length m.entries) =
       subst (λ p. HoldsArchive to.contents from m.mid m.root p (length m.entries)) (sym m.place) (held from m.mid to m.root (length m.entries) zero m.went m.wrote m.end) in

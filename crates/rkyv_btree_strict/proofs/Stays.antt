@@ -10,7 +10,7 @@ use Rattle.rkyv_btree_base.specs.Kind.{Kind}
 use Rattle.rkyv_btree_seal.specs.Places.{PutsEntry}
 use Rattle.rkyv_btree_seal.specs.Put.{put_value}
 use Rattle.rkyv_btree_seal.specs.Visits.{Goes}
-use Rattle.rkyv_btree_seal.specs.declared.lent.LentKey.{LentKey}
+use Rattle.rkyv_btree_seal.specs.declared.lent_key.LentKey.{LentKey}
 use Rattle.rkyv_btree_seal.specs.declared.seal.Seal.{Seal}
 use Rattle.rkyv_btree_strict.specs.Stays.{HasItsKeys, PutsKeepStrict, SetsKeepStrict, VisitsKeepStrict}
 use Rattle.rkyv_btree_strict.specs.Strict.{IsStrictMap}

@@ -20,10 +20,10 @@ use Rattle.rkyv_btree_convert.specs.StdMaps.{OrdersAlike}
 use Rattle.rkyv_btree_strict.specs.Strict.{IsStrictMap}
 
 module _ {T U A B R S : Type 0} (cmp : T → T → Ordering) (K V : Kind) (KA : Archival T R) (VA : Archival U S)
-    (told : List (T × U) → List (A × B)) (native : Result (List (A × B)) EntryFault) where
+    (model : List (T × U) → List (A × B)) (native : Result (List (A × B)) EntryFault) where
   -- these are the entries of the native map
   pub record AreNative (entries : List (T × U)) : Type 0 where
-    pub made : native ≡ Ok (told entries)
+    pub made : native ≡ Ok (model entries)
     pub increase : IsStrictlySortedBy cmp (keys_of entries)
 
   -- between two states of a writer the tree of the native map was written, and then the map, at a position

@@ -7,7 +7,7 @@ use Rattle.std.specs.declared.ops.ControlFlow.{ControlFlow}
 use Rattle.rkyv_btree_base.specs.Kind.{Kind}
 use Rattle.rkyv_btree_seal.specs.Places.{PutsEntry, SetsFound}
 use Rattle.rkyv_btree_seal.specs.Visits.{Visits}
-use Rattle.rkyv_btree_seal.specs.declared.lent.LentKey.{LentKey}
+use Rattle.rkyv_btree_seal.specs.declared.lent_key.LentKey.{LentKey}
 use Rattle.rkyv_btree_seal.specs.declared.seal.Seal.{Seal}
 use Rattle.rkyv_btree_strict.specs.Strict.{IsStrictMap}
 

@@ -1,7 +1,6 @@
 -- Strict maps: accepted maps whose keys increase.
-use Rattle.std.specs.Prelude.{◌≡◌, ℕ, List, ◌&&◌, filter}
+use Rattle.std.specs.Prelude.{◌≡◌, ℕ, List}
 use Rattle.std.specs.declared.cmp.Ordering.{Ordering}
-use Rattle.std.specs.declared.ops.Bound.{Bound}
 use Rattle.rkyv_btree_base.specs.Kind.{Kind}
 use Rattle.rkyv_btree_base.specs.Refusal.{Refusal}
 use Rattle.rkyv_btree_base.specs.Refusal.TheVariants.{OutOfOrder}
@@ -10,7 +9,6 @@ use Rattle.rkyv_btree_base.specs.Spells.{Accepted}
 use Rattle.rkyv_btree_portable.specs.declared.check.Window.{Window}
 use Rattle.rkyv_btree_base.specs.Increasing.{Increasing, IsOutOfOrder}
 use Rattle.rkyv_btree_view.specs.Map.{IsMap}
-use Rattle.rkyv_btree_walk.specs.Bounds.{is_from, is_to}
 
 module _ (K V : Kind) (E : ℕ) (b : List ℕ) where
   -- the refusal of the bytes at a position as a strict map, in the window from lo to hi: that of a map, or of an entry that is
@@ -29,12 +27,3 @@ module _ (K V : Kind) (E : ℕ) (b : List ℕ) where
   pub record IsStrictMap (at : ℕ) (m : List (K.Value × V.Value)) : Type 0 where
     pub map : IsMap K V E b at m
     pub increasing : Increasing K.order m
-
-module _ {A B : Type 0} where
-  -- the entries whose keys are within two bounds
-  abbrev pub entries_within : Bound (A → Ordering) → Bound (A → Ordering) → List (A × B) → List (A × B)
-  entries_within low high m = filter (λ e. is_from low e.0 && is_to high e.0) m
-
--- the keys within two bounds
-abbrev pub keys_within : {A : Type 0} → Bound (A → Ordering) → Bound (A → Ordering) → List A → List A
-keys_within low high ks = filter (λ k. is_from low k && is_to high k) ks

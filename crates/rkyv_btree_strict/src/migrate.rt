@@ -4,16 +4,16 @@ ghost use Rattle.rkyv_btree_base.specs.Archiving.{BeginsWith};
 ghost use Rattle.rkyv_btree_base.specs.Kept.{OnlyAppended};
 ghost use Rattle.rkyv_btree_base.specs.Layout.{are_fitting};
 ghost use Rattle.rkyv_btree_base.specs.Writing.{position, last_end};
-ghost use Rattle.rkyv_btree_convert.specs.Maps.{native_map, told_both};
+ghost use Rattle.rkyv_btree_convert.specs.Maps.{native_map, model_both};
 ghost use Rattle.rkyv_btree_strict.specs.Migrated.{FailsToMigrate, Migrates, MigratesToStrict};
 
 use rkyv_btree_base::archive::{Archive, Serialize};
-use rkyv_btree_base::build::written_maps_are_held;
 use rkyv_btree_base::fault::Fault;
+use rkyv_btree_base::laws::written_maps_are_held;
 use rkyv_btree_base::map::ArchivedBTreeMap;
 use rkyv_btree_base::place::Writer;
 use rkyv_btree_convert::deserialize::{Deserialize, DeserializeFault};
-use rkyv_btree_convert::key::DeserializeKey;
+use rkyv_btree_convert::native_key::DeserializeKey;
 use rkyv_btree_view::view::View;
 use std::alloc::Global;
 use std::collections::BTreeMap;
@@ -40,18 +40,18 @@ where
     // A writer from position 0 on holds a strict map at the returned position. It means the entries of the native map, if native
     // keys are ordered as what they mean.
     ensures strict { IfOk result (λ at.
-        MigratesToStrict T.cmp K.kind V.kind T.archival U.archival (told_both K.told V.told)
-        (native_map K.kind V.kind 5 K.native V.native K.told_order view.now.buf.now view.now.pos)
+        MigratesToStrict T.cmp K.kind V.kind T.archival U.archival (model_both K.model V.model)
+        (native_map K.kind V.kind 5 K.decoded V.decoded K.model_order view.now.buf.now view.now.pos)
         (W.state writer.old) at (W.state writer.new)) }
     // The tree of the native map is written, and no accepted map with as many entries has fewer nodes, node bytes or levels.
     ensures ok { IfOk result (λ at.
-        Migrates T.cmp K.kind V.kind T.archival U.archival (told_both K.told V.told)
-        (native_map K.kind V.kind 5 K.native V.native K.told_order view.now.buf.now view.now.pos)
+        Migrates T.cmp K.kind V.kind T.archival U.archival (model_both K.model V.model)
+        (native_map K.kind V.kind 5 K.decoded V.decoded K.model_order view.now.buf.now view.now.pos)
         (W.state writer.old) at (W.state writer.new)) }
     // Each error's cause is there.
     ensures err { IfErr result (λ fault.
-        FailsToMigrate T.cmp K.kind V.kind T.archival U.archival (told_both K.told V.told)
-        (native_map K.kind V.kind 5 K.native V.native K.told_order view.now.buf.now view.now.pos)
+        FailsToMigrate T.cmp K.kind V.kind T.archival U.archival (model_both K.model V.model)
+        (native_map K.kind V.kind 5 K.decoded V.decoded K.model_order view.now.buf.now view.now.pos)
         (W.state writer.old) fault (W.state writer.new)) }
     // The native map's keys increase, so no error is `OutOfOrder`.
     ensures in_order { (index : ℕ) → IsErrOf result (Fault.OutOfOrder index) → ⊥ }

@@ -6,9 +6,9 @@ ghost use Rattle.rkyv_btree_view.specs.View.{entries_of, reads};
 
 use rkyv_btree_base::check::Portable;
 use rkyv_btree_view::compare::ViewOrd;
-use rkyv_btree_view::map::ShowsEntries;
+use rkyv_btree_view::map_view::ShowsEntries;
 use rkyv_btree_view::view::View;
-use rkyv_btree_walk::map::ArchivedMap;
+use rkyv_btree_walk::archived_map::ArchivedMap;
 
 /// Returns whether the first key is less than the second.
 #[inline(always)]

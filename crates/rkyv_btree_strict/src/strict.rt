@@ -1,5 +1,5 @@
 //! Validation of maps whose keys must increase.
-ghost use Rattle.std.specs.Prelude.{◌≡◌, ◌≤◌, IsTrue, IsOk, IfOk, IfErr, Ok, Err};
+ghost use Rattle.std.specs.Prelude.{◌≡◌, ◌↔◌, ◌≤◌, IsTrue, IsOk, IfOk, Ok, Err};
 ghost use Rattle.rkyv_btree_base.specs.Layout.{are_fitting};
 ghost use Rattle.rkyv_btree_base.specs.Map.{map_kind};
 ghost use Rattle.rkyv_btree_base.specs.Refusal.{Refusal};
@@ -16,9 +16,9 @@ use rkyv_btree_base::check::{CheckBytes, Window};
 use rkyv_btree_base::map::ArchivedBTreeMap;
 use rkyv_btree_base::refusal::Refusal;
 use rkyv_btree_base::verify::verify;
-use rkyv_btree_convert::whole::open;
+use rkyv_btree_convert::from_archive::open;
 use rkyv_btree_view::compare::ViewOrd;
-use rkyv_btree_view::map::{access, access_valid};
+use rkyv_btree_view::map_view::{access, access_valid};
 
 /// Validates the map at position `pos` as `verify` does, and then that its keys increase. Returns the window that is left.
 ///
@@ -34,17 +34,12 @@ pub fn verify_strict<K: CheckBytes + ViewOrd, V: CheckBytes, const E: usize>(
     requires fitting { IsTrue (are_fitting K.kind V.kind E) }
     requires ordered { window.lo ≤ window.hi }
     requires before { window.hi ≤ pos }
-    // What is accepted is a map whose keys increase, and leaves this window.
-    ensures accepted { IfOk result (IsStrictIn K.kind V.kind E buf.now window pos) }
-    // Each such map is accepted.
-    ensures all_accepted { (left : Window) → IsStrictIn K.kind V.kind E buf.now window pos left →
-        result ≡ Ok left }
-    // What is refused has the fault that the refusal names.
-    ensures refused { IfErr result
-        (RefusesStrict K.kind V.kind E buf.now window.lo window.hi pos) }
-    // Each fault is refused.
-    ensures all_refused { (e : Refusal) →
-        RefusesStrict K.kind V.kind E buf.now window.lo window.hi pos e → result ≡ Err e }
+    // The result is `Ok left` exactly for a map whose keys increase and that leaves this window.
+    ensures accepts { (left : Window) →
+        (result ≡ Ok left) ↔ IsStrictIn K.kind V.kind E buf.now window pos left }
+    // The result is an error exactly for bytes with that error.
+    ensures refuses { (e : Refusal) →
+        (result ≡ Err e) ↔ RefusesStrict K.kind V.kind E buf.now window.lo window.hi pos e }
 {
     let left = match verify::<K, V, E>(buf, pos, window) {
         Ok(left) => left,
@@ -68,12 +63,13 @@ pub fn access_strict<'a, K: CheckBytes + ViewOrd, V: CheckBytes, const E: usize>
     requires { IsTrue (are_fitting K.kind V.kind E) }
     ensures buffer { IfOk result (λ map. map.view.buf.now ≡ buf.now) }
     ensures position { IfOk result (λ map. map.view.pos ≡ pos) }
-    ensures accepted { IfOk result (λ map.
+    // The result is a view exactly for a map whose keys increase, and the view reads its list.
+    ensures accepts { IsOk result ↔ ((m : _) × IsStrictMap K.kind V.kind E buf.now pos m) }
+    ensures entries { IfOk result (λ map.
         IsStrictMap K.kind V.kind E buf.now pos (entries_of K.kind V.kind E map.view)) }
-    ensures all_accepted { (m : _) → IsStrictMap K.kind V.kind E buf.now pos m → IsOk result }
-    ensures refused { IfErr result (RefusesStrict K.kind V.kind E buf.now 0 pos pos) }
-    ensures all_refused { (e : Refusal) → RefusesStrict K.kind V.kind E buf.now 0 pos pos e →
-        result ≡ Err e }
+    // The result is an error exactly for bytes with that error.
+    ensures refuses { (e : Refusal) →
+        (result ≡ Err e) ↔ RefusesStrict K.kind V.kind E buf.now 0 pos pos e }
 {
     match access::<K, V, E>(buf, pos) {
         Ok(map) => StrictView::of(map),
@@ -86,6 +82,13 @@ pub fn access_strict<'a, K: CheckBytes + ViewOrd, V: CheckBytes, const E: usize>
 /// # Errors
 ///
 /// Every error of `open` comes before `Refusal::OutOfOrder`. No memory is allocated.
+///
+/// # Examples
+///
+/// ```rust
+/// let map = open_strict::<ArchivedText, ArchivedU64, 5>(bytes)?;
+/// Ok(map.get_native_by(name))
+/// ```
 pub fn open_strict<'a, K: CheckBytes + ViewOrd, V: CheckBytes, const E: usize>(
     bytes: &'a [u8],
 ) -> Result<StrictView<'a, K, V, E>, Refusal>
@@ -93,12 +96,15 @@ pub fn open_strict<'a, K: CheckBytes + ViewOrd, V: CheckBytes, const E: usize>(
     ensures buffer { IfOk result (λ map. map.view.buf.now ≡ bytes.now) }
     ensures position { IfOk result (λ map.
         map.view.pos ≡ own_at (map_kind K.kind V.kind E) bytes.now) }
-    ensures archive { IfOk result (λ map.
-        IsArchiveOf (map_kind K.kind V.kind E) bytes.now (entries_of K.kind V.kind E map.view)) }
-    ensures all_archives { (m : _) → IsArchiveOf (map_kind K.kind V.kind E) bytes.now m →
-        Increasing K.kind.order m → IsOk result }
-    ensures refused { IfErr result (IsUnopened (map_kind K.kind V.kind E)
-        (RefusesStrict K.kind V.kind E) bytes.now) }
+    // The result is a view exactly for an archive of a map whose keys increase, and the view reads its list.
+    ensures accepts { IsOk result ↔ ((m : _) ×
+        IsArchiveOf (map_kind K.kind V.kind E) bytes.now m × Increasing K.kind.order m) }
+    ensures entries { IfOk result (λ map.
+        IsArchiveOf (map_kind K.kind V.kind E) bytes.now (entries_of K.kind V.kind E map.view)
+        × Increasing K.kind.order (entries_of K.kind V.kind E map.view)) }
+    // The result is an error exactly for bytes with that error.
+    ensures refuses { (e : Refusal) → (result ≡ Err e) ↔
+        IsUnopened (map_kind K.kind V.kind E) (RefusesStrict K.kind V.kind E) bytes.now e }
 {
     match open::<ArchivedBTreeMap<K, V, E>>(bytes) {
         Ok(map) => StrictView::of(map),

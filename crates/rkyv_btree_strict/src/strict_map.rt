@@ -4,28 +4,29 @@ ghost use Rattle.std.specs.Iterator.{IsFinite};
 ghost use Rattle.std.specs.List.Sorted.{IsStrictlySortedBy-prop};
 ghost use Rattle.std.specs.Map.{keys_of, lookup, lookup_entry};
 ghost use Rattle.std.specs.Option.{option_map};
-ghost use Rattle.std.specs.Prelude.{◌≡◌, ◌↔◌, [], length, is_some, IsTrue, IsOk, IfOk, IfErr, Err, ℕ, ⊤};
+ghost use Rattle.std.specs.Prelude.{◌≡◌, ◌≤◌, ◌↔◌, [], length, is_some, IsTrue, IsOk, IfOk, IfErr, Err, ℕ, ⊤};
 ghost use Rattle.std.specs.Range.Bound.{bound_map};
 ghost use Rattle.rkyv_btree_base.specs.Refusal.TheVariants.{OutOfOrder};
 ghost use Rattle.rkyv_btree_base.specs.Increasing.{Increasing, IsOutOfOrder};
-ghost use Rattle.rkyv_btree_strict.specs.Strict.{entries_within};
 ghost use Rattle.rkyv_btree_view.specs.Items.{ShowsAll};
 ghost use Rattle.rkyv_btree_view.specs.Lookup.{ByNative};
 ghost use Rattle.rkyv_btree_view.specs.View.{reads, reads_both, entries_of};
+ghost use Rattle.rkyv_btree_walk.specs.Bounds.{entries_within};
 
 use crate::order::first_out_of_order;
 use rkyv_btree_base::check::Portable;
 use rkyv_btree_base::map::ArchivedBTreeMap;
 use rkyv_btree_base::refusal::Refusal;
 use rkyv_btree_view::compare::ViewOrd;
+use rkyv_btree_view::compare_native::CompareWith;
 use rkyv_btree_view::iter::Iter;
-use rkyv_btree_view::map::ShowsEntries;
-use rkyv_btree_view::query::CompareWith;
+use rkyv_btree_view::map_view::ShowsEntries;
+use rkyv_btree_view::native::ToNative;
 use rkyv_btree_view::range::Range;
 use rkyv_btree_view::view::View;
-use rkyv_btree_walk::map::ArchivedMap;
+use rkyv_btree_walk::archived_map::ArchivedMap;
 use std::alloc::AllocError;
-use std::ops::Bound;
+use std::ops::{Bound, RangeBounds};
 
 /// A type of maps whose strict views show entries. Those of a set show its keys alone, by calls of the same names.
 pub trait StrictEntries: ShowsEntries {}
@@ -90,9 +91,10 @@ impl<'a, K: ViewOrd, V: Portable, M: ArchivedMap<Key = K, Mapped = V> + StrictEn
         self.view
     }
 
-    /// Returns the number of entries.
-    pub fn len(self) -> u32
-        ensures { result ≡ length (entries_of K.kind V.kind M.E self.entry.view) }
+    /// Returns the number of entries. It has 32 bits.
+    pub fn len(self) -> usize
+        ensures entries { result ≡ length (entries_of K.kind V.kind M.E self.entry.view) }
+        ensures small { result ≤ 4294967295 }
     {
         self.view.len()
     }
@@ -160,6 +162,27 @@ impl<'a, K: ViewOrd, V: Portable, M: ArchivedMap<Key = K, Mapped = V> + StrictEn
     }
 }
 
+impl<'a, K: ViewOrd, V: ToNative, M: ArchivedMap<Key = K, Mapped = V> + StrictEntries> Strict<
+    'a,
+    M,
+> {
+    ghost use Rattle.rkyv_btree_view.specs.Native.{ByReading};
+
+    /// Returns the native value of the only key that is equal to a native value.
+    pub fn get_native_by<T: Drop>(self, key: T) -> Option<V::Native>
+    where
+        K: CompareWith<T>,
+        ensures { ByReading V.kind V.read_native (λ native.
+            ByNative K.kind K.compared_at key (λ answer. result ≡ option_map native
+            (lookup (is_at answer) (entries_of K.kind V.kind M.E self.entry.view)))) }
+    {
+        match self.get_by(key) {
+            None => None,
+            Some(value) => Some(value.to_native()),
+        }
+    }
+}
+
 impl<'a, K: ViewOrd, V: Portable, M: ArchivedMap<Key = K, Mapped = V> + StrictEntries> Strict<
     'a,
     M,
@@ -168,9 +191,9 @@ impl<'a, K: ViewOrd, V: Portable, M: ArchivedMap<Key = K, Mapped = V> + StrictEn
 
     /// Returns an iterator over the entries, in the order of their keys.
     pub fn iter(self) -> Iter<'a, M>
-        ensures all { ShowsAll ⟦<Iter<'a, M> as Iterator>⟧.next_gives
+        ensures yields { ShowsAll ⟦<Iter<'a, M> as Iterator>⟧.next_gives
             reads_both result (entries_of K.kind V.kind M.E self.entry.view) }
-        ensures left { entries_left result ≡ entries_of K.kind V.kind M.E self.entry.view }
+        ensures entries { entries_left result ≡ entries_of K.kind V.kind M.E self.entry.view }
         ensures ends { IsFinite (⟦<Iter<'a, M> as Iterator>⟧.remaining result) }
     {
         self.view.iter()
@@ -185,7 +208,7 @@ impl<'a, K: ViewOrd, V: Portable, M: ArchivedMap<Key = K, Mapped = V> + StrictEn
 
     /// Returns an iterator over the entries whose keys are within the bounds, in the order of their keys.
     pub fn range(self, low: Bound<View<'_, K>>, high: Bound<View<'_, K>>) -> Range<'a, M>
-        ensures all { ShowsAll ⟦<Range<'a, M> as Iterator>⟧.next_gives
+        ensures yields { ShowsAll ⟦<Range<'a, M> as Iterator>⟧.next_gives
             reads_both result (range_left result) }
         ensures ends { IsFinite (⟦<Range<'a, M> as Iterator>⟧.remaining result) }
         ensures within { range_left result
@@ -200,12 +223,42 @@ impl<'a, K: ViewOrd, V: Portable, M: ArchivedMap<Key = K, Mapped = V> + StrictEn
     pub fn range_by<T: Drop>(self, low: Bound<T>, high: Bound<T>) -> Range<'a, M>
     where
         K: CompareWith<T>,
-        ensures all { ShowsAll ⟦<Range<'a, M> as Iterator>⟧.next_gives
+        ensures yields { ShowsAll ⟦<Range<'a, M> as Iterator>⟧.next_gives
             reads_both result (range_left result) }
         ensures ends { IsFinite (⟦<Range<'a, M> as Iterator>⟧.remaining result) }
         ensures within { ByNativeBounds K.kind K.compared_at low high (λ lo hi. range_left result
             ≡ entries_within lo hi (entries_of K.kind V.kind M.E self.entry.view)) }
     {
         self.view.range_by(low, high)
+    }
+    /// Returns an iterator over the entries whose keys are in a range of native values, in the order of their keys.
+    pub fn range_of<T: Drop, R: RangeBounds<T>>(self, range: R) -> Range<'a, M>
+    where
+        K: CompareWith<T>,
+        ensures yields { ShowsAll ⟦<Range<'a, M> as Iterator>⟧.next_gives
+            reads_both result (range_left result) }
+        ensures ends { IsFinite (⟦<Range<'a, M> as Iterator>⟧.remaining result) }
+        ensures within { R.has_bounds range → ByNativeBounds K.kind K.compared_at
+            (R.start_bound range) (R.end_bound range) (λ lo hi. range_left result
+            ≡ entries_within lo hi (entries_of K.kind V.kind M.E self.entry.view)) }
+    {
+        self.view.range_of(range)
+    }
+}
+
+impl<'a, K: ViewOrd, V: Portable, const E: usize> IntoIterator
+    for Strict<'a, ArchivedBTreeMap<K, V, E>> {
+    ghost use Rattle.rkyv_btree_view.specs.Iter.{entries_left};
+
+    type Item = (View<'a, K>, View<'a, V>);
+
+    type IntoIter = Iter<'a, ArchivedBTreeMap<K, V, E>>;
+
+    ghost into_iter_gives = { λ map entries.
+        entries_left entries ≡ entries_of K.kind V.kind E map.view };
+
+    /// Returns an iterator over the entries, in the order of their keys.
+    fn into_iter(self) -> Iter<'a, ArchivedBTreeMap<K, V, E>> {
+        self.view.iter()
     }
 }

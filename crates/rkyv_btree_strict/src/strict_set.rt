@@ -4,7 +4,7 @@ ghost use Rattle.std.specs.Iterator.{IsFinite};
 ghost use Rattle.std.specs.List.{find};
 ghost use Rattle.std.specs.List.Sorted.{IsStrictlySortedBy};
 ghost use Rattle.std.specs.Option.{option_map};
-ghost use Rattle.std.specs.Prelude.{◌≡◌, ◌↔◌, [], length, is_some, IsTrue, IsOk, IfOk, IfErr, Err};
+ghost use Rattle.std.specs.Prelude.{◌≡◌, ◌≤◌, ◌↔◌, [], length, is_some, IsTrue, IsOk, IfOk, Err};
 ghost use Rattle.std.specs.Range.Bound.{bound_map};
 ghost use Rattle.rkyv_btree_base.specs.Layout.{are_fitting};
 ghost use Rattle.rkyv_btree_base.specs.Map.{map_kind};
@@ -13,11 +13,12 @@ ghost use Rattle.rkyv_btree_base.specs.Scalars.{unit_kind};
 ghost use Rattle.rkyv_btree_base.specs.Whole.{IsArchiveOf, own_at};
 ghost use Rattle.rkyv_btree_convert.specs.Whole.{IsUnopened};
 ghost use Rattle.rkyv_btree_base.specs.Increasing.{Increasing};
-ghost use Rattle.rkyv_btree_strict.specs.Strict.{keys_within, IsStrictMap, RefusesStrict};
+ghost use Rattle.rkyv_btree_strict.specs.Strict.{IsStrictMap, RefusesStrict};
 ghost use Rattle.rkyv_btree_view.specs.Items.{ShowsAll};
 ghost use Rattle.rkyv_btree_view.specs.Lookup.{ByNative};
 ghost use Rattle.rkyv_btree_view.specs.Set.{keys_of};
 ghost use Rattle.rkyv_btree_view.specs.View.{reads, entries_of};
+ghost use Rattle.rkyv_btree_walk.specs.Bounds.{keys_within};
 
 use crate::strict::{access_strict as access_map, open_strict as open_map};
 use crate::strict_map::{Strict, StrictView};
@@ -25,11 +26,11 @@ use rkyv_btree_base::check::CheckBytes;
 use rkyv_btree_base::refusal::Refusal;
 use rkyv_btree_base::set::ArchivedBTreeSet;
 use rkyv_btree_view::compare::ViewOrd;
-use rkyv_btree_view::query::CompareWith;
-use rkyv_btree_view::set::{Iter, Range};
+use rkyv_btree_view::compare_native::CompareWith;
+use rkyv_btree_view::set_view::{Iter, Range};
 use rkyv_btree_view::view::View;
 use std::marker::PhantomData;
-use std::ops::Bound;
+use std::ops::{Bound, RangeBounds};
 
 /// A set in a buffer whose keys increase. `access_strict`, `open_strict` and `StrictSetView::of` make one.
 pub type StrictSetView<'a, K, const E: usize> = Strict<'a, ArchivedBTreeSet<K, E>>;
@@ -46,12 +47,13 @@ pub fn access_strict<'a, K: CheckBytes + ViewOrd, const E: usize>(
     requires { IsTrue (are_fitting K.kind unit_kind E) }
     ensures buffer { IfOk result (λ set. set.view.buf.now ≡ buf.now) }
     ensures position { IfOk result (λ set. set.view.pos ≡ pos) }
-    ensures accepted { IfOk result (λ set.
+    // The result is a view exactly for a set whose keys increase, and the view reads its list.
+    ensures accepts { IsOk result ↔ ((m : _) × IsStrictMap K.kind unit_kind E buf.now pos m) }
+    ensures entries { IfOk result (λ set.
         IsStrictMap K.kind unit_kind E buf.now pos (entries_of K.kind unit_kind E set.view)) }
-    ensures all_accepted { (m : _) → IsStrictMap K.kind unit_kind E buf.now pos m → IsOk result }
-    ensures refused { IfErr result (RefusesStrict K.kind unit_kind E buf.now 0 pos pos) }
-    ensures all_refused { (e : Refusal) → RefusesStrict K.kind unit_kind E buf.now 0 pos pos e →
-        result ≡ Err e }
+    // The result is an error exactly for bytes with that error.
+    ensures refuses { (e : Refusal) →
+        (result ≡ Err e) ↔ RefusesStrict K.kind unit_kind E buf.now 0 pos pos e }
 {
     match access_map::<K, (), E>(buf, pos) {
         Ok(map) => Ok(StrictSetView::of(map)),
@@ -71,12 +73,15 @@ pub fn open_strict<'a, K: CheckBytes + ViewOrd, const E: usize>(
     ensures buffer { IfOk result (λ set. set.view.buf.now ≡ bytes.now) }
     ensures position { IfOk result (λ set.
         set.view.pos ≡ own_at (map_kind K.kind unit_kind E) bytes.now) }
-    ensures archive { IfOk result (λ set. IsArchiveOf (map_kind K.kind unit_kind E) bytes.now
-        (entries_of K.kind unit_kind E set.view)) }
-    ensures all_archives { (m : _) → IsArchiveOf (map_kind K.kind unit_kind E) bytes.now m →
-        Increasing K.kind.order m → IsOk result }
-    ensures refused { IfErr result (IsUnopened (map_kind K.kind unit_kind E)
-        (RefusesStrict K.kind unit_kind E) bytes.now) }
+    // The result is a view exactly for an archive of a set whose keys increase, and the view reads its list.
+    ensures accepts { IsOk result ↔ ((m : _) ×
+        IsArchiveOf (map_kind K.kind unit_kind E) bytes.now m × Increasing K.kind.order m) }
+    ensures entries { IfOk result (λ set.
+        IsArchiveOf (map_kind K.kind unit_kind E) bytes.now (entries_of K.kind unit_kind E set.view)
+        × Increasing K.kind.order (entries_of K.kind unit_kind E set.view)) }
+    // The result is an error exactly for bytes with that error.
+    ensures refuses { (e : Refusal) → (result ≡ Err e) ↔
+        IsUnopened (map_kind K.kind unit_kind E) (RefusesStrict K.kind unit_kind E) bytes.now e }
 {
     match open_map::<K, (), E>(bytes) {
         Ok(map) => Ok(StrictSetView::of(map)),
@@ -109,9 +114,10 @@ impl<'a, K: ViewOrd, const E: usize> Strict<'a, ArchivedBTreeSet<K, E>> {
         self.view
     }
 
-    /// Returns the number of keys.
-    pub fn len(self) -> u32
-        ensures { result ≡ length (keys_of K.kind E self.entry.view) }
+    /// Returns the number of keys. It has 32 bits.
+    pub fn len(self) -> usize
+        ensures keys { result ≡ length (keys_of K.kind E self.entry.view) }
+        ensures small { result ≤ 4294967295 }
     {
         self.view.len()
     }
@@ -125,7 +131,7 @@ impl<'a, K: ViewOrd, const E: usize> Strict<'a, ArchivedBTreeSet<K, E>> {
 
     /// Returns an iterator over the keys, in order.
     pub fn iter(self) -> Iter<'a, K, E>
-        ensures all { ShowsAll ⟦<Iter<'a, K, E> as Iterator>⟧.next_gives reads result
+        ensures yields { ShowsAll ⟦<Iter<'a, K, E> as Iterator>⟧.next_gives reads result
             (keys_of K.kind E self.entry.view) }
         ensures ends { IsFinite (⟦<Iter<'a, K, E> as Iterator>⟧.remaining result) }
     {
@@ -175,7 +181,7 @@ impl<'a, K: ViewOrd, const E: usize> Strict<'a, ArchivedBTreeSet<K, E>> {
 
     /// Returns an iterator over the keys within the bounds, in order.
     pub fn range(self, low: Bound<View<'_, K>>, high: Bound<View<'_, K>>) -> Range<'a, K, E>
-        ensures all { ShowsAll ⟦<Range<'a, K, E> as Iterator>⟧.next_gives reads result
+        ensures yields { ShowsAll ⟦<Range<'a, K, E> as Iterator>⟧.next_gives reads result
             (range_keys_left result) }
         ensures ends { IsFinite (⟦<Range<'a, K, E> as Iterator>⟧.remaining result) }
         ensures within { range_keys_left result
@@ -190,12 +196,40 @@ impl<'a, K: ViewOrd, const E: usize> Strict<'a, ArchivedBTreeSet<K, E>> {
     pub fn range_by<T: Drop>(self, low: Bound<T>, high: Bound<T>) -> Range<'a, K, E>
     where
         K: CompareWith<T>,
-        ensures all { ShowsAll ⟦<Range<'a, K, E> as Iterator>⟧.next_gives reads result
+        ensures yields { ShowsAll ⟦<Range<'a, K, E> as Iterator>⟧.next_gives reads result
             (range_keys_left result) }
         ensures ends { IsFinite (⟦<Range<'a, K, E> as Iterator>⟧.remaining result) }
         ensures within { ByNativeBounds K.kind K.compared_at low high (λ lo hi.
             range_keys_left result ≡ keys_within lo hi (keys_of K.kind E self.entry.view)) }
     {
         self.view.range_by(low, high)
+    }
+    /// Returns an iterator over the keys in a range of native values, in order.
+    pub fn range_of<T: Drop, R: RangeBounds<T>>(self, range: R) -> Range<'a, K, E>
+    where
+        K: CompareWith<T>,
+        ensures yields { ShowsAll ⟦<Range<'a, K, E> as Iterator>⟧.next_gives reads result
+            (range_keys_left result) }
+        ensures ends { IsFinite (⟦<Range<'a, K, E> as Iterator>⟧.remaining result) }
+        ensures within { R.has_bounds range → ByNativeBounds K.kind K.compared_at
+            (R.start_bound range) (R.end_bound range) (λ lo hi.
+            range_keys_left result ≡ keys_within lo hi (keys_of K.kind E self.entry.view)) }
+    {
+        self.view.range_of(range)
+    }
+}
+
+impl<'a, K: ViewOrd, const E: usize> IntoIterator for Strict<'a, ArchivedBTreeSet<K, E>> {
+    type Item = View<'a, K>;
+
+    type IntoIter = Iter<'a, K, E>;
+
+    ghost into_iter_gives = { λ set keys. ShowsAll ⟦<Iter<'a, K, E> as Iterator>⟧.next_gives reads
+        keys
+        (keys_of K.kind E set.view) };
+
+    /// Returns an iterator over the keys, in order.
+    fn into_iter(self) -> Iter<'a, K, E> {
+        self.view.iter()
     }
 }

@@ -17,8 +17,8 @@ use Rattle.rkyv_btree_base.specs.laws.Views.{means_read}
 use Rattle.rkyv_btree_unverified.specs.Steps.{Then, GoesOn, key_place, value_place, PlaceGives, starts_before, ends_past, misaligned, good_place, NodeGives, bad_kind, inner_past, too_many, leaf, inner, ChildGives, of_leaf, absent, bad_place, child}
 use Rattle.rkyv_btree_unverified.specs.Lookups.{AtChild, AtHalt, TreeGives, LookupGives}
 use Rattle.rkyv_btree_unverified.specs.Steps.{HeadGives, misplaced, empty, bad_root, root, Gives, Asks, StopsBefore, KeysGive, bad_key, bad_value, equal_key, stops}
-use Rattle.rkyv_btree_unverified.specs.declared.search.Halt.{Halt}
-use Rattle.rkyv_btree_unverified.specs.declared.search.Halt.TheVariants.{Found, Below}
+use Rattle.rkyv_btree_unverified.specs.declared.unverified_search.Halt.{Halt}
+use Rattle.rkyv_btree_unverified.specs.declared.unverified_search.Halt.TheVariants.{Found, Below}
 
 -- steps whose results are determined make up one whose result is
 one_then : {A B : Type 0} {first : Result A Refusal → Type 0} {next : A → Result B Refusal → Type 0} → ((x y : Result A Refusal) → first x → first y → x ≡ y) → ((a : A) (r s : Result B Refusal) → next a r → next a s → r ≡ s)
@@ -34,13 +34,13 @@ some_of (Ok q) = Ok (Some q)
 some_of (Err e) = Err e
 
 module _ (K V : Kind) (E : ℕ) where
-  place_of : ℕ → ℤ → Result ℕ Refusal
+  pub place_of : ℕ → ℤ → Result ℕ Refusal
   place_of hi (negsuc n) = Err (OutOfRange (negsuc n))
   place_of hi (pos q) =
       if nat_lt hi (q + leaf_size (layout_of K V E)) then Err (OutOfRange (pos q)) else
       if nat_eq (q % align (layout_of K V E)) 0 then Ok q else Err (Misaligned q)
 
-  is_place : (hi : ℕ) (p : ℤ) (r : Result ℕ Refusal) → PlaceGives K V E hi p r → place_of hi p ≡ r
+  pub is_place : (hi : ℕ) (p : ℤ) (r : Result ℕ Refusal) → PlaceGives K V E hi p r → place_of hi p ≡ r
   unfolding place_of
   is_place hi (negsuc n) r (starts_before h) = refl
   is_place hi (pos q) r (starts_before h) = absurd (omega (arith, ints, h))
@@ -50,13 +50,13 @@ module _ (K V : Kind) (E : ℕ) where
   is_place hi (pos q) r (good_place h) = rw (le-ltb hi (q + leaf_size (layout_of K V E)) h.room, eq-eqb (q % align (layout_of K V E)) 0 h.aligned) refl
 
 module _ (K V : Kind) (E : ℕ) (b : List ℕ) where
-  node_of : ℕ → ℕ → Result ℕ Refusal
+  pub node_of : ℕ → ℕ → Result ℕ Refusal
   node_of hi p =
       if nat_eq (slice_index b p) 0 then (if nat_lt E (leaf_len K V E b p) then Err (InvalidLength (record { len = leaf_len K V E b p; maximum = E })) else Ok (leaf_len K V E b p)) else
       if nat_eq (slice_index b p) 1 then (if nat_lt hi (p + inner_size (layout_of K V E)) then Err (OutOfRange (pos p)) else Ok E) else
       Err (BadKind p (slice_index b p))
 
-  is_node : (hi p : ℕ) (r : Result ℕ Refusal) → NodeGives K V E b hi p r → node_of hi p ≡ r
+  pub is_node : (hi p : ℕ) (r : Result ℕ Refusal) → NodeGives K V E b hi p r → node_of hi p ≡ r
   unfolding node_of
   is_node hi p r (bad_kind is not_leaf not_inner) =
       rw (ne_eqb (slice_index b p) 0 (λ e. not_leaf (sym is.kind_byte ∙ e)), ne_eqb (slice_index b p) 1 (λ e. not_inner (sym is.kind_byte ∙ e)), is.kind_byte) refl
@@ -111,10 +111,10 @@ module _ (K V : Kind) (E : ℕ) (b : List ℕ) where
 
   module _ (answer : K.Value → Ordering) (KR VR : List ℕ → ℕ → ℕ → ℕ → Refusal → Type 0) (k : IsLawful K) (v : IsLawful V) (kr : AreRefusals K KR) (vr : AreRefusals V VR) where
     -- what is refused isn't valid
-    no_key : (e : Refusal) (at : ℕ) → KR b 0 at at e → IsTrue (stands K b at) → ⊥
+    pub no_key : (e : Refusal) (at : ℕ) → KR b 0 at at e → IsTrue (stands K b at) → ⊥
     no_key e at h st = let m = means_read k b at st in kr.no_meaning b 0 at at e h m.left (K.read b at) m.means
 
-    no_value : (e : Refusal) (at : ℕ) → VR b 0 at at e → IsTrue (stands V b at) → ⊥
+    pub no_value : (e : Refusal) (at : ℕ) → VR b 0 at at e → IsTrue (stands V b at) → ⊥
     no_value e at h st = let m = means_read v b at st in vr.no_meaning b 0 at at e h m.left (V.read b at) m.means
 
     -- a key gives one answer

@@ -12,7 +12,7 @@ use Rattle.rkyv_btree_base.specs.Layout.{layout_of}
 use Rattle.rkyv_btree_base.specs.Read.{entry_at, read_map}
 use Rattle.rkyv_btree_base.specs.Refusal.{Refusal}
 use Rattle.rkyv_btree_base.specs.Refusing.{AreRefusals}
-use Rattle.rkyv_btree_strict.proofs.LookedUp.{found_is}
+use Rattle.rkyv_btree_view.proofs.LookedUp.{found_is}
 use Rattle.rkyv_btree_base.specs.Increasing.{Increasing}
 use Rattle.rkyv_btree_unverified.proofs.Exact.{one_lookup}
 use Rattle.rkyv_btree_unverified.specs.Lookups.{LookupGives}

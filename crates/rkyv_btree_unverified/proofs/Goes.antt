@@ -11,10 +11,10 @@ use Rattle.rkyv_btree_base.specs.Refusals.{HasKind, IsInner}
 use Rattle.rkyv_btree_unverified.specs.Lookups.{AtChild, AtHalt, TreeGives}
 use Rattle.rkyv_btree_unverified.specs.Steps.{Then, GoesOn, HasRoom, PlaceGives, NodeGives, bad_kind, inner_past, too_many, leaf, inner, ChildGives, of_leaf, absent, bad_place, child, KeysGive}
 use Rattle.rkyv_btree_unverified.specs.mirror.Passes.{NextGives}
-use Rattle.rkyv_btree_unverified.specs.declared.search.Halt.{Halt}
-use Rattle.rkyv_btree_unverified.specs.declared.search.Halt.TheVariants.{Found, Below}
-use Rattle.rkyv_btree_unverified.specs.declared.search.Next.{Next}
-use Rattle.rkyv_btree_unverified.specs.declared.search.Next.TheVariants.{Hit, Miss, Down}
+use Rattle.rkyv_btree_unverified.specs.declared.unverified_search.Halt.{Halt}
+use Rattle.rkyv_btree_unverified.specs.declared.unverified_search.Halt.TheVariants.{Found, Below}
+use Rattle.rkyv_btree_unverified.specs.declared.unverified_search.Next.{Next}
+use Rattle.rkyv_btree_unverified.specs.declared.unverified_search.Next.TheVariants.{Hit, Miss, Down}
 
 pub has_kind : (K V : Kind) (E : ℕ) (b : List ℕ) (hi p kind : ℕ) → HasRoom K V E hi p → slice_index b p ≡ kind → HasKind K V E b 0 hi p kind
 has_kind K V E b hi p kind room is = record { start = omega arith; room = room.room; aligned = room.aligned; kind_byte = is }
@@ -52,6 +52,9 @@ module _ (K V : Kind) (E : ℕ) (b : List ℕ) (answer : K.Value → Ordering) (
   pub levels_over : (levels hi p : ℕ) (r : Result (Option (ℕ × ℕ)) Refusal) → ¬ (levels ≡ 0) → Tree (suc (levels - 1)) hi p r → Tree levels hi p r
   levels_over levels hi p r some h = let same : suc (levels - 1) ≡ levels = omega (arith, some) in subst (λ (k : ℕ). Tree k hi p r) same h
 
+  pub levels_are : (hi p : ℕ) (r : Result (Option (ℕ × ℕ)) Refusal) (levels more : ℕ) → levels ≡ more → Tree levels hi p r → Tree more hi p r
+  levels_are hi p r levels more same h = subst (λ (k : ℕ). Tree k hi p r) same h
+
   module _ (m hi p : ℕ) where
     stepped : (r : Result (Option (ℕ × ℕ)) Refusal) → Then (NodeGives K V E b hi p) (λ n. Then (KeysGive K V E b answer KR VR p n) (AtHalt K V E b answer KR VR (Tree m p) hi p)) r → Tree (suc m) hi p r
     unfolding TreeGives
@@ -70,7 +73,7 @@ module _ (K V : Kind) (E : ℕ) (b : List ℕ) (answer : K.Value → Ordering) (
           stepped (Ok (Some (p, i))) (record { result = Ok n; gives = node; goes_on = record { result = Ok (Found i); gives = keys; goes_on = refl } })
 
       module _ (i : ℕ) (halt : Halt) (is : halt ≡ Below i) (h : KeysGive K V E b answer KR VR p n (Ok halt)) where
-        goes_below : (c : Result (Option ℕ) Refusal) (r : Result (Option (ℕ × ℕ)) Refusal) → ChildGives K V E b hi p i c → GoesOn (AtChild K V E b answer KR VR (Tree m p)) c r → Tree (suc m) hi p r
+        pub goes_below : (c : Result (Option ℕ) Refusal) (r : Result (Option (ℕ × ℕ)) Refusal) → ChildGives K V E b hi p i c → GoesOn (AtChild K V E b answer KR VR (Tree m p)) c r → Tree (suc m) hi p r
         goes_below c r gives on =
             let keys : KeysGive K V E b answer KR VR p n (Ok (Below i)) = rw is at h in
             stepped r (record { result = Ok n; gives = node; goes_on = record { result = Ok (Below i); gives = keys; goes_on = record { result = c; gives = gives; goes_on = on } } })

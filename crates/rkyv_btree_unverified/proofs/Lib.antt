@@ -2,6 +2,7 @@
 pub mod Exact
 pub mod Found
 pub mod Goes
+pub mod OnMaps
 pub mod Passes
 pub mod Places
 pub mod Valid

@@ -25,10 +25,10 @@ use Rattle.rkyv_btree_base.proofs.MapLaws.{map_laws, map_length}
 use Rattle.rkyv_btree_walk.proofs.Roots.{root_searched}
 use Rattle.rkyv_btree_unverified.specs.Steps.{key_place, HasRoom, Gives, KeysGive, equal_key, stops}
 use Rattle.rkyv_btree_unverified.specs.mirror.Passes.{asked_by, NextCounts, NodePasses, TreePasses, Passes, HaltStands, NextStands, NextPasses, NextFinds, NextEqual}
-use Rattle.rkyv_btree_unverified.specs.declared.search.Halt.{Halt}
-use Rattle.rkyv_btree_unverified.specs.declared.search.Halt.TheVariants.{Found, Below}
-use Rattle.rkyv_btree_unverified.specs.declared.search.Next.{Next}
-use Rattle.rkyv_btree_unverified.specs.declared.search.Next.TheVariants.{Hit, Miss, Down}
+use Rattle.rkyv_btree_unverified.specs.declared.unverified_search.Halt.{Halt}
+use Rattle.rkyv_btree_unverified.specs.declared.unverified_search.Halt.TheVariants.{Found, Below}
+use Rattle.rkyv_btree_unverified.specs.declared.unverified_search.Next.{Next}
+use Rattle.rkyv_btree_unverified.specs.declared.unverified_search.Next.TheVariants.{Hit, Miss, Down}
 
 module _ (K V : Kind) (E : ℕ) (b : List ℕ) where
   grown : (m hi p : ℕ) → NodePasses (layout_of K V E) b hi p → ((i q : ℕ) → i ≤ E → child_place (layout_of K V E) b p i ≡ Some q → TreePasses (layout_of K V E) b m p q) → TreePasses (layout_of K V E) b (suc m) hi p

@@ -13,11 +13,11 @@ use lib.Signed.{lt_z, mag}
 pub kept : (r p : ℤ) → r ≡ p → mag r < 9223372036854775808 → to_z w64 (of_z w64 r) ≡ p
 kept r p e fits = let same : to_z w64 (of_z w64 r) ≡ r = omega (arith, ints, fits) in same ∙ e
 
-is_natural : (t : ℤ) → lt_z t (pos 0) ≡ false → t ≡ pos (unsigned_abs t)
+pub is_natural : (t : ℤ) → lt_z t (pos 0) ≡ false → t ≡ pos (unsigned_abs t)
 is_natural (pos q) h = refl
 is_natural (negsuc n) h = absurd (cc h)
 
-not_behind : (q hi : ℕ) (u t : ℤ) → u ≡ pos hi → t ≡ pos q → lt_z u t ≡ false → q ≤ hi
+pub not_behind : (q hi : ℕ) (u t : ℤ) → u ≡ pos hi → t ≡ pos q → lt_z u t ≡ false → q ≤ hi
 not_behind q hi u t e f h = let l : lt_z (pos hi) (pos q) ≡ false = rw (e, f) at h in grind (arith, ints)
 
 module _ (K V : Kind) (E hi : ℕ) (p t : ℤ) (same : t ≡ p) where

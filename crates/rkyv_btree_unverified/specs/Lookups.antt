@@ -4,12 +4,15 @@ use Rattle.std.specs.Prelude.{◌≡◌, ℕ, suc, zero, IsTrue, List, Option, S
 use Rattle.std.specs.declared.cmp.Ordering.{Ordering}
 use Rattle.std.specs.declared.cmp.Ordering.TheVariants.{Equal}
 use Rattle.rkyv_btree_base.specs.Kind.{Kind}
+use Rattle.rkyv_btree_base.specs.Read.{entry_at}
 use Rattle.rkyv_btree_base.specs.Refusal.{Refusal}
 use Rattle.rkyv_btree_base.specs.Refusal.TheVariants.{TooDeep}
 use Rattle.rkyv_btree_base.specs.Views.{stands}
 use Rattle.rkyv_btree_unverified.specs.Steps.{value_place, Then, NodeGives, ChildGives, HeadGives, KeysGive, Gives}
-use Rattle.rkyv_btree_unverified.specs.declared.search.Halt.{Halt}
-use Rattle.rkyv_btree_unverified.specs.declared.search.Halt.TheVariants.{Found, Below}
+use Rattle.rkyv_btree_unverified.specs.declared.unverified_search.Halt.{Halt}
+use Rattle.rkyv_btree_unverified.specs.declared.unverified_search.Halt.TheVariants.{Found, Below}
+use Rattle.rkyv_btree_view.specs.Lookup.{found_at}
+use Rattle.rkyv_btree_view.specs.Map.{IsMap}
 
 module _ (K V : Kind) (E : ℕ) (b : List ℕ) (answer : K.Value → Ordering) (KRefuses VRefuses : List ℕ → ℕ → ℕ → ℕ → Refusal → Type 0) where
   -- what the search returns that goes on with a child, whose search is given; and one that goes on at an entry of the node at p
@@ -30,6 +33,10 @@ module _ (K V : Kind) (E : ℕ) (b : List ℕ) (answer : K.Value → Ordering) (
   abbrev pub LookupGives : ℕ → Result (Option (ℕ × ℕ)) Refusal → Type 0
   LookupGives at r = Then (HeadGives K V E b at) (AtChild (TreeGives 32 at)) r
 
+  -- what it returns where the tree may have at most so many levels
+  abbrev pub LookupGivesWithin : ℕ → ℕ → Result (Option (ℕ × ℕ)) Refusal → Type 0
+  LookupGivesWithin levels at r = Then (HeadGives K V E b at) (AtChild (TreeGives levels at)) r
+
   -- such a lookup finds nothing, or what is at this place of the entry
   abbrev pub FindsAt : ℕ → {P : Type 0} → (ℕ × ℕ → P) → Option P → Type 0
   FindsAt at of result = (entry : Option (ℕ × ℕ)) × LookupGives at (Ok entry) × (result ≡ option_map of entry)
@@ -46,3 +53,10 @@ module _ (K V : Kind) (E : ℕ) (KRefuses VRefuses : List ℕ → ℕ → ℕ �
   FoundIsValid =
       (b : List ℕ) (answer : K.Value → Ordering) (at : ℕ) (e : ℕ × ℕ) → LookupGives K V E b answer KRefuses VRefuses at (Ok (Some e))
       → Gives K V E b answer Equal e × IsTrue (stands V b (value_place K V E e))
+
+  -- in an accepted map it returns no error, and finds what a lookup in a view of the map finds
+  abbrev pub MapsAreSearched : Type 0
+  MapsAreSearched =
+      (b : List ℕ) (answer : K.Value → Ordering) (at : ℕ) (m : List (K.Value × V.Value)) (r : Result (Option (ℕ × ℕ)) Refusal)
+      → IsMap K V E b at m → LookupGives K V E b answer KRefuses VRefuses at r
+      → (entry : Option (ℕ × ℕ)) × (r ≡ Ok entry) × (option_map (entry_at K V E b) entry ≡ found_at K V E b at answer)

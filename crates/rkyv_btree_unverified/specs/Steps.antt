@@ -13,8 +13,8 @@ use Rattle.rkyv_btree_base.specs.Refusals.{HasKind, IsInner, leaf_len, map_len}
 use Rattle.rkyv_btree_base.specs.Refusing.{HasPlace, Misplaced}
 use Rattle.rkyv_btree_base.specs.Views.{stands}
 use Rattle.rkyv_btree_portable.specs.declared.check.Portable
-use Rattle.rkyv_btree_unverified.specs.declared.search.Halt.{Halt}
-use Rattle.rkyv_btree_unverified.specs.declared.search.Halt.TheVariants.{Found, Below}
+use Rattle.rkyv_btree_unverified.specs.declared.unverified_search.Halt.{Halt}
+use Rattle.rkyv_btree_unverified.specs.declared.unverified_search.Halt.TheVariants.{Found, Below}
 use Rattle.rkyv_btree_view.specs.declared.view.View.{View}
 
 -- a step gives some value, with which the next one goes on, or an error, which is the last

@@ -2,7 +2,7 @@
 ghost use Rattle.std.specs.BTreeMap.{is_at};
 ghost use Rattle.std.specs.Map.{lookup, lookup_entry};
 ghost use Rattle.std.specs.Option.{option_map};
-ghost use Rattle.std.specs.Prelude.{◌≡◌, ◌↔◌, ◌≤◌, ◌<◌, ◌+◌, ◌*◌, Err, Ok, IfErr, IfOk, IfSome, IsOk, IsSome, IsTrue, is_some, length, ⊤};
+ghost use Rattle.std.specs.Prelude.{◌≡◌, ◌↔◌, ◌≤◌, ◌<◌, ◌+◌, ◌-◌, ◌*◌, Err, Ok, IfErr, IfOk, IfSome, IsOk, IsSome, IsTrue, is_some, length, ⊤};
 ghost use Rattle.std.specs.declared.cmp.Ordering.TheVariants.{Equal};
 ghost use Rattle.rkyv_btree_base.specs.Layout.{are_fitting, layout_of};
 ghost use Rattle.rkyv_btree_base.specs.Map.{map_kind};
@@ -13,15 +13,15 @@ ghost use Rattle.rkyv_btree_base.specs.Refusals.{RefusesMap, map_len};
 ghost use Rattle.rkyv_btree_base.specs.Refusing.{Misplaced};
 ghost use Rattle.rkyv_btree_base.specs.Whole.{own_at};
 ghost use Rattle.rkyv_btree_base.specs.Increasing.{Increasing};
-ghost use Rattle.rkyv_btree_unverified.specs.Lookups.{FindsAt, LookupGives};
+ghost use Rattle.rkyv_btree_unverified.specs.Lookups.{FindsAt, LookupGives, LookupGivesWithin};
 ghost use Rattle.rkyv_btree_unverified.specs.Steps.{entry_places, places, value_place};
 ghost use Rattle.rkyv_btree_view.specs.Lookup.{found_at, ByComparison, ByNative};
 ghost use Rattle.rkyv_btree_view.specs.Map.{IsMap};
-ghost use Rattle.rkyv_btree_view.specs.View.{reads, reads_both};
+ghost use Rattle.rkyv_btree_view.specs.View.{entries_of, reads, reads_both};
 ghost use Rattle.rkyv_btree_walk.specs.Search.{comparisons, shown, AnyHit, OrderedBy};
 ghost use Rattle.rkyv_btree_walk.specs.mirror.Node.{RunStands};
 
-use crate::search::search;
+use crate::unverified_search::search;
 use rkyv_btree_base::bytes::num32;
 use rkyv_btree_base::check::{CheckBytes, Portable};
 use rkyv_btree_base::map::ArchivedBTreeMap;
@@ -29,10 +29,10 @@ use rkyv_btree_base::refusal::Refusal;
 use rkyv_btree_base::steps::StepCounter;
 use rkyv_btree_portable::check::check_own_bytes;
 use rkyv_btree_view::compare::ViewOrd;
-use rkyv_btree_view::map::{ShowsEntries, access};
-use rkyv_btree_view::query::CompareWith;
+use rkyv_btree_view::compare_native::CompareWith;
+use rkyv_btree_view::map_view::{ShowsEntries, access};
 use rkyv_btree_view::view::View;
-use rkyv_btree_walk::map::ArchivedMap;
+use rkyv_btree_walk::archived_map::ArchivedMap;
 use rkyv_btree_walk::node::{key_pos, value_pos};
 use rkyv_btree_walk::search::Compared;
 use rkyv_btree_walk::shows::Shows;
@@ -89,6 +89,13 @@ impl<'a, K: CheckBytes, V: CheckBytes, M: ArchivedMap<Key = K, Mapped = V>> Unve
     /// # Errors
     ///
     /// `Refusal::TooLong` if positions of 32 bits don't reach all bytes.
+    ///
+    /// # Examples
+    ///
+    /// ```rust
+    /// let map = Unverified::<Prices>::open(bytes)?;
+    /// Ok(map.get_by(name)?.map(|price| price.to_native()))
+    /// ```
     pub fn open(bytes: &'a [u8]) -> Result<Unverified<'a, M>, Refusal>
         requires { IsTrue (are_fitting K.kind V.kind M.E) }
         ensures buffer { IfOk result (λ map. map.buf.now ≡ bytes.now) }
@@ -104,24 +111,25 @@ impl<'a, K: CheckBytes, V: CheckBytes, M: ArchivedMap<Key = K, Mapped = V>> Unve
         Ok(Unverified::new(bytes, len.saturating_sub(8)))
     }
 
-    /// Returns the number of entries, as the map's own bytes say it.
+    /// Returns the number of entries, as the map's own bytes say it. It has 32 bits.
     ///
     /// # Errors
     ///
     /// A fault of the own bytes: they don't lie in the buffer, or aren't aligned.
-    pub fn len(self) -> Result<u32, Refusal>
+    pub fn len(self) -> Result<usize, Refusal>
         ensures read { IfOk result (λ len.
             len ≡ map_len K.kind V.kind M.E self.entry.buf.now self.entry.pos) }
         ensures accepts { (m : _) → IsMap K.kind V.kind M.E self.entry.buf.now self.entry.pos m →
             IsOk result }
         ensures counts { (m : _) → IsMap K.kind V.kind M.E self.entry.buf.now self.entry.pos m →
             IfOk result (λ len. len ≡ length m) }
+        ensures small { IfOk result (λ len. len ≤ 4294967295) }
         ensures refused { IfErr result (Misplaced self.entry.buf.now 8 4 self.entry.pos) }
         ensures all_refused { (refusal : Refusal) →
             Misplaced self.entry.buf.now 8 4 self.entry.pos refusal → result ≡ Err refusal }
     {
         match check_own_bytes(self.buf, self.pos, 8, 4) {
-            Ok(_) => Ok(num32(self.buf, self.pos + 4)),
+            Ok(_) => Ok(num32(self.buf, self.pos + 4) as usize),
             Err(refusal) => Err(refusal),
         }
     }
@@ -192,14 +200,17 @@ impl<'a, K: CheckBytes, V: CheckBytes, M: ArchivedMap<Key = K, Mapped = V>> Unve
             self.entry.pos (Err refusal) → result ≡ Err refusal) }
     {
         let compare = |query: &Q, key: W| Compared::of(cmp(query, key));
-        let mut steps = StepCounter::new();
-        match search::<Q, K, V, M, W, _>(self.buf, self.pos, key, &compare, &mut steps) {
+        let (mut steps, mut nodes) = (StepCounter::new(), StepCounter::new());
+        match search::<Q, K, V, M, W, _>(
+            self.buf, self.pos, key, &compare, &mut steps, &mut nodes,
+        ) {
             Err(refusal) => Err(refusal),
             Ok(found) => Ok(self.entry_found(found)),
         }
     }
 
-    /// Returns what `get_key_value_with` returns, and adds one to the counter for each key that it reads.
+    /// Returns what `get_key_value_with` returns. It adds one to `steps` for each key that it reads, and one to `nodes` for each
+    /// node.
     ///
     /// # Errors
     ///
@@ -209,10 +220,19 @@ impl<'a, K: CheckBytes, V: CheckBytes, M: ArchivedMap<Key = K, Mapped = V>> Unve
         key: &Q,
         cmp: C,
         steps: &mut StepCounter,
+        nodes: &mut StepCounter,
     ) -> Result<Option<(View<'a, K>, View<'a, V>)>, Refusal>
         requires callable { C.IsAlwaysCallable cmp }
         requires room { steps.old ≤ 9223372036854775807 }
-        // On all bytes these are no more than a node has entries, times 32.
+        requires room_for_nodes { nodes.old ≤ 9223372036854775807 }
+        // On all bytes these are no more than 32 nodes, and no more keys than a node has entries, times 32.
+        ensures nodes { nodes.new ≤ nodes.old + 32 }
+        // The way to what is found, or to its end, has no more levels than nodes are counted.
+        ensures levels { ByComparison (C.post cmp) (shown K.kind W.Shows) key.now (λ answer.
+            IfOk result (λ found. (entry : _) × LookupGivesWithin K.kind V.kind M.E
+            self.entry.buf.now answer K.Refuses V.Refuses (nodes.new - nodes.old) self.entry.pos
+            (Ok entry) × (option_map places found
+            ≡ option_map (entry_places K.kind V.kind M.E) entry))) }
         ensures few { steps.new ≤ steps.old + M.E * 32 }
         ensures more { steps.old ≤ steps.new }
         // On a map they are those of a lookup in a view of it.
@@ -253,7 +273,7 @@ impl<'a, K: CheckBytes, V: CheckBytes, M: ArchivedMap<Key = K, Mapped = V>> Unve
             self.entry.pos (Err refusal) → result ≡ Err refusal) }
     {
         let compare = |query: &Q, key: W| Compared::of(cmp(query, key));
-        match search::<Q, K, V, M, W, _>(self.buf, self.pos, key, &compare, steps) {
+        match search::<Q, K, V, M, W, _>(self.buf, self.pos, key, &compare, steps, nodes) {
             Err(refusal) => Err(refusal),
             Ok(found) => Ok(self.entry_found(found)),
         }
@@ -309,8 +329,10 @@ impl<
             self.entry.pos (Err refusal) → result ≡ Err refusal) }
     {
         let compare = |query: &T, key: View<K>| K::compared(query, &key);
-        let mut steps = StepCounter::new();
-        match search::<_, K, V, M, _, _>(self.buf, self.pos, &key, &compare, &mut steps) {
+        let (mut steps, mut nodes) = (StepCounter::new(), StepCounter::new());
+        match search::<_, K, V, M, _, _>(
+            self.buf, self.pos, &key, &compare, &mut steps, &mut nodes,
+        ) {
             Err(refusal) => Err(refusal),
             Ok(found) => Ok(self.entry_found(found)),
         }
@@ -445,8 +467,10 @@ impl<
             self.entry.pos (Err refusal) → result ≡ Err refusal }
     {
         let compare = |query: &View<'_, K>, key: View<K>| Compared::of(K::compare(query, &key));
-        let mut steps = StepCounter::new();
-        match search::<_, K, V, M, _, _>(self.buf, self.pos, &key, &compare, &mut steps) {
+        let (mut steps, mut nodes) = (StepCounter::new(), StepCounter::new());
+        match search::<_, K, V, M, _, _>(
+            self.buf, self.pos, &key, &compare, &mut steps, &mut nodes,
+        ) {
             Err(refusal) => Err(refusal),
             Ok(found) => Ok(self.entry_found(found)),
         }
@@ -540,16 +564,13 @@ impl<'a, K: CheckBytes, V: CheckBytes, const E: usize> Unverified<'a, ArchivedBT
     pub fn verify(self) -> Result<View<'a, ArchivedBTreeMap<K, V, E>>, Refusal>
         ensures buffer { IfOk result (λ map. map.buf.now ≡ self.entry.buf.now) }
         ensures position { IfOk result (λ map. map.pos ≡ self.entry.pos) }
-        ensures accepted { let entries = read_map K.kind V.kind E self.entry.buf.now
-            self.entry.pos in
-            IfOk result (λ _. IsMap K.kind V.kind E self.entry.buf.now self.entry.pos entries) }
-        ensures all_accepted { (m : _) →
-            IsMap K.kind V.kind E self.entry.buf.now self.entry.pos m → IsOk result }
-        ensures refused { IfErr result (λ refusal.
-            RefusesMap K.kind V.kind E self.entry.buf.now 0 self.entry.pos self.entry.pos refusal) }
-        ensures all_refused { (refusal : Refusal) →
-            RefusesMap K.kind V.kind E self.entry.buf.now 0 self.entry.pos self.entry.pos refusal →
-            result ≡ Err refusal }
+        ensures accepts { IsOk result
+            ↔ ((m : _) × IsMap K.kind V.kind E self.entry.buf.now self.entry.pos m) }
+        ensures entries { IfOk result (λ map. IsMap K.kind V.kind E self.entry.buf.now
+            self.entry.pos (entries_of K.kind V.kind E map)) }
+        ensures refuses { (refusal : Refusal) → (result ≡ Err refusal)
+            ↔ RefusesMap K.kind V.kind E self.entry.buf.now 0 self.entry.pos self.entry.pos
+            refusal }
     {
         access::<K, V, E>(self.buf, self.pos)
     }

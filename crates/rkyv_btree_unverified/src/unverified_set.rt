@@ -3,7 +3,7 @@ ghost use Rattle.std.specs.BTreeMap.{is_at};
 ghost use Rattle.std.specs.List.{find};
 ghost use Rattle.std.specs.Map.{keys_of};
 ghost use Rattle.std.specs.Option.{option_map};
-ghost use Rattle.std.specs.Prelude.{◌≡◌, Err, Ok, IfErr, IfOk, IfSome, IsOk, is_some};
+ghost use Rattle.std.specs.Prelude.{◌≡◌, ◌↔◌, Err, Ok, IfErr, IfOk, IfSome, IsOk, is_some};
 ghost use Rattle.std.specs.declared.cmp.Ordering.TheVariants.{Equal};
 ghost use Rattle.rkyv_btree_base.specs.Read.{read_map};
 ghost use Rattle.rkyv_btree_base.specs.Refusal.{Refusal};
@@ -14,7 +14,7 @@ ghost use Rattle.rkyv_btree_unverified.specs.Lookups.{FindsAt, LookupGives};
 ghost use Rattle.rkyv_btree_unverified.specs.Steps.{key_place};
 ghost use Rattle.rkyv_btree_view.specs.Lookup.{found_at, ByNative};
 ghost use Rattle.rkyv_btree_view.specs.Map.{IsMap};
-ghost use Rattle.rkyv_btree_view.specs.View.{reads};
+ghost use Rattle.rkyv_btree_view.specs.View.{entries_of, reads};
 
 use crate::unverified::Unverified;
 use rkyv_btree_base::check::CheckBytes;
@@ -22,8 +22,8 @@ use rkyv_btree_base::map::ArchivedBTreeMap;
 use rkyv_btree_base::refusal::Refusal;
 use rkyv_btree_base::set::ArchivedBTreeSet;
 use rkyv_btree_view::compare::ViewOrd;
-use rkyv_btree_view::query::CompareWith;
-use rkyv_btree_view::set::access;
+use rkyv_btree_view::compare_native::CompareWith;
+use rkyv_btree_view::set_view::access;
 use rkyv_btree_view::view::View;
 use std::marker::PhantomData;
 
@@ -48,18 +48,13 @@ impl<'a, K: CheckBytes, const E: usize> Unverified<'a, ArchivedBTreeSet<K, E>> {
     pub fn verify(self) -> Result<View<'a, ArchivedBTreeSet<K, E>>, Refusal>
         ensures buffer { IfOk result (λ set. set.buf.now ≡ self.entry.buf.now) }
         ensures position { IfOk result (λ set. set.pos ≡ self.entry.pos) }
-        ensures accepted { let entries = read_map K.kind unit_kind E self.entry.buf.now
-            self.entry.pos in
-            IfOk result (λ _. IsMap K.kind unit_kind E self.entry.buf.now self.entry.pos entries) }
-        ensures all_accepted { (m : _) →
-            IsMap K.kind unit_kind E self.entry.buf.now self.entry.pos m → IsOk result }
-        ensures refused { IfErr result (λ refusal.
-            RefusesMap K.kind unit_kind E self.entry.buf.now 0 self.entry.pos self.entry.pos
-            refusal) }
-        ensures all_refused { (refusal : Refusal) →
-            RefusesMap K.kind unit_kind E self.entry.buf.now 0 self.entry.pos self.entry.pos
-            refusal →
-            result ≡ Err refusal }
+        ensures accepts { IsOk result
+            ↔ ((m : _) × IsMap K.kind unit_kind E self.entry.buf.now self.entry.pos m) }
+        ensures entries { IfOk result (λ set. IsMap K.kind unit_kind E self.entry.buf.now
+            self.entry.pos (entries_of K.kind unit_kind E set)) }
+        ensures refuses { (refusal : Refusal) → (result ≡ Err refusal)
+            ↔ RefusesMap K.kind unit_kind E self.entry.buf.now 0 self.entry.pos self.entry.pos
+            refusal }
     {
         access::<K, E>(self.buf, self.pos)
     }
@@ -77,7 +72,8 @@ impl<'a, K: CheckBytes, const E: usize> Unverified<'a, ArchivedBTreeSet<K, E>> {
             IfOk result (λ found. IfSome (option_map reads found) (λ key. answer key ≡ Equal))) }
         ensures places { ByNative K.kind K.compared_at key (λ answer.
             IfOk result (λ found.
-            FindsAt K.kind unit_kind E self.entry.buf.now answer K.Refuses ⟦<() as CheckBytes>⟧.Refuses self.entry.pos (key_place K.kind unit_kind E) (option_map
+            FindsAt K.kind unit_kind E self.entry.buf.now answer K.Refuses
+            ⟦<() as CheckBytes>⟧.Refuses self.entry.pos (key_place K.kind unit_kind E) (option_map
             (λ key. key.pos) found))) }
         ensures buffer { IfOk result (λ found. IfSome found (λ key. key.buf.now
             ≡ self.entry.buf.now)) }
@@ -95,10 +91,12 @@ impl<'a, K: CheckBytes, const E: usize> Unverified<'a, ArchivedBTreeSet<K, E>> {
         // Each error has its cause, and each cause its error.
         ensures refused { ByNative K.kind K.compared_at key (λ answer.
             IfErr result (λ refusal.
-            LookupGives K.kind unit_kind E self.entry.buf.now answer K.Refuses ⟦<() as CheckBytes>⟧.Refuses self.entry.pos (Err refusal))) }
+            LookupGives K.kind unit_kind E self.entry.buf.now answer K.Refuses
+            ⟦<() as CheckBytes>⟧.Refuses self.entry.pos (Err refusal))) }
         ensures all_refused { ByNative K.kind K.compared_at key (λ answer.
             (refusal : Refusal) →
-            LookupGives K.kind unit_kind E self.entry.buf.now answer K.Refuses ⟦<() as CheckBytes>⟧.Refuses self.entry.pos (Err refusal) → result ≡ Err refusal) }
+            LookupGives K.kind unit_kind E self.entry.buf.now answer K.Refuses
+            ⟦<() as CheckBytes>⟧.Refuses self.entry.pos (Err refusal) → result ≡ Err refusal) }
     {
         match self.as_map().get_key_value_by(key) {
             Err(refusal) => Err(refusal),
@@ -134,10 +132,12 @@ impl<'a, K: CheckBytes, const E: usize> Unverified<'a, ArchivedBTreeSet<K, E>> {
         // Each error has its cause, and each cause its error.
         ensures refused { ByNative K.kind K.compared_at key (λ answer.
             IfErr result (λ refusal.
-            LookupGives K.kind unit_kind E self.entry.buf.now answer K.Refuses ⟦<() as CheckBytes>⟧.Refuses self.entry.pos (Err refusal))) }
+            LookupGives K.kind unit_kind E self.entry.buf.now answer K.Refuses
+            ⟦<() as CheckBytes>⟧.Refuses self.entry.pos (Err refusal))) }
         ensures all_refused { ByNative K.kind K.compared_at key (λ answer.
             (refusal : Refusal) →
-            LookupGives K.kind unit_kind E self.entry.buf.now answer K.Refuses ⟦<() as CheckBytes>⟧.Refuses self.entry.pos (Err refusal) → result ≡ Err refusal) }
+            LookupGives K.kind unit_kind E self.entry.buf.now answer K.Refuses
+            ⟦<() as CheckBytes>⟧.Refuses self.entry.pos (Err refusal) → result ≡ Err refusal) }
     {
         match self.get_by(key) {
             Err(refusal) => Err(refusal),
@@ -158,7 +158,8 @@ impl<'a, K: CheckBytes + ViewOrd, const E: usize> Unverified<'a, ArchivedBTreeSe
             IfOk result (λ found. IfSome (option_map reads found) (λ key. answer key ≡ Equal)) }
         ensures places { let answer = K.kind.order (reads key.entry) in
             IfOk result (λ found.
-            FindsAt K.kind unit_kind E self.entry.buf.now answer K.Refuses ⟦<() as CheckBytes>⟧.Refuses self.entry.pos (key_place K.kind unit_kind E) (option_map
+            FindsAt K.kind unit_kind E self.entry.buf.now answer K.Refuses
+            ⟦<() as CheckBytes>⟧.Refuses self.entry.pos (key_place K.kind unit_kind E) (option_map
             (λ key. key.pos) found)) }
         ensures buffer { IfOk result (λ found. IfSome found (λ key. key.buf.now
             ≡ self.entry.buf.now)) }
@@ -176,10 +177,12 @@ impl<'a, K: CheckBytes + ViewOrd, const E: usize> Unverified<'a, ArchivedBTreeSe
         // Each error has its cause, and each cause its error.
         ensures refused { let answer = K.kind.order (reads key.entry) in
             IfErr result (λ refusal.
-            LookupGives K.kind unit_kind E self.entry.buf.now answer K.Refuses ⟦<() as CheckBytes>⟧.Refuses self.entry.pos (Err refusal)) }
+            LookupGives K.kind unit_kind E self.entry.buf.now answer K.Refuses
+            ⟦<() as CheckBytes>⟧.Refuses self.entry.pos (Err refusal)) }
         ensures all_refused { let answer = K.kind.order (reads key.entry) in
             (refusal : Refusal) →
-            LookupGives K.kind unit_kind E self.entry.buf.now answer K.Refuses ⟦<() as CheckBytes>⟧.Refuses self.entry.pos (Err refusal) → result ≡ Err refusal }
+            LookupGives K.kind unit_kind E self.entry.buf.now answer K.Refuses
+            ⟦<() as CheckBytes>⟧.Refuses self.entry.pos (Err refusal) → result ≡ Err refusal }
     {
         match self.as_map().get_key_value(key) {
             Err(refusal) => Err(refusal),
@@ -213,10 +216,12 @@ impl<'a, K: CheckBytes + ViewOrd, const E: usize> Unverified<'a, ArchivedBTreeSe
         // Each error has its cause, and each cause its error.
         ensures refused { let answer = K.kind.order (reads key.entry) in
             IfErr result (λ refusal.
-            LookupGives K.kind unit_kind E self.entry.buf.now answer K.Refuses ⟦<() as CheckBytes>⟧.Refuses self.entry.pos (Err refusal)) }
+            LookupGives K.kind unit_kind E self.entry.buf.now answer K.Refuses
+            ⟦<() as CheckBytes>⟧.Refuses self.entry.pos (Err refusal)) }
         ensures all_refused { let answer = K.kind.order (reads key.entry) in
             (refusal : Refusal) →
-            LookupGives K.kind unit_kind E self.entry.buf.now answer K.Refuses ⟦<() as CheckBytes>⟧.Refuses self.entry.pos (Err refusal) → result ≡ Err refusal }
+            LookupGives K.kind unit_kind E self.entry.buf.now answer K.Refuses
+            ⟦<() as CheckBytes>⟧.Refuses self.entry.pos (Err refusal) → result ≡ Err refusal }
     {
         match self.get(key) {
             Err(refusal) => Err(refusal),

@@ -1,5 +1,5 @@
 //! The check of foreign bytes for a map: the order of checking is part of what the calls promise.
-ghost use Rattle.std.specs.Prelude.{◌≡◌, ◌≤◌, ◌<◌, ◌+◌, ◌-◌, ◌*◌, ◌/◌, ◌%◌, ◌^◌, ℕ, List, length, IfOk, IfErr, Ok, Err, pos, IsTrue};
+ghost use Rattle.std.specs.Prelude.{◌↔◌, ◌≡◌, ◌≤◌, ◌<◌, ◌+◌, ◌-◌, ◌*◌, ◌/◌, ◌%◌, ◌^◌, ℕ, List, length, IfOk, IfErr, Ok, Err, pos, IsTrue};
 ghost use Rattle.rkyv_btree_portable.specs.declared.refusal.Refusal.{Refusal};
 ghost use Rattle.rkyv_btree_portable.specs.declared.check.Window.{Window};
 ghost use Rattle.rkyv_btree_verify.specs.Claims.{ClaimsAreApart, NodesAreFew};
@@ -362,10 +362,14 @@ fn check_map<K: CheckBytes, V: CheckBytes, const E: usize>(
     check_root::<K, V, E>(buf, pos, window, steps)
 }
 
-/// Checks the map at position `pos` in foreign bytes, with all of its tree and its entries, whose bytes may lie in
-/// `window`. It answers the window that is left: its `lo` is the end of the root node, or as it was where the map is
-/// empty. Each node is looked at once where the bytes are accepted. The check takes no memory, and goes at most 32 levels
-/// down.
+/// Validates the map at position `pos` of untrusted bytes, and returns the window that is left.
+///
+/// Its nodes, keys and values may lie in `window`. The result's `lo` is the end of the root node, or `window.lo` if the map
+/// is empty. Each node of a valid map is read once. No memory is allocated, and the recursion is at most 32 calls deep.
+///
+/// # Errors
+///
+/// The first error in the order of docs/FORMAT.md.
 pub fn verify<K: CheckBytes, V: CheckBytes, const E: usize>(
     buf: &[u8],
     pos: u32,
@@ -374,22 +378,22 @@ pub fn verify<K: CheckBytes, V: CheckBytes, const E: usize>(
     requires fitting { IsTrue (are_fitting K.kind V.kind E) }
     requires ordered { window.lo ≤ window.hi }
     requires before { window.hi ≤ pos }
-    // What is accepted is a map, which leaves this window.
-    ensures accepted { IfOk result (IsMapIn K.kind V.kind E buf.now window pos) }
-    // Each map is accepted.
-    ensures all_accepted { (left : Window) → IsMapIn K.kind V.kind E buf.now window pos left →
-        result ≡ Ok left }
-    // What is refused has the fault that the refusal names.
-    ensures refused { IfErr result (RefusesMapIn K.kind V.kind E buf.now window pos) }
-    // Each fault is refused.
-    ensures all_refused { (e : Refusal) → RefusesMapIn K.kind V.kind E buf.now window pos e →
-        result ≡ Err e }
+    // The result is `Ok left` exactly for a map that leaves this window.
+    ensures accepts { (left : Window) →
+        (result ≡ Ok left) ↔ IsMapIn K.kind V.kind E buf.now window pos left }
+    // The result is an error exactly for bytes with that error.
+    ensures refuses { (e : Refusal) →
+        (result ≡ Err e) ↔ RefusesMapIn K.kind V.kind E buf.now window pos e }
 {
     let mut steps = StepCounter::new();
     verify_counted::<K, V, E>(buf, pos, window, &mut steps)
 }
 
-/// The same, and counts the checks of nodes that are begun.
+/// Validates as `verify` does, and adds the number of nodes that it reads to `steps`.
+///
+/// # Errors
+///
+/// Those of `verify`. The nodes that were read are counted then too.
 pub fn verify_counted<K: CheckBytes, V: CheckBytes, const E: usize>(
     buf: &[u8],
     pos: u32,
@@ -400,12 +404,10 @@ pub fn verify_counted<K: CheckBytes, V: CheckBytes, const E: usize>(
     requires ordered { window.lo ≤ window.hi }
     requires before { window.hi ≤ pos }
     requires count { steps.old ≤ 9223372036854775807 }
-    ensures accepted { IfOk result (IsMapIn K.kind V.kind E buf.now window pos) }
-    ensures all_accepted { (left : Window) → IsMapIn K.kind V.kind E buf.now window pos left →
-        result ≡ Ok left }
-    ensures refused { IfErr result (RefusesMapIn K.kind V.kind E buf.now window pos) }
-    ensures all_refused { (e : Refusal) → RefusesMapIn K.kind V.kind E buf.now window pos e →
-        result ≡ Err e }
+    ensures accepts { (left : Window) →
+        (result ≡ Ok left) ↔ IsMapIn K.kind V.kind E buf.now window pos left }
+    ensures refuses { (e : Refusal) →
+        (result ≡ Err e) ↔ RefusesMapIn K.kind V.kind E buf.now window pos e }
     // On what is accepted it counts the nodes.
     ensures nodes { CountsNodes K.kind V.kind E buf.now window pos steps.old steps.new }
     // On all bytes it counts few.

@@ -1,5 +1,5 @@
 -- A bound of references is the bound of what they refer to.
-use Rattle.std.proofs.Common.{◌≡◌, List, ap}
+use Rattle.std.proofs.Common.{◌≡◌, List, ap, refl}
 use Rattle.std.specs.Borrow.{Bor}
 use Rattle.std.specs.Range.Bound.{bound_map}
 use Rattle.std.specs.declared.cmp.Ordering.{Ordering}
@@ -15,3 +15,8 @@ refers h Unbounded bound e = ap (bound_map h) e
 pub within_referred : {N A B : Type 0} (answer : N → A → Ordering) (l h : Bound (Bor N)) (low high : Bound N) (all range : List (A × B)) → bound_map (λ x. x.now) l ≡ low → bound_map (λ x. x.now) h ≡ high
     → IsWithin (bound_map (λ q. answer q.now) l) (bound_map (λ q. answer q.now) h) all range → IsWithin (bound_map answer low) (bound_map answer high) all range
 within_referred answer l h low high all range e f within = rw (← refers answer l low e, ← refers answer h high f) within
+
+pub unbounded_referred : {N : Type 0} (r : Bound (Bor N)) → bound_map (λ x. x.now) r ≡ Unbounded → r ≡ Unbounded
+unbounded_referred (Included q) e = cc
+unbounded_referred (Excluded q) e = cc
+unbounded_referred Unbounded e = refl

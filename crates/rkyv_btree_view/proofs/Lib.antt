@@ -3,4 +3,7 @@ pub mod Agreed
 pub mod Bounds
 pub mod Drained
 pub mod Lookups
+pub mod Ordered
+pub mod LookedUp
+pub mod Remaining
 pub mod Sets

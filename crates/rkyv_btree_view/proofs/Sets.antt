@@ -10,7 +10,7 @@ use Rattle.std.specs.declared.ops.ControlFlow.TheVariants.{Continue, Break}
 use Rattle.std.specs.declared.ops.Bound.{Bound}
 use Rattle.std.specs.declared.ops.Bound.TheVariants.{Included, Excluded, Unbounded}
 use Rattle.rkyv_btree_walk.specs.Bounds.{IsRun, OrderedFor, IsWithin, is_from, is_to}
-use Rattle.rkyv_btree_walk.specs.Search.{OrderedBy, AnyHit}
+use Rattle.rkyv_btree_walk.specs.Search.{OrderedBy, AnyHit, IsHit}
 use Rattle.rkyv_btree_walk.specs.Visit.{Visits, AfterAnswer}
 use Rattle.rkyv_btree_view.specs.Set.{KeysOrderedFor, AreKeysWithin, VisitsKeys}
 use denote.Param.Always.{always_mut, mut_by}
@@ -48,8 +48,12 @@ module _ {A : Type 0} where
           All-map (λ (e : A × Unit {0}). answer e.0 ≡ Less) with_unit less h.6,
         )
 
-    keys_hit : AnyHit (λ e. answer e.0) m → AnyHit answer (keys m)
+    pub keys_hit : AnyHit (λ e. answer e.0) m → AnyHit answer (keys m)
     keys_hit h = (h.0, omega (arith, length-map m (λ (e : A × Unit {0}). e.0), h.1), λ d. rw (get_or-map (λ (e : A × Unit {0}). e.0) m h.0 (d, tt)) (h.2 (d, tt)))
+
+    -- an entry that is equal has a key that is
+    pub key_hit : (e : A × Unit {0}) → IsHit (λ e. answer e.0) m e → IsHit answer (keys m) e.0
+    key_hit e hit = (hit.0, hit.1, omega (arith, length-map m (λ (e : A × Unit {0}). e.0), hit.2), λ d. rw (get_or-map (λ (e : A × Unit {0}). e.0) m hit.1 (d, tt)) (ap (λ e. e.0) (hit.3 (d, tt))))
 
     entries_hit : AnyHit answer (keys m) → AnyHit (λ e. answer e.0) m
     entries_hit h = (h.0, omega (arith, length-map m (λ (e : A × Unit {0}). e.0), h.1), λ d. rw (← get_or-map (λ (e : A × Unit {0}). e.0) m h.0 d) (h.2 d.0))

@@ -1,7 +1,7 @@
 -- What iterators over keys and over values have left.
 use Rattle.std.specs.Prelude.{List, map}
 use Rattle.rkyv_btree_portable.specs.declared.check.Portable
-use Rattle.rkyv_btree_walk.specs.declared.map.ArchivedMap
+use Rattle.rkyv_btree_walk.specs.declared.archived_map.ArchivedMap
 use Rattle.rkyv_btree_view.specs.Iter.{entries_left}
 use Rattle.rkyv_btree_view.specs.Range.{range_left}
 use Rattle.rkyv_btree_view.specs.declared.keys.Keys.{Keys}

@@ -31,13 +31,13 @@ module _ (K V : Kind) (E : ℕ) {M : Type 0} {m : Portable.Ghosts M} (view : Vie
   abbrev pub comparisons_in : ℕ
   comparisons_in = comparisons (λ e. answer e.0) (entry_at K V E view.buf.now) (map_tree (layout_of K V E) view.buf.now view.pos)
 
-  -- a look-up finds that entry: an entry that is equal, and under an ordered comparison one if there is one
-  abbrev pub Finds : Option (K.Value × V.Value) → Type 0
-  Finds = Answers (λ e. answer e.0) (entry_at K V E view.buf.now) (map_tree (layout_of K V E) view.buf.now view.pos)
-
   -- under an ordered comparison it says that there is an entry exactly where some key is equal
   abbrev pub IsComplete : Type 0 → Type 0
   IsComplete Found = OrderedBy (λ e. answer e.0) (entries_of K V E view) → (Found ↔ AnyHit (λ e. answer e.0) (entries_of K V E view))
+
+-- an entry of the list has this value, and a key that gives Equal
+abbrev pub IsValueOfEqualKey : {A B : Type 0} → (A → Ordering) → List (A × B) → B → Type 0
+IsValueOfEqualKey {A} answer m value = (key : A) × IsHit (λ e. answer e.0) m (key, value)
 
 -- what holds of the answers to a query, by a comparison that is some function of the query and of what it is compared with
 abbrev pub ByComparison : {Q W A : Type 0} → (Bor Q → W → Ordering → Type 0) → (W → A) → Q → ((A → Ordering) → Type 0) → Type 0

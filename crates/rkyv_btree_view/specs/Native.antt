@@ -16,3 +16,8 @@ pub record ReadAs {N : Type 0} (kind : Kind) (read_native : List ℕ → ℕ →
 -- a kind whose values are native values
 pub as_itself : (kind : Kind) → ReadAs kind kind.read kind.same kind.order kind.hash_input
 as_itself kind = record { native = λ x. x; reads = λ b at. refl; same = λ x y. refl; order = λ x y. refl; hash_input = λ x. refl }
+
+-- what holds of native values, by any function that has the native value of each value as the type reads it
+abbrev pub ByReading : {N : Type 0} (kind : Kind) → (List ℕ → ℕ → N) → ((kind.Value → N) → Type 0) → Type 0
+ByReading {N} kind read_native Holds =
+    (native : kind.Value → N) → ((b : List ℕ) (at : ℕ) → read_native b at ≡ native (kind.read b at)) → Holds native

@@ -1,6 +1,6 @@
 -- Sets as views read them: the keys of a map whose values are (). `answer` is what comparing the query with a key gives, at
 -- each key.
-use Rattle.std.specs.Prelude.{◌≡◌, ℕ, List, [], ◌∷◌, map, filter, Option, None, ◌↔◌, ◌&&◌}
+use Rattle.std.specs.Prelude.{◌≡◌, ℕ, List, [], ◌∷◌, map, Option, None, ◌↔◌}
 use Rattle.std.specs.Option.{option_map}
 use Rattle.std.specs.declared.cmp.Ordering.{Ordering}
 use Rattle.std.specs.declared.ops.Bound.{Bound}
@@ -9,7 +9,7 @@ use Rattle.std.specs.declared.ops.ControlFlow.{ControlFlow}
 use Rattle.rkyv_btree_base.specs.Kind.{Kind}
 use Rattle.rkyv_btree_base.specs.Scalars.{unit_kind}
 use Rattle.rkyv_btree_portable.specs.declared.check.Portable
-use Rattle.rkyv_btree_walk.specs.Bounds.{is_from, is_to}
+use Rattle.rkyv_btree_walk.specs.Bounds.{keys_within}
 use Rattle.rkyv_btree_walk.specs.Search.{OrderedBy, AnyHit}
 use Rattle.rkyv_btree_walk.specs.Visit.{AfterAnswer}
 use Rattle.rkyv_btree_view.specs.Lookup.{found_in}
@@ -38,7 +38,7 @@ module _ {A : Type 0} where
 
   -- these keys are all that are within both bounds, where the keys are ordered for both
   abbrev pub AreKeysWithin : Bound (A → Ordering) → Bound (A → Ordering) → List A → List A → Type 0
-  AreKeysWithin low high all range = KeysOrderedFor low all → KeysOrderedFor high all → range ≡ filter (λ k. is_from low k && is_to high k) all
+  AreKeysWithin low high all range = KeysOrderedFor low all → KeysOrderedFor high all → range ≡ keys_within low high all
 
 module _ {F W Y T : Type 0} (call : F → W → ControlFlow T (Unit {0}) → F → Type 0) (means : W → Y) where
   -- the visitor was called at each key of the list in turn, up to the first that it broke off at, and went from `first` to

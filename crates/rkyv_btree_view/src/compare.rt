@@ -1,20 +1,27 @@
-//! Comparisons of views: those of what is read, wherever it stands.
-ghost use Rattle.std.specs.Cmp.{IsEquivalence, IsTotalOrder, on_per, on_equiv, on_po, on_total, and_equiv, then_total, both_tied};
-ghost use Rattle.std.specs.Cmp.{nat_eq_equiv, nat_cmp_total, partial_equiv_from_equiv};
-ghost use Rattle.std.specs.Cmp.Lexicographic.{nat_list_eq_equiv, nat_list_cmp_total, texts_ties};
+//! Comparisons of views with views: those of what is read, wherever it is, and of maps and sets by the lists of their entries.
+ghost use Rattle.std.specs.Cmp.{IsEquivalence, IsTotalOrder, on_per, on_equiv, on_po, on_total, and_equiv, then_total, both_tied, nat_eq_equiv, nat_cmp_total, partial_equiv_from_equiv};
+ghost use Rattle.std.specs.Cmp.Lexicographic.{nat_list_eq_equiv, nat_list_cmp_total, texts_ties, pointwise, lists_equiv};
 ghost use Rattle.std.specs.List.{fold};
 ghost use Rattle.std.specs.Ordering.{is_eq};
 ghost use Rattle.std.specs.Prelude.{◌≡◌, IsTrue, Some};
-ghost use Rattle.std.proofs.Common.{rules};
-ghost use Rattle.rkyv_btree_view.specs.View.{reads};
-ghost use Rattle.rkyv_btree_view.specs.laws.Comparing.{native_equivalence, native_total, native_matches, native_respects, views_order};
+ghost use Rattle.std.proofs.Common.{rules, refl};
+ghost use Rattle.rkyv_btree_view.specs.View.{reads, entries_of};
+ghost use Rattle.rkyv_btree_view.specs.laws.Comparing.{native_equivalence, native_total, native_matches, native_respects, views_order, map_respects, unit_equivalence};
+ghost use Rattle.rkyv_btree_base.specs.Entry.{entry_kind};
+ghost use Rattle.rkyv_btree_base.specs.Scalars.{unit_kind};
+ghost use Rattle.rkyv_btree_view.specs.Iter.{entries_left};
 
+use crate::iter::Iter;
+use crate::map_view::ShowsEntries;
 use crate::native::ToNative;
 use crate::view::View;
 use rkyv_btree_base::check::Portable;
+use rkyv_btree_base::map::ArchivedBTreeMap;
 use rkyv_btree_base::scalars::ArchivedNonZeroU32;
+use rkyv_btree_base::set::ArchivedBTreeSet;
 use rkyv_btree_base::text::ArchivedText;
 use rkyv_btree_base::util::Entry;
+use rkyv_btree_walk::archived_map::ArchivedMap;
 use std::cmp::Ordering;
 use std::hash::{Hash, Hasher};
 
@@ -206,4 +213,81 @@ impl<'a, T: ViewHash> Hash for View<'a, T> {
     fn hash<H: Hasher>(&self, state: &mut H) {
         T::hash_view(self, state);
     }
+}
+
+/// Whether the entries that two iterators have left are as many and agree one by one.
+fn rest_is_same<
+    K: ViewEq,
+    V: ViewEq,
+    M: ArchivedMap<Key = K, Mapped = V>,
+    N: ArchivedMap<Key = K, Mapped = V>,
+>(mut left: Iter<'_, M>, mut right: Iter<'_, N>) -> bool
+    ensures { result ≡ pointwise (entry_kind K.kind V.kind).same
+        (entries_left left.entry) (entries_left right.entry) }
+{
+    while let Some((key, value)) = left.next() {
+        let Some((other_key, other_value)) = right.next() else {
+            return false;
+        };
+        if !(K::is_same(&key, &other_key) && V::is_same(&value, &other_value)) {
+            return false;
+        }
+    }
+    right.next().is_none()
+}
+
+impl<'a, K: ViewEq, V: ViewEq, M: ArchivedMap<Key = K, Mapped = V> + ShowsEntries> View<'a, M> {
+    /// Returns whether the lists of both maps are as long and agree entry by entry. Their `E` may differ, while `==` takes maps of
+    /// one type.
+    pub fn eq_entries<N: ArchivedMap<Key = K, Mapped = V> + ShowsEntries>(
+        self,
+        other: View<'_, N>,
+    ) -> bool
+        ensures { result ≡ pointwise (entry_kind K.kind V.kind).same
+            (entries_of K.kind V.kind M.E self.entry) (entries_of K.kind V.kind N.E other.entry) }
+    {
+        // A map says its length, so lists that aren't as long cost no walk.
+        self.len() == other.len() && rest_is_same::<K, V, M, N>(self.walk(), other.walk())
+    }
+}
+
+impl<K: ViewEq, V: ViewEq, const E: usize> ViewEq for ArchivedBTreeMap<K, V, E> {
+    fn is_same(
+        a: &View<'_, ArchivedBTreeMap<K, V, E>>,
+        b: &View<'_, ArchivedBTreeMap<K, V, E>>,
+    ) -> bool {
+        a.eq_entries(*b)
+    }
+
+    ghost equivalence = { lists_equiv (and_equiv (on_equiv (λ e. e.0) K.equivalence)
+        (on_equiv (λ e. e.1) V.equivalence)) };
+}
+
+impl<K: ViewHash, V: ViewHash, const E: usize> ViewHash for ArchivedBTreeMap<K, V, E> {
+    fn hash_view<H: Hasher>(view: &View<'_, ArchivedBTreeMap<K, V, E>>, state: &mut H) {
+        let mut entries = view.walk();
+        while let Some((key, value)) = entries.next() {
+            K::hash_view(&key, state);
+            V::hash_view(&value, state);
+        }
+    }
+
+    ghost respects_same = { map_respects K.kind V.kind K.respects_same V.respects_same };
+}
+
+impl<K: ViewEq, const E: usize> ViewEq for ArchivedBTreeSet<K, E> {
+    fn is_same(a: &View<'_, ArchivedBTreeSet<K, E>>, b: &View<'_, ArchivedBTreeSet<K, E>>) -> bool {
+        a.as_map().eq_entries(b.as_map())
+    }
+
+    ghost equivalence = { lists_equiv (and_equiv (on_equiv (λ e. e.0) K.equivalence)
+        (on_equiv (λ e. e.1) unit_equivalence)) };
+}
+
+impl<K: ViewHash, const E: usize> ViewHash for ArchivedBTreeSet<K, E> {
+    fn hash_view<H: Hasher>(view: &View<'_, ArchivedBTreeSet<K, E>>, state: &mut H) {
+        ArchivedBTreeMap::<K, (), E>::hash_view(&view.as_map(), state);
+    }
+
+    ghost respects_same = { map_respects K.kind unit_kind K.respects_same (λ x y same. refl) };
 }

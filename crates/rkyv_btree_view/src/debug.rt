@@ -1,4 +1,7 @@
 //! Views in messages, as what they read.
+ghost use Rattle.std.specs.Fmt.{styled_text};
+ghost use Rattle.std.specs.Prelude.{Some};
+ghost use Rattle.rkyv_btree_view.specs.View.{reads};
 
 use crate::native::ToNative;
 use crate::view::View;
@@ -71,5 +74,15 @@ impl<K: ViewDebug, const E: usize> ViewDebug for ArchivedBTreeSet<K, E> {
 impl<'a, T: ViewDebug> fmt::Debug for View<'a, T> {
     fn fmt<W: fmt::Write>(&self, f: &mut fmt::Formatter<W>) -> fmt::Result {
         T::show(self, f)
+    }
+}
+
+impl<'a> fmt::Display for View<'a, ArchivedText> {
+    ghost output = { λ view. Some (reads view) };
+
+    ghost styled_output = { λ view spec. Some (styled_text spec (reads view)) };
+
+    fn fmt<W: fmt::Write>(&self, f: &mut fmt::Formatter<W>) -> fmt::Result {
+        f.pad(self.as_str())
     }
 }

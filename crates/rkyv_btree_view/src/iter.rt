@@ -1,57 +1,57 @@
 //! Iterators over the entries of a map.
-ghost use Rattle.std.specs.Prelude.{◌≡◌, ◌+◌, ◌-◌, ◌≤◌, length, map, IsTrue};
+ghost use Rattle.std.specs.Prelude.{◌≡◌, ◌+◌, length, IsTrue};
 ghost use Rattle.std.specs.Iterator.{IsFinite};
 ghost use Rattle.rkyv_btree_view.specs.Items.{ShowsAll};
-ghost use Rattle.rkyv_btree_base.specs.Layout.{layout_of, are_fitting};
+ghost use Rattle.rkyv_btree_base.specs.Layout.{layout_of};
 ghost use Rattle.rkyv_btree_base.specs.Read.{entry_at};
+ghost use Rattle.rkyv_btree_base.specs.Views.{stands};
+ghost use Rattle.rkyv_btree_walk.specs.EntryPlaces.{entry_places, place_of};
+ghost use Rattle.rkyv_btree_walk.specs.mirror.Along.{walk_left, IsWalk};
 ghost use Rattle.rkyv_btree_walk.specs.mirror.Node.{RunStands};
-ghost use Rattle.rkyv_btree_walk.specs.mirror.Path.{walk_rest, IsPath};
+ghost use Rattle.rkyv_btree_walk.specs.mirror.Range.{IsEnd};
 ghost use Rattle.rkyv_btree_view.specs.View.{reads_both, entries_of};
 
-use crate::map::ShowsEntries;
+use crate::map_view::ShowsEntries;
 use crate::view::View;
-use arrayvec::ArrayVec;
 use rkyv_btree_base::check::Portable;
-use rkyv_btree_walk::map::{ArchivedMap, map_len};
+use rkyv_btree_base::map::ArchivedBTreeMap;
+use rkyv_btree_walk::archived_map::ArchivedMap;
+use rkyv_btree_walk::entry_place::EntryPlace;
+use rkyv_btree_walk::entry_walk::{Walk, start, step};
 use rkyv_btree_walk::node::{key_pos, value_pos};
-use rkyv_btree_walk::path::{Path, advance, begin};
 use rkyv_btree_walk::shows::Shows;
 use std::iter::FusedIterator;
 use std::marker::PhantomData;
 
-/// The views of entry `index` of the node at `node`.
+/// Returns the views of the entry at a place, of the map at `pos`.
 #[inline(always)]
 pub(crate) fn entry<'a, K: Portable, V: Portable, M: ArchivedMap<Key = K, Mapped = V>>(
     buf: &'a [u8],
-    node: u32,
-    index: u32,
+    pos: u32,
+    place: EntryPlace,
 ) -> (View<'a, K>, View<'a, V>)
-    requires fitting { IsTrue (are_fitting K.kind V.kind M.E) }
-    requires short { length buf.now ≤ 4294967295 }
-    requires stands { RunStands K.kind V.kind M.E buf.now node index (index + 1) }
-    ensures { reads_both result ≡ entry_at K.kind V.kind M.E buf.now (node, index) }
+    requires map { IsTrue (stands M.kind buf.now pos) }
+    requires entry { RunStands K.kind V.kind M.E buf.now place.node place.index (place.index + 1) }
+    ensures { reads_both result ≡ entry_at K.kind V.kind M.E buf.now (place_of place) }
 {
-    let key = View::<K>::at(buf, key_pos::<K, V, M>(node, index as usize));
-    let value = View::<V>::at(buf, value_pos::<K, V, M>(node, index as usize));
+    M::opened(buf, pos);
+    let key = View::<K>::at(buf, key_pos::<K, V, M>(place.node, place.index));
+    let value = View::<V>::at(buf, value_pos::<K, V, M>(place.node, place.index));
     (key, value)
 }
 
-/// The entries of a map, in order.
+/// An iterator over the entries of a map, in order.
 #[derive(Drop)]
 pub struct Iter<'a, M: ArchivedMap> {
     buf: &'a [u8],
-    path: Path,
-    node: u32,
-    next: u32,
-    end: u32,
-    behind: u32,
+    pos: u32,
+    walk: Walk,
     of: PhantomData<M>,
-    ghost fitting: { IsTrue (are_fitting M.Key.kind M.Mapped.kind M.E) },
-    ghost short: { length buf.now ≤ 4294967295 },
-    ghost on_path: { ∥ IsPath M.Key.kind M.Mapped.kind M.E buf.now 32 path.items ∥₁ },
-    ghost in_leaf: { ∥ RunStands M.Key.kind M.Mapped.kind M.E buf.now node next end ∥₁ },
-    ghost counted: { let s = layout_of M.Key.kind M.Mapped.kind M.E in
-        behind + (end - next) ≡ length (walk_rest s buf.now node next end path.items) },
+    ghost valid: { IsTrue (stands M.kind buf.now pos) },
+    ghost walks: { IsWalk (layout_of M.Key.kind M.Mapped.kind M.E) buf.now pos walk },
+    ghost ends: { let s = layout_of M.Key.kind M.Mapped.kind M.E in
+        ∥ IsEnd (walk_left s buf.now walk)
+        (entry_places M.Key.kind M.Mapped.kind M.E buf.now pos) ∥₁ },
 }
 
 impl<'a, K: Portable, V: Portable, M: ArchivedMap<Key = K, Mapped = V>> Iterator for Iter<'a, M> {
@@ -69,22 +69,8 @@ impl<'a, K: Portable, V: Portable, M: ArchivedMap<Key = K, Mapped = V>> Iterator
     #[inline(always)]
     fn next(&mut self) -> Option<(View<'a, K>, View<'a, V>)> {
         let buf = self.buf;
-        let next = self.next;
-        if next < self.end {
-            let item = entry::<K, V, M>(buf, self.node, next);
-            self.next = next + 1;
-            return Some(item);
-        }
-        match advance::<K, V, M>(buf, &mut self.path) {
-            None => None,
-            Some(step) => {
-                self.node = step.leaf.node;
-                self.next = 0;
-                self.end = step.leaf.count;
-                self.behind = self.behind - 1 - step.leaf.count;
-                Some(entry::<K, V, M>(buf, step.node, step.index))
-            }
-        }
+        let place = step::<K, V, M>(buf, self.pos, &mut self.walk)?;
+        Some(entry::<K, V, M>(buf, self.pos, place))
     }
 
     fn size_hint(&self) -> (usize, Option<usize>)
@@ -101,7 +87,7 @@ impl<'a, K: Portable, V: Portable, M: ArchivedMap<Key = K, Mapped = V>> Iterator
 impl<'a, K: Portable, V: Portable, M: ArchivedMap<Key = K, Mapped = V>> ExactSizeIterator
     for Iter<'a, M> {
     fn len(&self) -> usize {
-        self.behind as usize + self.end.saturating_sub(self.next) as usize
+        self.walk.behind as usize + self.walk.end.saturating_sub(self.walk.next) as usize
     }
 }
 
@@ -111,11 +97,19 @@ impl<'a, K: Portable, V: Portable, M: ArchivedMap<Key = K, Mapped = V>> FusedIte
 impl<'a, K: Portable, V: Portable, M: ArchivedMap<Key = K, Mapped = V> + ShowsEntries> View<'a, M> {
     ghost use Rattle.rkyv_btree_view.specs.Iter.{entries_left};
 
-    /// The entries, in order. Neither this call nor the iterator takes memory.
+    /// Returns an iterator over the entries, in order. No memory is allocated, by the iterator either.
+    ///
+    /// # Examples
+    ///
+    /// ```rust
+    /// map.iter()
+    ///     .find(|entry| entry.0.as_str().len() > len)
+    ///     .map(|entry| entry.1.to_native())
+    /// ```
     pub fn iter(self) -> Iter<'a, M>
-        ensures all { ShowsAll ⟦<Iter<'a, M> as Iterator>⟧.next_gives reads_both result
+        ensures yields { ShowsAll ⟦<Iter<'a, M> as Iterator>⟧.next_gives reads_both result
             (entries_of K.kind V.kind M.E self.entry) }
-        ensures left { entries_left result ≡ entries_of K.kind V.kind M.E self.entry }
+        ensures entries { entries_left result ≡ entries_of K.kind V.kind M.E self.entry }
         ensures ends { IsFinite (⟦<Iter<'a, M> as Iterator>⟧.remaining result) }
     {
         self.walk()
@@ -129,17 +123,28 @@ impl<'a, K: Portable, V: Portable, M: ArchivedMap<Key = K, Mapped = V>> View<'a,
     pub(crate) fn walk(self) -> Iter<'a, M>
         ensures { entries_left result ≡ entries_of K.kind V.kind M.E self.entry }
     {
-        M::opened(self.buf, self.pos);
-        let mut path = ArrayVec::new();
-        let leaf = begin::<K, V, M>(self.buf, self.pos, &mut path);
         Iter {
             buf: self.buf,
-            path,
-            node: leaf.node,
-            next: 0,
-            end: leaf.count,
-            behind: map_len::<K, V, M>(self.buf, self.pos) - leaf.count,
+            pos: self.pos,
+            walk: start::<K, V, M>(self.buf, self.pos),
             of: PhantomData,
         }
+    }
+}
+
+impl<'a, K: Portable, V: Portable, const E: usize> IntoIterator
+    for View<'a, ArchivedBTreeMap<K, V, E>> {
+    ghost use Rattle.rkyv_btree_view.specs.Iter.{entries_left};
+
+    type Item = (View<'a, K>, View<'a, V>);
+
+    type IntoIter = Iter<'a, ArchivedBTreeMap<K, V, E>>;
+
+    ghost into_iter_gives = { λ map entries.
+        entries_left entries ≡ entries_of K.kind V.kind E map };
+
+    /// Returns an iterator over the entries, in the order of their keys.
+    fn into_iter(self) -> Iter<'a, ArchivedBTreeMap<K, V, E>> {
+        self.iter()
     }
 }

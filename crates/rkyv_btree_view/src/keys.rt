@@ -7,7 +7,7 @@ ghost use Rattle.rkyv_btree_view.specs.View.{reads, entries_of};
 use crate::iter::Iter;
 use crate::view::View;
 use rkyv_btree_base::check::Portable;
-use rkyv_btree_walk::map::ArchivedMap;
+use rkyv_btree_walk::archived_map::ArchivedMap;
 use std::iter::FusedIterator;
 
 /// The keys of a map, in order.
@@ -105,9 +105,9 @@ impl<'a, K: Portable, V: Portable, M: ArchivedMap<Key = K, Mapped = V>> FusedIte
     for Values<'a, M> {}
 
 impl<'a, K: Portable, V: Portable, M: ArchivedMap<Key = K, Mapped = V>> View<'a, M> {
-    /// The keys, in order.
+    /// Returns an iterator over the keys, in order.
     pub fn keys(self) -> Keys<'a, M>
-        ensures all { ShowsAll ⟦<Keys<'a, M> as Iterator>⟧.next_gives reads result
+        ensures yields { ShowsAll ⟦<Keys<'a, M> as Iterator>⟧.next_gives reads result
             (map (λ e. e.0) (entries_of K.kind V.kind M.E self.entry)) }
         ensures ends { IsFinite (⟦<Keys<'a, M> as Iterator>⟧.remaining result) }
     {
@@ -116,9 +116,9 @@ impl<'a, K: Portable, V: Portable, M: ArchivedMap<Key = K, Mapped = V>> View<'a,
         }
     }
 
-    /// The values, in the order of their keys.
+    /// Returns an iterator over the values, in the order of their keys.
     pub fn values(self) -> Values<'a, M>
-        ensures all { ShowsAll ⟦<Values<'a, M> as Iterator>⟧.next_gives reads result
+        ensures yields { ShowsAll ⟦<Values<'a, M> as Iterator>⟧.next_gives reads result
             (map (λ e. e.1) (entries_of K.kind V.kind M.E self.entry)) }
         ensures ends { IsFinite (⟦<Values<'a, M> as Iterator>⟧.remaining result) }
     {

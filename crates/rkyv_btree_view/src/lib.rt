@@ -2,18 +2,16 @@
 #![tactic(auto)]
 
 pub mod compare;
+pub mod compare_native;
 pub mod debug;
-pub mod entry;
+pub mod entry_view;
 pub mod iter;
 pub mod keys;
 pub mod lookup;
-pub mod map;
+pub mod map_view;
 pub mod native;
-pub mod query;
 pub mod range;
 pub mod range_keys;
-mod same;
-pub mod same_as;
-pub mod set;
+pub mod set_view;
 pub mod view;
 mod visit;

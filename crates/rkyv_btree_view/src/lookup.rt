@@ -1,22 +1,32 @@
-//! Look-ups in a map by its keys. A node's keys are compared from the left: the search ends at one that is equal, goes
-//! down before the first that the query isn't past, or behind them all. No look-up takes memory.
-ghost use Rattle.std.specs.Prelude.{◌≡◌, ◌+◌, ◌*◌, ◌≤◌, [], IsTrue, IsSome, IfSome, Some, is_some};
-ghost use Rattle.rkyv_btree_base.specs.Read.{entry_at};
+//! Lookups in a map by its keys. No lookup allocates memory.
+//!
+//! A search compares the query with the keys of a node from the left. It ends at a key that is equal. Otherwise it goes on in
+//! the child before the first greater key, or in the last child.
+ghost use Rattle.std.specs.BTreeMap.{is_at};
+ghost use Rattle.std.specs.Map.{lookup, lookup_entry};
 ghost use Rattle.std.specs.Option.{option_map};
-ghost use Rattle.rkyv_btree_view.specs.Lookup.{found_in, comparisons_in, height_of, Finds, IsComplete, ByComparison, ByNative, FoundIsEqual, IncreasingIsFound, SearchedIsSpelled, SearchedIsLow};
+ghost use Rattle.std.specs.Prelude.{◌≡◌, ◌+◌, ◌*◌, ◌≤◌, [], IsTrue, IsSome, IfSome, Some, is_some};
+ghost use Rattle.rkyv_btree_base.specs.Increasing.{Increasing};
+ghost use Rattle.rkyv_btree_base.specs.Read.{entry_at};
+ghost use Rattle.rkyv_btree_view.specs.Lookup.{found_in, comparisons_in, height_of, IsComplete, IsValueOfEqualKey};
+ghost use Rattle.rkyv_btree_view.specs.Lookup.{ByComparison, ByNative};
+ghost use Rattle.rkyv_btree_view.specs.Lookup.{FoundIsEqual, IncreasingIsFound, SearchedIsSpelled, SearchedIsLow};
+ghost use Rattle.rkyv_btree_view.specs.Native.{ByReading};
 ghost use Rattle.rkyv_btree_view.specs.Query.{IsCut};
 ghost use Rattle.rkyv_btree_view.specs.View.{reads, reads_both, entries_of};
 ghost use Rattle.rkyv_btree_walk.specs.mirror.Node.{RunStands};
-ghost use Rattle.rkyv_btree_walk.specs.Search.{shown};
+ghost use Rattle.rkyv_btree_walk.specs.Search.{AnyHit, IsHit, shown};
 
 use crate::compare::ViewOrd;
+use crate::compare_native::CompareWith;
 use crate::iter::entry;
-use crate::map::ShowsEntries;
-use crate::query::CompareWith;
+use crate::map_view::ShowsEntries;
+use crate::native::ToNative;
 use crate::view::View;
 use rkyv_btree_base::check::Portable;
 use rkyv_btree_base::steps::StepCounter;
-use rkyv_btree_walk::map::ArchivedMap;
+use rkyv_btree_walk::archived_map::ArchivedMap;
+use rkyv_btree_walk::entry_place::EntryPlace;
 use rkyv_btree_walk::search::{Compared, search};
 use rkyv_btree_walk::shows::Shows;
 use std::cmp::Ordering;
@@ -30,32 +40,60 @@ impl<'a, K: Portable, V: Portable, M: ArchivedMap<Key = K, Mapped = V>> View<'a,
         ensures { option_map reads_both result
             ≡ option_map (entry_at K.kind V.kind M.E self.entry.buf.now) found }
     {
-        M::opened(self.buf, self.pos);
         match found {
             None => None,
-            Some((node, index)) => Some(entry::<K, V, M>(self.buf, node, index)),
+            Some((node, index)) => {
+                let place = EntryPlace {
+                    node,
+                    index: index as usize,
+                };
+                Some(entry::<K, V, M>(self.buf, self.pos, place))
+            }
         }
     }
 
-    /// The entry whose key is equal to the query, by a comparison that is a function of both: the query comes first, and
-    /// `Greater` means that it is past the key. Where the entries aren't ordered for the query, one may be there and not
-    /// be found.
+    /// Returns the entry whose key is equal to the query, or `None`.
+    ///
+    /// The comparison must be a function of the query, which comes first, and the key. `Greater` means that the query is
+    /// greater. If the entries aren't ordered for the query, the lookup may miss an entry.
+    ///
+    /// # Examples
+    ///
+    /// ```rust
+    /// let found = map.get_key_value_with(&name, |name: &&str, key: View<ArchivedText>| {
+    ///     Ord::cmp(*name, key.as_str())
+    /// });
+    /// ```
     pub fn get_key_value_with<Q, W: Shows<'a, K>, C: Fn(&Q, W) -> Ordering>(
         self,
         key: &Q,
         cmp: C,
     ) -> Option<(View<'a, K>, View<'a, V>)>
         requires { C.IsAlwaysCallable cmp }
-        ensures { ByComparison (C.post cmp) (shown K.kind W.Shows) key.now (λ answer.
-            Finds K.kind V.kind M.E self.entry answer (option_map reads_both result)) }
+        // A result is an entry of the list whose key is equal.
+        ensures member { ByComparison (C.post cmp) (shown K.kind W.Shows) key.now (λ answer.
+            IfSome (option_map reads_both result)
+            (IsHit (λ e. answer e.0) (entries_of K.kind V.kind M.E self.entry))) }
+        // If the keys increase, it is what std's map finds.
+        ensures sorted { ByComparison (C.post cmp) (shown K.kind W.Shows) key.now (λ answer.
+            IsCut K.kind.order answer →
+            Increasing K.kind.order (entries_of K.kind V.kind M.E self.entry) →
+            option_map reads_both result ≡ lookup_entry (is_at answer)
+            (entries_of K.kind V.kind M.E self.entry)) }
+        // On each map it is the entry at which the search ends.
+        ensures found { ByComparison (C.post cmp) (shown K.kind W.Shows) key.now (λ answer.
+            option_map reads_both result ≡ found_in K.kind V.kind M.E self.entry answer) }
+        ensures complete { ByComparison (C.post cmp) (shown K.kind W.Shows) key.now (λ answer.
+            IsComplete K.kind V.kind M.E self.entry answer (IsSome result)) }
     {
         let compare = |query: &Q, key: W| Compared::of(cmp(query, key));
         let (found, _) = search::<Q, K, V, M, W, _>(self.buf, self.pos, key, &compare);
         self.entry_found(found)
     }
 
-    /// Answers as `get_key_value_with`, and adds one to the counter for each comparison. These are no more than a node has
-    /// entries, times the tree's height; and an empty map takes none.
+    /// Returns what `get_key_value_with` returns, and adds the number of comparisons to `steps`.
+    ///
+    /// There are at most `E` comparisons a level, and none in an empty map.
     pub fn get_key_value_counted<Q, W: Shows<'a, K>, C: Fn(&Q, W) -> Ordering>(
         self,
         key: &Q,
@@ -64,8 +102,21 @@ impl<'a, K: Portable, V: Portable, M: ArchivedMap<Key = K, Mapped = V>> View<'a,
     ) -> Option<(View<'a, K>, View<'a, V>)>
         requires callable { C.IsAlwaysCallable cmp }
         requires room { steps.old ≤ 9223372036854775807 }
-        ensures finds { ByComparison (C.post cmp) (shown K.kind W.Shows) key.now (λ answer.
-            Finds K.kind V.kind M.E self.entry answer (option_map reads_both result)) }
+        // A result is an entry of the list whose key is equal.
+        ensures member { ByComparison (C.post cmp) (shown K.kind W.Shows) key.now (λ answer.
+            IfSome (option_map reads_both result)
+            (IsHit (λ e. answer e.0) (entries_of K.kind V.kind M.E self.entry))) }
+        // If the keys increase, it is what std's map finds.
+        ensures sorted { ByComparison (C.post cmp) (shown K.kind W.Shows) key.now (λ answer.
+            IsCut K.kind.order answer →
+            Increasing K.kind.order (entries_of K.kind V.kind M.E self.entry) →
+            option_map reads_both result ≡ lookup_entry (is_at answer)
+            (entries_of K.kind V.kind M.E self.entry)) }
+        // On each map it is the entry at which the search ends.
+        ensures found { ByComparison (C.post cmp) (shown K.kind W.Shows) key.now (λ answer.
+            option_map reads_both result ≡ found_in K.kind V.kind M.E self.entry answer) }
+        ensures complete { ByComparison (C.post cmp) (shown K.kind W.Shows) key.now (λ answer.
+            IsComplete K.kind V.kind M.E self.entry answer (IsSome result)) }
         ensures counts { ByComparison (C.post cmp) (shown K.kind W.Shows) key.now (λ answer.
             steps.new ≡ steps.old + comparisons_in K.kind V.kind M.E self.entry answer) }
         ensures few { ByComparison (C.post cmp) (shown K.kind W.Shows) key.now (λ answer.
@@ -81,20 +132,37 @@ impl<'a, K: Portable, V: Portable, M: ArchivedMap<Key = K, Mapped = V>> View<'a,
 }
 
 impl<'a, K: ViewOrd, V: Portable, M: ArchivedMap<Key = K, Mapped = V> + ShowsEntries> View<'a, M> {
-    /// The entry whose key is equal to `key`.
+    /// Returns the entry whose key is equal to `key`, or `None`.
     pub fn get_key_value(self, key: View<'_, K>) -> Option<(View<'a, K>, View<'a, V>)>
+        // A result is an entry of the list whose key is equal.
+        ensures member { IfSome (option_map reads_both result)
+            (IsHit (λ e. K.kind.order (reads key.entry) e.0)
+            (entries_of K.kind V.kind M.E self.entry)) }
+        // If the keys increase, it is what std's map finds.
+        ensures sorted { Increasing K.kind.order (entries_of K.kind V.kind M.E self.entry) →
+            option_map reads_both result ≡ lookup_entry (is_at (K.kind.order (reads key.entry)))
+            (entries_of K.kind V.kind M.E self.entry) }
+        // On each map it is the entry at which the search ends.
         ensures found { option_map reads_both result
             ≡ found_in K.kind V.kind M.E self.entry (K.kind.order (reads key.entry)) }
-        ensures finds { Finds K.kind V.kind M.E self.entry (K.kind.order (reads key.entry))
-            (option_map reads_both result) }
+        ensures complete { IsComplete K.kind V.kind M.E self.entry (K.kind.order (reads key.entry))
+            (IsSome result) }
     {
         let compare = |query: &View<'_, K>, key: View<K>| Compared::of(K::compare(query, &key));
         let (found, _) = search::<_, K, V, M, _, _>(self.buf, self.pos, &key, &compare);
         self.entry_found(found)
     }
 
-    /// The value of the entry whose key is equal to `key`.
+    /// Returns the value stored for `key`, or `None`.
     pub fn get(self, key: View<'_, K>) -> Option<View<'a, V>>
+        // A result is the value of an entry whose key is equal.
+        ensures member { IfSome result (λ value. IsValueOfEqualKey (K.kind.order (reads key.entry))
+            (entries_of K.kind V.kind M.E self.entry) (reads value)) }
+        // If the keys increase, it is what std's map finds.
+        ensures sorted { Increasing K.kind.order (entries_of K.kind V.kind M.E self.entry) →
+            option_map reads result ≡ lookup (is_at (K.kind.order (reads key.entry)))
+            (entries_of K.kind V.kind M.E self.entry) }
+        // On each map it is the value of the entry at which the search ends.
         ensures found { option_map reads result ≡ option_map (λ e. e.1)
             (found_in K.kind V.kind M.E self.entry (K.kind.order (reads key.entry))) }
         ensures complete { IsComplete K.kind V.kind M.E self.entry (K.kind.order (reads key.entry))
@@ -106,8 +174,16 @@ impl<'a, K: ViewOrd, V: Portable, M: ArchivedMap<Key = K, Mapped = V> + ShowsEnt
         }
     }
 
-    /// Whether `get` finds a value.
+    /// Returns whether `get` finds a value.
     pub fn contains_key(self, key: View<'_, K>) -> bool
+        // If it is true, an entry of the list has an equal key.
+        ensures member { IsTrue result → AnyHit (λ e. K.kind.order (reads key.entry) e.0)
+            (entries_of K.kind V.kind M.E self.entry) }
+        // If the keys increase, it is whether std's map finds a value.
+        ensures sorted { Increasing K.kind.order (entries_of K.kind V.kind M.E self.entry) →
+            result ≡ is_some (lookup (is_at (K.kind.order (reads key.entry)))
+            (entries_of K.kind V.kind M.E self.entry)) }
+        // On each map it is whether the search ends at an entry.
         ensures found { result
             ≡ is_some (found_in K.kind V.kind M.E self.entry (K.kind.order (reads key.entry))) }
         ensures complete { IsComplete K.kind V.kind M.E self.entry (K.kind.order (reads key.entry))
@@ -116,10 +192,15 @@ impl<'a, K: ViewOrd, V: Portable, M: ArchivedMap<Key = K, Mapped = V> + ShowsEnt
         self.get_key_value(key).is_some()
     }
 
-    /// The value that `get` finds. The caller owes that there is one, which `contains_key` tells.
+    /// Returns the value stored for `key`. Requires that there is one: `contains_key` is the test.
     pub fn index(self, key: View<'_, K>) -> View<'a, V>
         requires { IsSome (found_in K.kind V.kind M.E self (K.kind.order (reads key))) }
-        ensures { Some (reads result) ≡ option_map (λ e. e.1)
+        ensures member { IsValueOfEqualKey (K.kind.order (reads key.entry))
+            (entries_of K.kind V.kind M.E self.entry) (reads result) }
+        ensures sorted { Increasing K.kind.order (entries_of K.kind V.kind M.E self.entry) →
+            Some (reads result) ≡ lookup (is_at (K.kind.order (reads key.entry)))
+            (entries_of K.kind V.kind M.E self.entry) }
+        ensures found { Some (reads result) ≡ option_map (λ e. e.1)
             (found_in K.kind V.kind M.E self.entry (K.kind.order (reads key.entry))) }
     {
         match self.get(key) {
@@ -130,22 +211,50 @@ impl<'a, K: ViewOrd, V: Portable, M: ArchivedMap<Key = K, Mapped = V> + ShowsEnt
 }
 
 impl<'a, K: Portable, V: Portable, M: ArchivedMap<Key = K, Mapped = V> + ShowsEntries> View<'a, M> {
-    /// The entry whose key is equal to a native value: a number, a `&str`, a pair of such, or what else keys compare with.
+    /// Returns the entry whose key is equal to a native value, or `None`: a number, a `&str`, a pair of these, or what else
+    /// keys compare with.
     pub fn get_key_value_by<T: Drop>(self, key: T) -> Option<(View<'a, K>, View<'a, V>)>
     where
         K: CompareWith<T>,
-        ensures { ByNative K.kind K.compared_at key (λ answer.
-            Finds K.kind V.kind M.E self.entry answer (option_map reads_both result)) }
+        // A result is an entry of the list whose key is equal.
+        ensures member { ByNative K.kind K.compared_at key (λ answer.
+            IfSome (option_map reads_both result)
+            (IsHit (λ e. answer e.0) (entries_of K.kind V.kind M.E self.entry))) }
+        // If the keys increase, it is what std's map finds.
+        ensures sorted { ByNative K.kind K.compared_at key (λ answer.
+            Increasing K.kind.order (entries_of K.kind V.kind M.E self.entry) →
+            option_map reads_both result ≡ lookup_entry (is_at answer)
+            (entries_of K.kind V.kind M.E self.entry)) }
+        // On each map it is the entry at which the search ends.
+        ensures found { ByNative K.kind K.compared_at key (λ answer.
+            option_map reads_both result ≡ found_in K.kind V.kind M.E self.entry answer) }
+        ensures complete { ByNative K.kind K.compared_at key (λ answer.
+            IsComplete K.kind V.kind M.E self.entry answer (IsSome result)) }
     {
         let compare = |query: &T, key: View<K>| K::compared(query, &key);
         let (found, _) = search::<_, K, V, M, _, _>(self.buf, self.pos, &key, &compare);
         self.entry_found(found)
     }
 
-    /// The value of the entry whose key is equal to a native value.
+    /// Returns the value stored for a native key, or `None`.
+    ///
+    /// # Examples
+    ///
+    /// ```rust
+    /// let value = map.get_by(key).map(number);
+    /// ```
     pub fn get_by<T: Drop>(self, key: T) -> Option<View<'a, V>>
     where
         K: CompareWith<T>,
+        // A result is the value of an entry whose key is equal.
+        ensures member { ByNative K.kind K.compared_at key (λ answer. IfSome result (λ value.
+            IsValueOfEqualKey answer (entries_of K.kind V.kind M.E self.entry) (reads value))) }
+        // If the keys increase, it is what std's map finds.
+        ensures sorted { ByNative K.kind K.compared_at key (λ answer.
+            Increasing K.kind.order (entries_of K.kind V.kind M.E self.entry) →
+            option_map reads result ≡ lookup (is_at answer)
+            (entries_of K.kind V.kind M.E self.entry)) }
+        // On each map it is the value of the entry at which the search ends.
         ensures found { ByNative K.kind K.compared_at key (λ answer. option_map reads result
             ≡ option_map (λ e. e.1) (found_in K.kind V.kind M.E self.entry answer)) }
         ensures complete { ByNative K.kind K.compared_at key (λ answer.
@@ -157,16 +266,64 @@ impl<'a, K: Portable, V: Portable, M: ArchivedMap<Key = K, Mapped = V> + ShowsEn
         }
     }
 
-    /// Whether `get_by` finds a value.
+    /// Returns whether `get_by` finds a value.
+    ///
+    /// # Examples
+    ///
+    /// ```rust
+    /// assert_eq!(rt; map.contains_by(key), want.is_some(), "{key}");
+    /// ```
     pub fn contains_by<T: Drop>(self, key: T) -> bool
     where
         K: CompareWith<T>,
+        // If it is true, an entry of the list has an equal key.
+        ensures member { ByNative K.kind K.compared_at key (λ answer. IsTrue result →
+            AnyHit (λ e. answer e.0) (entries_of K.kind V.kind M.E self.entry)) }
+        // If the keys increase, it is whether std's map finds a value.
+        ensures sorted { ByNative K.kind K.compared_at key (λ answer.
+            Increasing K.kind.order (entries_of K.kind V.kind M.E self.entry) →
+            result ≡ is_some (lookup (is_at answer)
+            (entries_of K.kind V.kind M.E self.entry))) }
+        // On each map it is whether the search ends at an entry.
         ensures found { ByNative K.kind K.compared_at key (λ answer.
             result ≡ is_some (found_in K.kind V.kind M.E self.entry answer)) }
         ensures complete { ByNative K.kind K.compared_at key (λ answer.
             IsComplete K.kind V.kind M.E self.entry answer (IsTrue result)) }
     {
         self.get_key_value_by(key).is_some()
+    }
+}
+
+impl<'a, K: Portable, V: ToNative, M: ArchivedMap<Key = K, Mapped = V> + ShowsEntries> View<'a, M> {
+    /// Returns the native value of the entry whose key is equal to a native value: `get_by` and `to_native` in one call.
+    ///
+    /// # Examples
+    ///
+    /// ```rust
+    /// if let Some(price) = map.get_native_by("pear") {
+    ///     println!(rt; "pear costs {price}")?;
+    /// }
+    /// ```
+    pub fn get_native_by<T: Drop>(self, key: T) -> Option<V::Native>
+    where
+        K: CompareWith<T>,
+        // If the keys increase, it is the native value of what std's map finds.
+        ensures sorted { ByReading V.kind V.read_native (λ native.
+            ByNative K.kind K.compared_at key (λ answer.
+            Increasing K.kind.order (entries_of K.kind V.kind M.E self.entry) →
+            result ≡ option_map native (lookup (is_at answer)
+            (entries_of K.kind V.kind M.E self.entry)))) }
+        // On each map it is the native value of the entry at which the search ends.
+        ensures found { ByReading V.kind V.read_native (λ native.
+            ByNative K.kind K.compared_at key (λ answer. result ≡ option_map native
+            (option_map (λ e. e.1) (found_in K.kind V.kind M.E self.entry answer)))) }
+        ensures complete { ByNative K.kind K.compared_at key (λ answer.
+            IsComplete K.kind V.kind M.E self.entry answer (IsSome result)) }
+    {
+        match self.get_by(key) {
+            None => None,
+            Some(value) => Some(value.to_native()),
+        }
     }
 }
 

@@ -33,7 +33,7 @@ pub trait ToNative: Portable {
 }
 
 impl<T: ToNative> View<'_, T> {
-    /// The native value at the view's position: a number of so many bytes, the least first, in two's complement where it
+    /// Returns the native value at the view's position: a number of so many bytes, the least first, in two's complement where it
     /// has a sign; a character by its code; or the one value of no bytes.
     pub fn to_native(self) -> T::Native
         ensures { result ≡ T.read_native self.entry.buf.now self.entry.pos }
@@ -178,7 +178,7 @@ impl ToNative for ArchivedChar {
 
 // A `NonZeroU32` isn't read of every four bytes, so it has no part in `ToNative`.
 impl View<'_, ArchivedNonZeroU32> {
-    /// The number of the four bytes from the view's position on, which isn't 0.
+    /// Returns the number of the four bytes from the view's position on, which isn't 0.
     #[tactic(auto, unfolding(rkyv_btree_portable::specs::Bytes::number_at))]
     pub fn to_native(self) -> NonZeroU32
         ensures { non_zero_u32_get result ≡ non_zero_kind.read self.entry.buf.now self.entry.pos }

@@ -5,7 +5,7 @@ ghost use Rattle.rkyv_btree_view.specs.View.{reads};
 use crate::range::Range;
 use crate::view::View;
 use rkyv_btree_base::check::Portable;
-use rkyv_btree_walk::map::ArchivedMap;
+use rkyv_btree_walk::archived_map::ArchivedMap;
 use std::iter::FusedIterator;
 
 /// The keys of a range of a map, in order.

@@ -1,5 +1,5 @@
 //! Values in a buffer.
-ghost use Rattle.std.specs.Prelude.{◌≡◌, IsTrue, IsOk, IfOk, IfErr, Err, ⊤};
+ghost use Rattle.std.specs.Prelude.{◌≡◌, ◌↔◌, IsTrue, IsOk, IfOk, Err, ⊤};
 ghost use Rattle.rkyv_btree_base.specs.Views.{stands, MeansAt};
 ghost use Rattle.rkyv_btree_base.specs.Refusal.{Refusal};
 
@@ -9,6 +9,7 @@ use rkyv_btree_base::text::ArchivedText;
 use rkyv_btree_portable::bytes::{num32, pointed_at};
 use rkyv_btree_walk::shows::Shows;
 use std::alloc::AllocError;
+use std::convert::AsStr;
 use std::marker::PhantomData;
 use std::str::from_utf8_unchecked;
 
@@ -34,18 +35,33 @@ impl<'a, T: Portable> Clone for View<'a, T> {
     }
 }
 
+impl<'a, T: Portable> View<'a, T> {
+    /// Returns the position of the value's own bytes in the buffer.
+    pub fn position(self) -> u32
+        ensures { result ≡ self.entry.pos }
+    {
+        self.pos
+    }
+}
+
 impl<'a, T: CheckBytes> View<'a, T> {
-    /// The view of the value at position `pos` of `buf`, whoever wrote it, if the bytes mean one in the window of all
-    /// that stands before it.
+    ghost use Rattle.rkyv_btree_view.specs.View.{reads};
+
+    /// Returns the view of the value at position `pos`, if the bytes mean one in the window of all bytes before it.
+    ///
+    /// # Errors
+    ///
+    /// The error of `T::check`.
     pub fn check(buf: &'a [u8], pos: u32) -> Result<View<'a, T>, Refusal>
         requires { IsTrue T.kind.is_fitting }
         ensures buffer { IfOk result (λ view. view.buf.now ≡ buf.now) }
         ensures position { IfOk result (λ view. view.pos ≡ pos) }
-        ensures accepted { IfOk result (λ _. MeansAt T.kind buf.now pos (T.kind.read buf.now pos)) }
-        ensures all_accepted { (v : T.kind.Value) → MeansAt T.kind buf.now pos v → IsOk result }
-        ensures refused { IfErr result (λ refusal. T.Refuses buf.now 0 pos pos refusal) }
-        ensures all_refused { (refusal : Refusal) → T.Refuses buf.now 0 pos pos refusal
-            → result ≡ Err refusal }
+        // The result is a view exactly for bytes that mean a value, and the view reads that value.
+        ensures accepts { IsOk result ↔ ((v : T.kind.Value) × MeansAt T.kind buf.now pos v) }
+        ensures value { IfOk result (λ view. MeansAt T.kind buf.now pos (reads view)) }
+        // The result is an error exactly for bytes with that error.
+        ensures refuses { (refusal : Refusal) →
+            (result ≡ Err refusal) ↔ T.Refuses buf.now 0 pos pos refusal }
     {
         match T::check(buf, pos, Window { lo: 0, hi: pos }) {
             Ok(_) => Ok(View::<T>::at(buf, pos)),
@@ -71,7 +87,7 @@ impl<'a, T: Portable> Shows<'a, T> for View<'a, T> {
 impl<'a> View<'a, ArchivedText> {
     ghost use Rattle.rkyv_btree_view.specs.View.{reads};
 
-    /// The text, which stays in the buffer.
+    /// Returns the text, which stays in the buffer.
     pub fn as_str(self) -> &'a str
         ensures { result.now ≡ reads self.entry }
     {
@@ -79,5 +95,16 @@ impl<'a> View<'a, ArchivedText> {
         let start = pointed_at(self.buf, self.pos) as usize;
         let len = num32(self.buf, self.pos + 4) as usize;
         unsafe { from_utf8_unchecked(&self.buf[start..start + len]) }
+    }
+}
+
+impl<'a> AsStr for View<'a, ArchivedText> {
+    ghost use Rattle.rkyv_btree_view.specs.View.{reads};
+
+    ghost text = { λ view. reads view };
+
+    /// Returns the text, which stays in the buffer.
+    fn as_str(&self) -> &str {
+        View::<ArchivedText>::as_str(*self)
     }
 }

@@ -6,14 +6,14 @@ ghost use Rattle.rkyv_btree_view.specs.Set.{VisitedKeys};
 ghost use Rattle.rkyv_btree_view.specs.View.{entries_of};
 ghost use Rattle.std.specs.Prelude.{map};
 
-use crate::map::ShowsEntries;
+use crate::map_view::ShowsEntries;
 use crate::view::View;
 use arrayvec::ArrayVec;
 use rkyv_btree_base::check::Portable;
-use rkyv_btree_walk::map::ArchivedMap;
+use rkyv_btree_walk::archived_map::ArchivedMap;
 use rkyv_btree_walk::path::begin;
 use rkyv_btree_walk::shows::Shows;
-use rkyv_btree_walk::visit::visit_rest;
+use rkyv_btree_walk::visit_loop::visit_rest;
 use std::ops::ControlFlow;
 
 impl<'a, K: Portable, V: Portable, M: ArchivedMap<Key = K, Mapped = V>> View<'a, M> {
@@ -51,6 +51,18 @@ impl<'a, K: Portable, V: Portable, M: ArchivedMap<Key = K, Mapped = V>> View<'a,
 impl<'a, K: Portable, V: Portable, M: ArchivedMap<Key = K, Mapped = V> + ShowsEntries> View<'a, M> {
     /// Calls `visit` with the key and the value of each entry, in order, up to the first call that breaks, whose value
     /// it answers. Where no call breaks, the answer is `None`. The walk takes no memory.
+    ///
+    /// # Examples
+    ///
+    /// ```rust
+    /// map.visit(|_: View<ArchivedText>, price: View<ArchivedU64>| {
+    ///     let price = price.to_native();
+    ///     if price > limit {
+    ///         return ControlFlow::Break(price);
+    ///     }
+    ///     ControlFlow::Continue(())
+    /// })
+    /// ```
     pub fn visit<W: Shows<'a, K>, X: Shows<'a, V>, T, F: FnMut(W, X) -> ControlFlow<T, ()>>(
         self,
         visit: F,

@@ -9,9 +9,9 @@ use Rattle.rkyv_btree_base.specs.Read.{read_map}
 use Rattle.rkyv_btree_base.specs.Views.{stands}
 use Rattle.rkyv_btree_base.proofs.MapLaws.{map_length}
 use Rattle.rkyv_btree_walk.specs.mirror.Below.{root_place, IsBelow, PathBelow, RunBelow, WalkBelow}
-use Rattle.rkyv_btree_walk.specs.mirror.Node.{natural, is_leaf, child_place, TreeStands}
+use Rattle.rkyv_btree_walk.specs.mirror.Node.{natural, is_leaf, child_place, TreeStands, RunStands}
 use Rattle.rkyv_btree_walk.specs.mirror.Path.{IsPath}
-use Rattle.rkyv_btree_walk.proofs.Nodes.{tree_levels, child_stands}
+use Rattle.rkyv_btree_walk.proofs.Nodes.{tree_levels, tree_node, child_stands}
 use Rattle.rkyv_btree_walk.proofs.Roots.{root_stands}
 
 module _ (s : NodeLayout) (b : List ℕ) (root : Option ℕ) where
@@ -58,6 +58,15 @@ module _ (K V : Kind) (E : ℕ) (b : List ℕ) (root : Option ℕ) (n : ℕ) (ro
       let o = tree_levels K V E b r.0 q tree in
       (o.0, omega (arith, r.1, o.1), rw o.1 at tree)
 
+  -- and runs of entries
+  pub run_stands : (p i n : ℕ) → RunBelow (layout_of K V E) b root p i n → RunStands K V E b p i n
+  run_stands p i n run j low high =
+      let r = run (omega arith) in
+      let s = below_stands r.0 p r.1 in
+      let node = tree_node K V E b (suc s.0) p s.2 in
+      let count = node.count in
+      (node.entries j (omega (arith, r.2)), node.leaf_inside, omega (arith, r.2))
+
   -- and paths of nodes
   pub path_stands : (d m : ℕ) (fs : List (ℕ × ℕ)) → d + m ≡ n → PathBelow (layout_of K V E) b root d fs → IsPath K V E b m fs
   path_stands d m [] is path = tt
@@ -88,3 +97,7 @@ module _ (K V : Kind) (E : ℕ) (k : IsLawful K) (v : IsLawful V) (b : List ℕ)
     -- the path of a walk is one of nodes that stand
     pub walk_path : IsPath K V E b 32 fs
     walk_path = path_stands K V E b (root_place b at) 32 place_stands 0 32 fs refl walk.1
+
+    -- and so do the entries of its leaf
+    pub walk_run : RunStands K V E b p i n
+    walk_run = run_stands K V E b (root_place b at) 32 place_stands p i n walk.0

@@ -25,7 +25,15 @@ module _ {A : Type 0} where
   is_to (Included answer) key = is_ge (answer key)
   is_to (Excluded answer) key = is_gt (answer key)
 
+  -- the keys within two bounds
+  abbrev pub keys_within : Bound (A → Ordering) → Bound (A → Ordering) → List A → List A
+  keys_within low high ks = filter (λ k. is_from low k && is_to high k) ks
+
   module _ {B : Type 0} where
+    -- the entries whose keys are within two bounds
+    abbrev pub entries_within : Bound (A → Ordering) → Bound (A → Ordering) → List (A × B) → List (A × B)
+    entries_within low high m = filter (λ e. is_from low e.0 && is_to high e.0) m
+
     -- the entries are ordered for the query of a bound, if it has one
     abbrev pub OrderedFor : Bound (A → Ordering) → List (A × B) → Type 0
     OrderedFor Unbounded all = Unit {0}
@@ -34,7 +42,7 @@ module _ {A : Type 0} where
 
     -- these entries are all that are within both bounds, where the entries are ordered for both
     abbrev pub IsWithin : Bound (A → Ordering) → Bound (A → Ordering) → List (A × B) → List (A × B) → Type 0
-    IsWithin low high all range = OrderedFor low all → OrderedFor high all → range ≡ filter (λ e. is_from low e.0 && is_to high e.0) all
+    IsWithin low high all range = OrderedFor low all → OrderedFor high all → range ≡ entries_within low high all
 
 -- what holds of two bounds, by a comparison that is some function of a query and of what it is compared with
 abbrev pub ByBounds : {Q W A : Type 0} → (Bor Q → W → Ordering → Type 0) → (W → A) → Bound (Bor Q) → Bound (Bor Q)

@@ -1,5 +1,6 @@
 -- What walks promise, the laws of it, and functions that mirror the code.
 pub mod Bounds
+pub mod EntryPlaces
 pub mod Search
 pub mod Visit
 pub mod laws

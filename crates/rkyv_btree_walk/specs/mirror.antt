@@ -1,4 +1,5 @@
 -- Functions and facts that mirror the code of a walk.
+pub mod Along
 pub mod Below
 pub mod Node
 pub mod Path

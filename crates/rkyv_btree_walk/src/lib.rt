@@ -1,11 +1,14 @@
 //! Walks along the entries of an archived map, over the places of its nodes.
 #![tactic(auto)]
 
-pub mod map;
+pub mod archived_map;
+pub mod entry_place;
+pub mod entry_walk;
 pub mod node;
 pub mod path;
-pub mod range;
+pub mod range_ends;
+pub mod range_walk;
 pub mod search;
 pub mod seek;
 pub mod shows;
-pub mod visit;
+pub mod visit_loop;

@@ -4,7 +4,7 @@ ghost use Rattle.rkyv_btree_base.specs.Bytes.{place_at, number_at};
 ghost use Rattle.rkyv_btree_base.specs.Layout.{layout_of, are_fitting, key_at, value_at, leaf_size, len_at};
 ghost use Rattle.rkyv_btree_walk.specs.mirror.Node.{natural, LeadsBefore, is_leaf as is_leaf_at, child_place, NodeStands};
 
-use crate::map::ArchivedMap;
+use crate::archived_map::ArchivedMap;
 use rkyv_btree_base::bytes::{num32, target};
 use rkyv_btree_base::check::Portable;
 
@@ -61,7 +61,7 @@ pub(crate) fn child<K: Portable, V: Portable, M: ArchivedMap<Key = K, Mapped = V
     }
 }
 
-/// Where the key of entry `i` of the node at `node` stands.
+/// Returns the position of the key of entry `i` of the node at `node`.
 pub fn key_pos<K: Portable, V: Portable, M: ArchivedMap<Key = K, Mapped = V>>(
     node: u32,
     i: usize,
@@ -74,7 +74,7 @@ pub fn key_pos<K: Portable, V: Portable, M: ArchivedMap<Key = K, Mapped = V>>(
     node + M::key_at(i)
 }
 
-/// Where the value of entry `i` of the node at `node` stands.
+/// Returns the position of the value of entry `i` of the node at `node`.
 pub fn value_pos<K: Portable, V: Portable, M: ArchivedMap<Key = K, Mapped = V>>(
     node: u32,
     i: usize,

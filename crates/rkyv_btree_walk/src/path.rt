@@ -9,7 +9,7 @@ ghost use Rattle.rkyv_btree_walk.specs.mirror.Below.{root_place, IsBelow, PathBe
 ghost use Rattle.rkyv_btree_walk.specs.mirror.Node.{is_leaf as is_leaf_at, child_place, TreeStands};
 ghost use Rattle.rkyv_btree_walk.specs.mirror.Path.{tree_rest, path_rest, leaf_rest, LeafStands, StepStands, Steps, IsPath};
 
-use crate::map::{ArchivedMap, map_len};
+use crate::archived_map::{ArchivedMap, map_len};
 use crate::node::{child, is_leaf, leaf_count, root};
 use arrayvec::ArrayVec;
 use rkyv_btree_base::check::Portable;
@@ -172,9 +172,9 @@ pub(crate) fn next_leaf<K: Portable, V: Portable, M: ArchivedMap<Key = K, Mapped
     }
 }
 
-/// Does as `climb` does, in a function of its own, so that the `next` of an iterator is short.
+/// Does as `climb` does, in a function of its own, so that `advance` is short.
 #[inline(never)]
-pub fn advance<K: Portable, V: Portable, M: ArchivedMap<Key = K, Mapped = V>>(
+fn climb_apart<K: Portable, V: Portable, M: ArchivedMap<Key = K, Mapped = V>>(
     buf: &[u8],
     path: &mut Path,
 ) -> Option<Step>
@@ -190,6 +190,30 @@ pub fn advance<K: Portable, V: Portable, M: ArchivedMap<Key = K, Mapped = V>>(
         path.new.items result }
 {
     climb::<K, V, M>(buf, path)
+}
+
+/// Takes the first entry that is left of the path, and finds the leaf after it. Most steps lead to the next leaf below one inner node, and
+/// are made without a call.
+#[inline(always)]
+pub fn advance<K: Portable, V: Portable, M: ArchivedMap<Key = K, Mapped = V>>(
+    buf: &[u8],
+    path: &mut Path,
+) -> Option<Step>
+    requires fitting { IsTrue (are_fitting K.kind V.kind M.E) }
+    requires short { length buf.now ≤ 4294967295 }
+    requires path { IsPath K.kind V.kind M.E buf.now 32 path.old.items }
+    ensures path { IsPath K.kind V.kind M.E buf.now 32 path.new.items }
+    ensures entry { IfSome result (StepStands K.kind V.kind M.E buf.now) }
+    ensures leaf { IfSome result (λ e. LeafStands K.kind V.kind M.E buf.now e.leaf) }
+    ensures rest { Steps (layout_of K.kind V.kind M.E) buf.now result path.old.items
+        path.new.items }
+    ensures below { StepStaysBelow (layout_of K.kind V.kind M.E) buf.now path.old.items
+        path.new.items result }
+{
+    match next_leaf::<K, V, M>(buf, path) {
+        None => climb_apart::<K, V, M>(buf, path),
+        Some(step) => Some(step),
+    }
 }
 
 /// Puts the nodes from the root of the map at `pos` to its first leaf on an empty path, and finds that leaf.

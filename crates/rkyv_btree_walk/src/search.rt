@@ -10,7 +10,7 @@ ghost use Rattle.rkyv_btree_walk.specs.mirror.Node.{RunStands, CanBeSearched, Tr
 ghost use Rattle.rkyv_btree_walk.specs.mirror.Path.{tree_rest};
 ghost use Rattle.rkyv_btree_walk.specs.mirror.Search.{StopsAt, StopsWithin, IsListed, asked_by, answers_at, searched, searched_map, TellsBy};
 
-use crate::map::{ArchivedMap, map_len};
+use crate::archived_map::{ArchivedMap, map_len};
 use crate::node::{child, is_leaf, key_pos, leaf_count, root};
 use crate::shows::Shows;
 use rkyv_btree_base::check::Portable;
@@ -26,7 +26,7 @@ pub struct Compared {
 }
 
 impl Compared {
-    /// The answers of a comparison of the query with the key.
+    /// Returns what a comparison of the query with the key says.
     #[inline(always)]
     pub fn of(order: Ordering) -> Compared
         ensures { result ≡ compared_of order }
@@ -157,7 +157,7 @@ fn search_tree<
     }
 }
 
-/// The entry of the map at `pos` at which a search ends with Equal, by its node and number, and how many entries it asks.
+/// Returns the entry of the map at `pos` at which a search ends with Equal, by its node and number, and how many entries it asks.
 #[inline(always)]
 pub fn search<
     'a,

@@ -11,7 +11,7 @@ ghost use Rattle.rkyv_btree_walk.specs.mirror.Path.{tree_rest, IsPath};
 ghost use Rattle.rkyv_btree_walk.specs.mirror.Range.{is_reached, reached_at, IsFirst, Climbs, IsKept, IsEnd, IsFound, IsFoundOr};
 ghost use Rattle.rkyv_btree_walk.specs.mirror.Range.{tree_list, part_rest, PartStands};
 
-use crate::map::ArchivedMap;
+use crate::archived_map::ArchivedMap;
 use crate::node::{child, is_leaf, key_pos, leaf_count};
 use crate::path::Path;
 use crate::shows::Shows;

@@ -166,7 +166,11 @@ impl Portable for RelPtr {
 }
 
 impl RelPtr {
-    /// Writes the offset of `target` from the place. After an error the place is unchanged.
+    /// Writes the offset of `target` from the place.
+    ///
+    /// # Errors
+    ///
+    /// `OffsetOverflow` if 32 bits don't hold the offset. The place is unchanged then.
     pub fn emplace(target: u32, out: Place<'_, RelPtr>) -> Result<(), ResolveFault>
         requires size { length out.bytes.now ≡ 4 }
         requires absent { target ≢ out.pos + 1 }
@@ -194,6 +198,10 @@ impl RelPtr {
 }
 
 /// Writes the offset of `target` from `pos`.
+///
+/// # Errors
+///
+/// `OffsetOverflow` if 32 bits don't hold the offset. The bytes are unchanged then.
 pub fn write_offset(pos: u32, target: u32, bytes: &mut [u8]) -> Result<(), ResolveFault>
     requires { length bytes.old ≡ 4 }
     ensures ok { OnOk result (bytes.new ≡ pointer pos target) }

@@ -55,13 +55,13 @@ impl CheckBytes for ArchivedCode {
 }
 
 impl Deserialize<u8> for ArchivedCode {
-    ghost Told = { ℕ };
+    ghost Model = { ℕ };
 
-    ghost told = { λ x. x };
+    ghost model = { λ x. x };
 
-    ghost told_order = { nat_cmp };
+    ghost model_order = { nat_cmp };
 
-    ghost native = { λ b at. of_code (u8_kind.read b at) };
+    ghost decoded = { λ b at. of_code (u8_kind.read b at) };
 
     fn deserialize(_alloc: Global, view: &View<'_, ArchivedCode>) -> Result<u8, DeserializeFault> {
         let code = view.buf[view.pos as usize];
@@ -75,11 +75,11 @@ impl Deserialize<u8> for ArchivedCode {
 
     ghost by_meaning = { record { of_value = of_code; reads = λ b at. refl } };
 
-    ghost told_whole = { Prim.search rules };
+    ghost model_whole = { Prim.search rules };
 }
 
 impl DeserializeKey<u8> for ArchivedCode {
-    ghost ordered_as_told = { λ x y. refl };
+    ghost ordered_as_model = { λ x y. refl };
 
     ghost total = { nat_cmp_total };
 }

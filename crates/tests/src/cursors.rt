@@ -1,6 +1,6 @@
 //! Cursors between bounds, whose values they write in place.
 ghost use Rattle.std.specs.Prelude.{IsSome};
-ghost use Rattle.rkyv_btree.specs.Cursor.{range_lent_place};
+ghost use Rattle.rkyv_btree.specs.Cursor.{range_current_place};
 
 use crate::lookups::compare;
 use crate::same::same;
@@ -23,7 +23,7 @@ type Range<'a> = RangeSeal<'a, Map<ArchivedU32, ArchivedU32, 2>>;
 fn key_within<K: ToNative<Native = u32>, V: InPlace, const E: usize>(
     cursor: &RangeSeal<'_, Map<K, V, E>>,
 ) -> u32
-    requires { IsSome (range_lent_place cursor.now) }
+    requires { IsSome (range_current_place cursor.now) }
 {
     cursor.key().to_native()
 }
@@ -32,7 +32,7 @@ fn key_within<K: ToNative<Native = u32>, V: InPlace, const E: usize>(
 fn value_within<K: Portable, V: InPlace<Native = u32>, const E: usize>(
     cursor: &RangeSeal<'_, Map<K, V, E>>,
 ) -> u32
-    requires { IsSome (range_lent_place cursor.now) }
+    requires { IsSome (range_current_place cursor.now) }
 {
     cursor.read()
 }

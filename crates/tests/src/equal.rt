@@ -5,14 +5,14 @@ ghost use Rattle.rkyv_btree_base.specs.Alike.{AppendAlike};
 ghost use Rattle.rkyv_btree_base.specs.Writing.{position};
 
 use crate::same::same;
-use rkyv_btree_base::archive::natives_are_determined;
-use rkyv_btree_base::build::{BTreeMapResolver, trees_are_determined};
+use rkyv_btree_base::build::BTreeMapResolver;
 use rkyv_btree_base::fault::Fault;
+use rkyv_btree_base::laws::{natives_are_determined, texts_are_determined, trees_are_determined};
 use rkyv_btree_base::layout;
 use rkyv_btree_base::map::ArchivedBTreeMap;
 use rkyv_btree_base::numbers::ArchivedU32;
 use rkyv_btree_base::place::{VecWriter, Writer};
-use rkyv_btree_base::text::{ArchivedText, texts_are_determined};
+use rkyv_btree_base::text::ArchivedText;
 use std::alloc::{AllocError, Global};
 use std::test::Fail;
 
@@ -48,7 +48,8 @@ fn write_both<W: Writer>(
     other: &mut W,
 ) -> Result<(BTreeMapResolver, BTreeMapResolver), Fault<W::Error>>
     requires at { position (W.state one.old) ≡ position (W.state other.old) }
-    requires texts { map (λ e. string_bytes e.0) first.now ≡ map (λ e. string_bytes e.0) second.now }
+    requires texts { map (λ e. string_bytes e.0) first.now ≡ map
+        (λ e. string_bytes e.0) second.now }
     requires numbers { map (λ e. e.1) first.now ≡ map (λ e. e.1) second.now }
     ensures root { IfOk result (λ roots. roots.0 ≡ roots.1) }
     ensures bytes { OnOk result

@@ -3,7 +3,7 @@
 use crate::convert::{archive, opened};
 use crate::read::number;
 use rkyv_btree::compare::ViewOrd;
-use rkyv_btree::query::CompareWith;
+use rkyv_btree::compare_native::CompareWith;
 use rkyv_btree::view::View;
 use rkyv_btree_base::archive::{Archive, Serialize};
 use rkyv_btree_base::check::CheckBytes;

@@ -62,7 +62,7 @@ fn maps_of_up_to_200_entries_are_walked(rt: HostRuntime) -> Result<(), Fail> {
         let mut writer = VecWriter::new(rt.alloc());
         let pos = archive::<5>(&rt, rt.alloc(), entries.len(), &entries, &mut writer)?;
         let map = opened::<ArchivedU32, ArchivedU32, 5>(&rt, writer.bytes(), pos);
-        same(&rt, map.len(), count);
+        same(&rt, map.len(), count as usize);
         same(&rt, map.iter().count(), count as usize);
     }
     Ok(())

@@ -6,7 +6,7 @@ use Rattle.rkyv_btree_writer.specs.Archiving.{Archival}
 use Rattle.rkyv_btree_writer.specs.Writing.{Writing}
 use Rattle.rkyv_btree_writer.specs.declared.fault.Fault.{Fault}
 use Rattle.rkyv_btree_writer.specs.declared.fault.Fault.TheVariants.{Length}
-use Rattle.rkyv_btree_image.specs.Serialising.{Miscounted, BuildFault}
+use Rattle.rkyv_btree_writing_laws.specs.Serialising.{Miscounted, BuildFault}
 
 module _ {M N R S P : Type 0} (K V : Kind) (E : ℕ) (KA : Archival M R) (VA : Archival N S)
     (steps : P → Option (Bor M × Bor N) → P → Type 0) where

@@ -5,7 +5,7 @@ use Rattle.std.specs.declared.cmp.Ordering.{Ordering}
 use Rattle.std.specs.declared.cmp.Ordering.TheVariants.{Less}
 use Rattle.rkyv_btree_writer.specs.declared.fault.Fault.{Fault}
 use Rattle.rkyv_btree_writer.specs.declared.fault.Fault.TheVariants.{Length, OutOfOrder}
-use Rattle.rkyv_btree_archive.specs.declared.strict.InOrder.{InOrder}
+use Rattle.rkyv_btree_archive.specs.declared.strict_build.InOrder.{InOrder}
 
 module _ {M : Type 0} (order : M → M → Ordering) where
   -- the item is claimed, and its key greater than the last one; or it isn't claimed

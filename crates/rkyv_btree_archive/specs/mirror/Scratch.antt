@@ -2,7 +2,7 @@
 use Rattle.std.specs.Prelude.{◌≡◌, ℕ, ◌≤◌, [], length, vec_capacity}
 use Rattle.std.specs.declared.vec.Vec.{Vec}
 use Rattle.rkyv_btree_format.specs.Layout.{NodeLayout, inner_size}
-use Rattle.rkyv_btree_archive.specs.declared.writes.Scratch.{Scratch}
+use Rattle.rkyv_btree_archive.specs.declared.node_writes.Scratch.{Scratch}
 
 -- there is room for a node and for what resolving its entries needs, and nothing of another node's is left
 pub record IsFree {R S A : Type 0} (s : NodeLayout) (it : Scratch R S A) : Type 0 where

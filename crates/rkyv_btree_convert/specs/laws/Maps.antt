@@ -10,8 +10,8 @@ use Rattle.rkyv_btree_base.specs.Map.{map_kind}
 use Rattle.rkyv_btree_base.specs.Read.{map_tree, entry_at}
 use Rattle.rkyv_btree_base.specs.Tree.{list}
 use Rattle.rkyv_btree_convert.specs.Deserializing.{IsByMeaning, both}
-use Rattle.rkyv_btree_convert.specs.laws.Pairs.{pair_told_whole}
-use Rattle.rkyv_btree_convert.specs.Maps.{given_at, map_given, native_map, told_both}
+use Rattle.rkyv_btree_convert.specs.laws.Pairs.{pair_model_whole}
+use Rattle.rkyv_btree_convert.specs.Maps.{given_at, map_given, native_map, model_both}
 
 module _ (K V : Kind) (E : ℕ) {A B : Type 0} {key : List ℕ → ℕ → Result A EntryFault} {value : List ℕ → ℕ → Result B EntryFault} (of_key : K.Value → Result A EntryFault) (of_value : V.Value → Result B EntryFault)
     (key_reads : (b : List ℕ) (at : ℕ) → key b at ≡ of_key (K.read b at)) (value_reads : (b : List ℕ) (at : ℕ) → value b at ≡ of_value (V.read b at)) where
@@ -31,13 +31,13 @@ map_by_meaning {K} {V} k v E order = record {
   reads = λ b at. ap (map_given order) (given_by_meaning K V E k.of_value v.of_value k.reads v.reads b (list (map_tree (layout_of K V E) b at)));
 }
 
--- maps of which the same is told are equal
-pub map_told_whole : {T U A B : Type 0} {same_key : T → T → Bool} {same_value : U → U → Bool} {key : T → A} {value : U → B} → ((x y : T) → key x ≡ key y → same_key x y ≡ true) → ((x y : U) → value x ≡ value y → same_value x y ≡ true)
-    → (xs ys : List (T × U)) → told_both key value xs ≡ told_both key value ys → pointwise (λ p q. same_key p.0 q.0 && same_value p.1 q.1) xs ys ≡ true
-map_told_whole keys values [] [] told = refl
-map_told_whole keys values [] (y ∷ ys) told = absurd (cc told)
-map_told_whole keys values (x ∷ xs) [] told = absurd (cc told)
-map_told_whole keys values (x ∷ xs) (y ∷ ys) told =
-    let first = pair_told_whole keys values x y (cc told) in
-    let rest = map_told_whole keys values xs ys (cc told) in
+-- maps with the same model are equal
+pub map_model_whole : {T U A B : Type 0} {same_key : T → T → Bool} {same_value : U → U → Bool} {key : T → A} {value : U → B} → ((x y : T) → key x ≡ key y → same_key x y ≡ true) → ((x y : U) → value x ≡ value y → same_value x y ≡ true)
+    → (xs ys : List (T × U)) → model_both key value xs ≡ model_both key value ys → pointwise (λ p q. same_key p.0 q.0 && same_value p.1 q.1) xs ys ≡ true
+map_model_whole keys values [] [] model = refl
+map_model_whole keys values [] (y ∷ ys) model = absurd (cc model)
+map_model_whole keys values (x ∷ xs) [] model = absurd (cc model)
+map_model_whole keys values (x ∷ xs) (y ∷ ys) model =
+    let first = pair_model_whole keys values x y (cc model) in
+    let rest = map_model_whole keys values xs ys (cc model) in
     rw first rest

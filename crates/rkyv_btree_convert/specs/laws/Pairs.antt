@@ -15,11 +15,11 @@ pair_by_meaning {K} {V} k v = record {
   reads = λ b at. rw (k.reads b at, v.reads b (at + value_offset K V)) refl;
 }
 
--- pairs of which the same is told are equal
-pub pair_told_whole : {T U A B : Type 0} {key : T → A} {value : U → B} {same_key : T → T → Bool} {same_value : U → U → Bool} → ((x y : T) → key x ≡ key y → same_key x y ≡ true) → ((x y : U) → value x ≡ value y → same_value x y ≡ true)
+-- pairs with the same model are equal
+pub pair_model_whole : {T U A B : Type 0} {key : T → A} {value : U → B} {same_key : T → T → Bool} {same_value : U → U → Bool} → ((x y : T) → key x ≡ key y → same_key x y ≡ true) → ((x y : U) → value x ≡ value y → same_value x y ≡ true)
     → (p q : T × U) → ◌≡◌ {A = A × B} (key p.0, value p.1) (key q.0, value q.1) → (same_key p.0 q.0 && same_value p.1 q.1) ≡ true
-pair_told_whole keys values p q told = rw (keys p.0 q.0 (ap (λ e. e.0) told), values p.1 q.1 (ap (λ e. e.1) told)) refl
+pair_model_whole keys values p q model = rw (keys p.0 q.0 (ap (λ e. e.0) model), values p.1 q.1 (ap (λ e. e.1) model)) refl
 
 -- pairs whose parts are ordered alike
-pub then_alike : {first told_first second told_second : Ordering} → first ≡ told_first → second ≡ told_second → ordering_then first second ≡ ordering_then told_first told_second
+pub then_alike : {first model_first second model_second : Ordering} → first ≡ model_first → second ≡ model_second → ordering_then first second ≡ ordering_then model_first model_second
 then_alike keys values = cc

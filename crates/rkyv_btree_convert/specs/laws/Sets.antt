@@ -22,12 +22,12 @@ set_by_meaning {K} k E order =
     let m = map_by_meaning k unit_by_meaning E order in
     record { of_value = λ keys. result_map_both keys_of (λ fault. fault) (m.of_value keys); reads = λ b at. ap (result_map_both keys_of (λ fault. fault)) (m.reads b at) }
 
--- sets of which the same is told are equal
-pub set_told_whole : {T A : Type 0} {same : T → T → Bool} {key : T → A} → ((x y : T) → key x ≡ key y → same x y ≡ true) → (xs ys : List T) → map key xs ≡ map key ys → pointwise same xs ys ≡ true
-set_told_whole keys [] [] told = refl
-set_told_whole keys [] (y ∷ ys) told = absurd (cc told)
-set_told_whole keys (x ∷ xs) [] told = absurd (cc told)
-set_told_whole keys (x ∷ xs) (y ∷ ys) told =
-    let first = keys x y (cc told) in
-    let rest = set_told_whole keys xs ys (cc told) in
+-- sets with the same model are equal
+pub set_model_whole : {T A : Type 0} {same : T → T → Bool} {key : T → A} → ((x y : T) → key x ≡ key y → same x y ≡ true) → (xs ys : List T) → map key xs ≡ map key ys → pointwise same xs ys ≡ true
+set_model_whole keys [] [] model = refl
+set_model_whole keys [] (y ∷ ys) model = absurd (cc model)
+set_model_whole keys (x ∷ xs) [] model = absurd (cc model)
+set_model_whole keys (x ∷ xs) (y ∷ ys) model =
+    let first = keys x y (cc model) in
+    let rest = set_model_whole keys xs ys (cc model) in
     rw first rest

@@ -36,7 +36,7 @@ scalar_in_place {X} {form} faithful = record {
     own = λ b lo hi at left v m. plain_own form.plain (bytes_at b at form.plain.size) (length-bytes_at b at form.plain.size m.lies.inside) m.is_value;
   };
   written = faithful.is_own;
-  told = λ _ b c p q. (λ e. plain_value form.plain b p ∙ (e ∙ sym (plain_value form.plain c q)), λ e. sym (plain_value form.plain b p) ∙ (e ∙ plain_value form.plain c q));
+  same_model = λ _ b c p q. (λ e. plain_value form.plain b p ∙ (e ∙ sym (plain_value form.plain c q)), λ e. sym (plain_value form.plain b p) ∙ (e ∙ plain_value form.plain c q));
 }
 
 module _ (K V : Kind) (k : IsLawful K) (v : IsLawful V) where
@@ -67,8 +67,8 @@ module _ (K V : Kind) (k : IsLawful K) (v : IsLawful V) where
       own_part b own at from count same room = sym (bytes_at-bytes_at b at (entry_size K V) from count room) ∙ ap (λ bytes. bytes_at bytes from count) same
 
   module _ {X Y : Type 0} {key : InPlaceForm X} {value : InPlaceForm Y} (ki : IsInPlace K key) (vi : IsInPlace V value) where
-    told_both : (a c : key.Told) (b d : value.Told) → a ≡ c → b ≡ d → ◌≡◌ {A = key.Told × value.Told} (a, b) (c, d)
-    told_both a c b d p q = cc
+    both_models : (a c : key.Model) (b d : value.Model) → a ≡ c → b ≡ d → ◌≡◌ {A = key.Model × value.Model} (a, b) (c, d)
+    both_models a c b d p q = cc
 
     alone : LiesAlone (entry_kind K V)
     alone = record {
@@ -101,9 +101,9 @@ module _ (K V : Kind) (k : IsLawful K) (v : IsLawful V) where
       written : IsOwn (entry_kind K V) own
       written = own_of_parts own held.0 (subst (IsOwn K) (sym held.1) (ki.written x.0)) (subst (IsOwn V) (sym held.2) (vi.written x.1))
 
-      -- what is told of the parts is told of the pair
-      pub told_pair : key.tells (key.own x.0) ≡ key.told x.0 → value.tells (value.own x.1) ≡ value.told x.1 → (pair_form K V key value).tells own ≡ (pair_form K V key value).told x
-      told_pair p q = told_both _ _ _ _ (ap key.tells held.1 ∙ p) (ap value.tells held.2 ∙ q)
+      -- where own bytes have the models of the parts, they have that of the pair
+      pub model_of_pair : key.model_of_bytes (key.own x.0) ≡ key.model x.0 → value.model_of_bytes (value.own x.1) ≡ value.model x.1 → (pair_form K V key value).model_of_bytes own ≡ (pair_form K V key value).model x
+      model_of_pair p q = both_models _ _ _ _ (ap key.model_of_bytes held.1 ∙ p) (ap value.model_of_bytes held.2 ∙ q)
 
     -- an entry's own bytes are those of its key and of its value, and mean what these mean
     pub parts : IsTrue (entry_kind K V).is_fitting → (own : List ℕ) → IsOwn (entry_kind K V) own → IsOwn K (bytes_at own 0 K.size) × IsOwn V (bytes_at own (value_offset K V) V.size)
@@ -119,16 +119,16 @@ module _ (K V : Kind) (k : IsLawful K) (v : IsLawful V) where
         let value_alone = second.means own 0 0 (0 + value_offset K V) short (omega arith) (omega arith) (subst (IsAligned V.align) (omega arith) (round_up-aligned K.size V.align)) (omega (arith, is.size)) (ap (λ n. bytes_at own n V.size) (omega arith)) in
         (first, second, pair _ _ _ _ (sym (k.is_read _ _ _ _ _ _ key_alone)) (sym (v.is_read _ _ _ _ _ _ value_alone)))
 
-    told : IsTrue (entry_kind K V).is_fitting → (b c : List ℕ) → IsOwn (entry_kind K V) b → IsOwn (entry_kind K V) c → (pair_form K V key value).tells b ≡ (pair_form K V key value).tells c ↔ (value_of (entry_kind K V) b ≡ value_of (entry_kind K V) c)
-    told fits b c p q =
+    same_model : IsTrue (entry_kind K V).is_fitting → (b c : List ℕ) → IsOwn (entry_kind K V) b → IsOwn (entry_kind K V) c → (pair_form K V key value).model_of_bytes b ≡ (pair_form K V key value).model_of_bytes c ↔ (value_of (entry_kind K V) b ≡ value_of (entry_kind K V) c)
+    same_model fits b c p q =
         let f = fitting_entry K V fits in
         let x = parts fits b p in
         let y = parts fits c q in
-        let first = ki.told f.key (bytes_at b 0 K.size) (bytes_at c 0 K.size) x.0 y.0 in
-        let second = vi.told f.value (bytes_at b (value_offset K V) V.size) (bytes_at c (value_offset K V) V.size) x.1 y.1 in (
+        let first = ki.same_model f.key (bytes_at b 0 K.size) (bytes_at c 0 K.size) x.0 y.0 in
+        let second = vi.same_model f.value (bytes_at b (value_offset K V) V.size) (bytes_at c (value_offset K V) V.size) x.1 y.1 in (
           λ e. x.2 ∙ (pair _ _ _ _ (first.0 (ap (λ e. e.0) e)) (second.0 (ap (λ e. e.1) e)) ∙ sym y.2),
-          λ e. let both = sym x.2 ∙ (e ∙ y.2) in told_both _ _ _ _ (first.1 (ap (λ e. e.0) both)) (second.1 (ap (λ e. e.1) both)),
+          λ e. let both = sym x.2 ∙ (e ∙ y.2) in both_models _ _ _ _ (first.1 (ap (λ e. e.0) both)) (second.1 (ap (λ e. e.1) both)),
         )
 
     pub pair_in_place : IsInPlace (entry_kind K V) (pair_form K V key value)
-    pair_in_place = record { alone = alone; written = written; told = told }
+    pair_in_place = record { alone = alone; written = written; same_model = same_model }

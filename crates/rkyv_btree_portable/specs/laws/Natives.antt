@@ -20,10 +20,10 @@ use Rattle.rkyv_btree_portable.specs.laws.Scalars.{u8_laws, u16_laws, u32_laws, 
 
 -- a form is faithful if its own bytes are so many, are a value, are the value's, and follow from its meaning
 pub faithful : {X : Type 0} (form : NativeForm X) → IsLawful (plain_kind form.plain) → ((x : X) → length (form.own x) ≡ form.plain.size) → ((x : X) → IsTrue (form.plain.is_value (form.own x))) → ((x : X) → form.IsIn x → form.plain.value (form.own x) ≡ form.meaning x) → ((x y : X) → form.meaning x ≡ form.meaning y → form.own x ≡ form.own y) → IsFaithful form
-faithful form lawful size valid told one_own = record {
+faithful form lawful size valid means one_own = record {
   lawful = lawful;
   is_own = λ x. plain_own form.plain (form.own x) (size x) (valid x);
-  told = λ x is_in. ap form.plain.value (take_all form.plain.size (form.own x) (omega (arith, size x))) ∙ told x is_in;
+  means = λ x is_in. ap form.plain.value (take_all form.plain.size (form.own x) (omega (arith, size x))) ∙ means x is_in;
   one_own = one_own;
 }
 
@@ -56,7 +56,7 @@ pub i64_faithful : IsFaithful i64_form
 i64_faithful = faithful i64_form i64_laws (λ n. refl) (λ n. refl) (λ n fits. signed_told w64 n fits (let small = Fits-of_z {w = w64} {z = n} fits in omega arith)) (λ x y same. ap i64_form.own same)
 
 pub bool_faithful : IsFaithful bool_form
-bool_faithful = faithful bool_form bool_laws size valid told (λ x y same. ap bool_form.own same)
+bool_faithful = faithful bool_form bool_laws size valid means (λ x y same. ap bool_form.own same)
   where
     size : (b : Bool) → length (own_bool b) ≡ 1
     size true = refl
@@ -66,9 +66,9 @@ bool_faithful = faithful bool_form bool_laws size valid told (λ x y same. ap bo
     valid true = refl
     valid false = refl
 
-    told : (b : Bool) → Unit {0} → bool_form.plain.value (own_bool b) ≡ b
-    told true is_in = refl
-    told false is_in = refl
+    means : (b : Bool) → Unit {0} → bool_form.plain.value (own_bool b) ≡ b
+    means true is_in = refl
+    means false is_in = refl
 
 pub unit_faithful : IsFaithful unit_form
 unit_faithful = faithful unit_form unit_laws (λ u. refl) (λ u. refl) (λ u is_in. refl) (λ x y same. ap unit_form.own same)
@@ -82,17 +82,17 @@ valid_back : (is_value : ℕ → Bool) (n : ℕ) → n < 2 ^ 32 → IsTrue (is_v
 valid_back is_value n small valid = rw (read_back n small) valid
 
 -- the number that a test took is read of its own bytes
-told_if : (b : Bool) (n other : ℕ) → b ≡ true → n < 2 ^ 32 → from_le (to_le_bytes w32 (if b then n else other)) ≡ n
-told_if b n other e small = rw e (read_back n small)
+read_if : (b : Bool) (n other : ℕ) → b ≡ true → n < 2 ^ 32 → from_le (to_le_bytes w32 (if b then n else other)) ≡ n
+read_if b n other e small = rw e (read_back n small)
 
 pub char_faithful : IsFaithful char_form
-char_faithful = faithful char_form char_laws (λ c. refl) valid (λ c is_in. told_if (scalar c) c 0 is_in (scalar_fits c is_in)) (λ x y same. ap char_form.own same)
+char_faithful = faithful char_form char_laws (λ c. refl) valid (λ c is_in. read_if (scalar c) c 0 is_in (scalar_fits c is_in)) (λ x y same. ap char_form.own same)
   where
     valid : (c : ℕ) → IsTrue (scalar (from_le (own_char c)))
     valid c = taken (λ n. IsTrue (scalar (from_le (to_le_bytes w32 n)))) (scalar c) c 0 (λ s. valid_back scalar c (scalar_fits c s) s) refl
 
 pub non_zero_faithful : IsFaithful non_zero_form
-non_zero_faithful = faithful non_zero_form non_zero_laws (λ n. refl) valid (λ n small. told_if (nat_lt (non_zero_u32_get n) (2 ^ 32)) (non_zero_u32_get n) 1 (lt-ltb (non_zero_u32_get n) (2 ^ 32) small) small) (λ x y same. ap (λ (n : ℕ). to_le_bytes w32 (if nat_lt n (2 ^ 32) then n else 1)) same)
+non_zero_faithful = faithful non_zero_form non_zero_laws (λ n. refl) valid (λ n small. read_if (nat_lt (non_zero_u32_get n) (2 ^ 32)) (non_zero_u32_get n) 1 (lt-ltb (non_zero_u32_get n) (2 ^ 32) small) small) (λ x y same. ap (λ (n : ℕ). to_le_bytes w32 (if nat_lt n (2 ^ 32) then n else 1)) same)
   where
     valid : (n : NonZeroU32) → IsTrue (nat_lt 0 (from_le (own_non_zero n)))
     valid n =

@@ -9,10 +9,10 @@ use Rattle.rkyv_btree_unverified.specs.Lookups.{TreeGives}
 use Rattle.rkyv_btree_unverified.specs.Steps.{HasRoom}
 use Rattle.rkyv_btree_walk.specs.mirror.Node.{is_leaf, entry_count, child_place, EntryStands, TreeStands, RunStands}
 use Rattle.rkyv_btree_walk.specs.mirror.Search.{searched}
-use Rattle.rkyv_btree_unverified.specs.declared.search.Halt.{Halt}
-use Rattle.rkyv_btree_unverified.specs.declared.search.Next.{Next}
-use Rattle.rkyv_btree_unverified.specs.declared.search.Next.TheVariants.{Hit, Miss, Down}
-use Rattle.rkyv_btree_unverified.specs.declared.search.Halt.TheVariants.{Found, Below}
+use Rattle.rkyv_btree_unverified.specs.declared.unverified_search.Halt.{Halt}
+use Rattle.rkyv_btree_unverified.specs.declared.unverified_search.Next.{Next}
+use Rattle.rkyv_btree_unverified.specs.declared.unverified_search.Next.TheVariants.{Hit, Miss, Down}
+use Rattle.rkyv_btree_unverified.specs.declared.unverified_search.Halt.TheVariants.{Found, Below}
 
 module _ (s : NodeLayout) (b : List ℕ) where
   -- the node at p passes the checks of a node in front of hi

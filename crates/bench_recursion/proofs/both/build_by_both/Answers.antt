@@ -1,7 +1,7 @@
 use Rattle.std.proofs.Common.{◌≡◌, List, [], ◌∷◌, Bor, map, sym, ap, ◌∙◌}
 use Rattle.std.specs.Iterator.{Drains, YieldsFirstBy}
-use Rattle.rkyv_btree_image.specs.Alike.{entry_meaning}
-use Rattle.rkyv_btree_image.specs.Entries.{now_of}
+use Rattle.rkyv_btree_writing_laws.specs.Alike.{entry_meaning}
+use Rattle.rkyv_btree_writing_laws.specs.Entries.{now_of}
 use Rattle.bench_recursion.proofs.both.build_by_both.Goals as goal
 
 -- all items of an iterator are what its state shows
@@ -11,7 +11,7 @@ drained rest s (x ∷ xs) d = ap (λ ys. now_of x ∷ ys) (drained rest d.1.1.0 
 
 pub returns-clause-root : goal.returns-clause-root
 returns-clause-root g c keys values =
-    let made = c.in_ok-root.ensures.ok in
+    let made = c.in_ok-root.ensures.written in
     let also = c.in_ok-place.ensures.ok in
     let are = drained (λ e. e.rest.now) _ made.items made.all in
     let these = drained (λ e. e.rest.now) _ also.items also.all in
@@ -20,7 +20,7 @@ returns-clause-root g c keys values =
 
 pub returns-clause-bytes : goal.returns-clause-bytes
 returns-clause-bytes g c keys values =
-    let made = c.in_ok-root.ensures.ok in
+    let made = c.in_ok-root.ensures.written in
     let also = c.in_ok-place.ensures.ok in
     let are = drained (λ e. e.rest.now) _ made.items made.all in
     let these = drained (λ e. e.rest.now) _ also.items also.all in

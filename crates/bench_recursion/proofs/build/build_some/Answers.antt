@@ -3,15 +3,15 @@ use Rattle.std.specs.Prelude.{⊤}
 use Rattle.std.proofs.lemmas.List.{length-map}
 use Rattle.std.proofs.lemmas.Result.{err_from_is_err_and}
 use Rattle.rkyv_btree_format.specs.Layout.{layout_of}
-use Rattle.rkyv_btree_image.specs.Serialising.{meaning_of, Built}
-use Rattle.rkyv_btree_image.specs.Entries.{now_of}
+use Rattle.rkyv_btree_writing_laws.specs.Serialising.{meaning_of, Built}
+use Rattle.rkyv_btree_writing_laws.specs.Entries.{now_of}
 use Rattle.rkyv_btree_shape.specs.Plan.{planned_alone}
 use Rattle.rkyv_btree_shape.specs.Logarithm.{ilog}
-use Rattle.rkyv_btree_image.proofs.Kept.{same_begins}
-use Rattle.rkyv_btree_image.proofs.Untold.{unasked}
-use Rattle.rkyv_btree_image.proofs.TreesKept.{stops_begin, child_begins, child_went}
-use Rattle.rkyv_btree_image.proofs.Building.{drained, miscounted_of, meaning_is, spelled_of}
-use Rattle.rkyv_btree_image.proofs.Within.{serialised_within, miscounted_within, fault_within}
+use Rattle.rkyv_btree_writing_laws.proofs.Kept.{same_begins}
+use Rattle.rkyv_btree_writing_laws.proofs.Untold.{unasked}
+use Rattle.rkyv_btree_writing_laws.proofs.TreesKept.{stops_begin, child_begins, child_went}
+use Rattle.rkyv_btree_writing_laws.proofs.Building.{drained, miscounted_of, meaning_is, spelled_of}
+use Rattle.rkyv_btree_writing_laws.proofs.Within.{serialised_within, miscounted_within, fault_within}
 use Rattle.rkyv_btree_archive.proofs.Sources.{any_within}
 use Rattle.bench_recursion.proofs.Building.{short_of, refused_of}
 use Rattle.rkyv_btree_archive.specs.declared.items.AnyOrder.{AnyOrder}

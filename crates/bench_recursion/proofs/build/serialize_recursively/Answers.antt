@@ -2,11 +2,11 @@
 use Rattle.std.proofs.Common.{ℕ, ◌<◌, ◌≤◌, [], Bor, inl, refl, arith}
 use Rattle.std.specs.Prelude.{⊤}
 use Rattle.std.proofs.lemmas.Result.{IfOk-weaker, on_ok_weaker}
-use Rattle.rkyv_btree_image.proofs.Kept.{same_begins, went_nowhere}
-use Rattle.rkyv_btree_image.proofs.SmallestMaps.{builds_none, builds_smallest}
+use Rattle.rkyv_btree_writing_laws.proofs.Kept.{same_begins, went_nowhere}
+use Rattle.rkyv_btree_writing_laws.proofs.SmallestMaps.{builds_none, builds_smallest}
 use Rattle.rkyv_btree_format.proofs.Sizes.{room_of}
-use Rattle.rkyv_btree_image.proofs.OneTree.{builds_one_tree}
-use Rattle.rkyv_btree_image.proofs.Within.{drains_within}
+use Rattle.rkyv_btree_writing_laws.proofs.OneTree.{builds_one_tree}
+use Rattle.rkyv_btree_writing_laws.proofs.Within.{drains_within}
 use Rattle.rkyv_btree_archive.proofs.Sources.{any_within}
 use Rattle.rkyv_btree_archive.specs.declared.items.AnyOrder.{AnyOrder}
 use Rattle.rkyv_btree_archive.specs.mirror.Source.{Gives}

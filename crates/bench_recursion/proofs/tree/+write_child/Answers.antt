@@ -4,8 +4,8 @@ use Rattle.std.proofs.lemmas.List.{map_push}
 use Rattle.std.proofs.lemmas.Result.{err_from_is_err_and}
 use Rattle.rkyv_btree_format.specs.Layout.{layout_of}
 use Rattle.rkyv_btree_shape.specs.Plan.{planned_alone}
-use Rattle.rkyv_btree_image.specs.Entries.{now_of}
-use Rattle.rkyv_btree_image.specs.Written.{ChildWritten, ChildStopped}
+use Rattle.rkyv_btree_writing_laws.specs.Entries.{now_of}
+use Rattle.rkyv_btree_writing_laws.specs.Written.{ChildWritten, ChildStopped}
 use Rattle.rkyv_btree_format.proofs.Sizes.{room_of}
 use Rattle.rkyv_btree_shape.proofs.Alone.{alone_inner}
 use Rattle.bench_recursion.proofs.Rows.{turn-inside, turn-rest, drop-push, take-push, length-pushed, less_on_last, some_item}

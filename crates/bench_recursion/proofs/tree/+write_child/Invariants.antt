@@ -2,7 +2,7 @@ use Rattle.std.proofs.Common.{◌≡◌, ◌+◌, ◌*◌, ◌-◌, ◌≤◌, l
 use Rattle.rkyv_btree_format.specs.Layout.{layout_of}
 use Rattle.rkyv_btree_shape.specs.Plan.{planned_alone, row_plan}
 use Rattle.rkyv_btree_archive.specs.mirror.Scratch.{IsFree}
-use Rattle.rkyv_btree_image.specs.Entries.{now_of}
+use Rattle.rkyv_btree_writing_laws.specs.Entries.{now_of}
 use Rattle.bench_recursion.proofs.RowsWritten.{RowSoFar}
 use Rattle.bench_recursion.proofs.tree.+write_child.Given as goal
 

@@ -3,8 +3,8 @@ use Rattle.std.proofs.lemmas.Bool.Decides.{nat_tests}
 use Rattle.std.proofs.lemmas.List.{nil_from_length}
 use Rattle.std.proofs.lemmas.Result.{err_from_is_err_and}
 use Rattle.rkyv_btree_format.specs.Layout.{layout_of}
-use Rattle.rkyv_btree_image.specs.Entries.{now_of}
-use Rattle.rkyv_btree_image.specs.Written.{ChildWritten, ChildStopped}
+use Rattle.rkyv_btree_writing_laws.specs.Entries.{now_of}
+use Rattle.rkyv_btree_writing_laws.specs.Written.{ChildWritten, ChildStopped}
 use Rattle.rkyv_btree_format.proofs.Sizes.{room_of}
 use Rattle.rkyv_btree_shape.proofs.Alone.{alone_leaf}
 use Rattle.bench_recursion.proofs.Rows.{not-empty}

@@ -8,7 +8,7 @@ use Rattle.btreearc_commands.proofs.build.archive.Goals as goal
 
 pub returns-in-Ok-write_root : goal.returns-in-Ok-write_root
 returns-in-Ok-write_root c =
-    let made = c.in-Ok.ensures.ok in
+    let made = c.in-Ok.ensures.written in
     let entries = c.args.entries.now in
     let s = c.serialize_from_ordered_iter.new.writer in
     let t = c.write_root.new.writer in
@@ -29,7 +29,7 @@ returns-in-Err-clause-err c =
 
 pub returns-in-Err-write_root-clause-err : goal.returns-in-Err-write_root-clause-err
 returns-in-Err-write_root-clause-err c =
-    let made = c.in-Ok.ensures.ok in
+    let made = c.in-Ok.ensures.written in
     let entries = c.args.entries.now in
     let s = c.serialize_from_ordered_iter.new.writer in
     let are : map pair made.items ≡ entries = drained_pairs (λ e. e.rest.now) _ made.items made.all in

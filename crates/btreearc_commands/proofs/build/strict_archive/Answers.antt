@@ -10,14 +10,14 @@ use Rattle.btreearc_commands.proofs.build.strict_archive.Goals as goal
 
 pub returns-in-Ok-write_root : goal.returns-in-Ok-write_root
 returns-in-Ok-write_root c =
-    let made = c.in-Ok.ensures.ok.0 in
+    let made = c.in-Ok.ensures.written.0 in
     let entries = c.args.entries.now in
     let s = c.serialize_strict_from_ordered_iter.new.writer in
     let t = c.write_root.new.writer in
     let are : map pair made.items ≡ entries = drained_pairs (λ e. e.rest.now) _ made.items made.all in
     let tree = tree_is entries made.items c.in-Ok.root _ s c.new-writer.ensures are made.built in
     record {
-      increase = subst (λ (xs : List (ℕ × ℕ)). Increasing nat_cmp xs) are c.in-Ok.ensures.ok.1;
+      increase = subst (λ (xs : List (ℕ × ℕ)). Increasing nat_cmp xs) are c.in-Ok.ensures.written.1;
       ok = c.into_vec.ensures ∙ archive_written entries c.in-Ok.root s t tree c.in-Ok-write_root.ensures.ok;
       fits = has_archive entries c.in-Ok.root s t tree c.in-Ok-write_root.ensures.len c.in-Ok-write_root.ensures.ok c.in-Ok-write_root.ensures.last;
       accepted = subst (λ (bytes : List ℕ). IsArchive bytes entries) (sym c.into_vec.ensures)
@@ -32,7 +32,7 @@ returns-in-Err-clause-err c =
 
 pub returns-in-Err-write_root-clause-err : goal.returns-in-Err-write_root-clause-err
 returns-in-Err-write_root-clause-err c =
-    let made = c.in-Ok.ensures.ok.0 in
+    let made = c.in-Ok.ensures.written.0 in
     let entries = c.args.entries.now in
     let s = c.serialize_strict_from_ordered_iter.new.writer in
     let are : map pair made.items ≡ entries = drained_pairs (λ e. e.rest.now) _ made.items made.all in

@@ -10,12 +10,12 @@ pub returns-clause-archive : goal.returns-clause-archive
 returns-clause-archive c text archive entries built = is_archive text entries archive built
 
 pub returns-clause-listed : goal.returns-clause-listed
-returns-clause-listed c text archive entries built = c.archives_tell_their_entries.ensures.listed archive entries (is_archive text entries archive built)
+returns-clause-listed c text archive entries built = c.archives_show_their_entries.ensures.listed archive entries (is_archive text entries archive built)
 
 pub returns-clause-counted : goal.returns-clause-counted
 returns-clause-counted c text archive entries built =
-    let told = c.archives_tell_their_entries.ensures.counted archive entries (is_archive text entries archive built) in
-    subst (λ (n : ℕ). AlwaysPrints (Checks (Some archive)) (total n) 0) (sym (entries-length (lines text) entries built.lines)) told
+    let ended = c.archives_show_their_entries.ensures.counted archive entries (is_archive text entries archive built) in
+    subst (λ (n : ℕ). AlwaysPrints (Checks (Some archive)) (total n) 0) (sym (entries-length (lines text) entries built.lines)) ended
 
 pub returns-clause-built_again : goal.returns-clause-built_again
 returns-clause-built_again c text archive entries built = built_again text entries archive built

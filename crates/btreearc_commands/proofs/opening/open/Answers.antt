@@ -12,11 +12,11 @@ returns-in_default-clause-refused c = misplaced (too_long (omega arith))
 pub returns-in-Err-clause-all_accepted : goal.returns-in-Err-clause-all_accepted
 returns-in-Err-clause-all_accepted c = λ entries archive.
     let root : root_of c.args.archive.now ≡ c.in-Ok.root = omega arith in
-    c.in-Err.ensures.all_accepted entries (subst (λ at. IsMap u32_kind u32_kind 5 c.args.archive.now at entries) root archive)
+    c.in-Err.ensures.accepts.1 (entries, subst (λ at. IsMap u32_kind u32_kind 5 c.args.archive.now at entries) root archive)
 
 pub returns-in-Ok-access-clause-accepted : goal.returns-in-Ok-access-clause-accepted
 returns-in-Ok-access-clause-accepted c =
     let here = c.in-Ok-access.ensures in
     let root : root_of c.args.archive.now ≡ c.in-Ok.root = omega arith in
-    let told : IsArchive c.args.archive.now (entries_read c.in-Ok-access.map.buf.now c.in-Ok-access.map.pos) = rw (here.buffer, here.position, root) here.accepted in
-    told
+    let ended : IsArchive c.args.archive.now (entries_read c.in-Ok-access.map.buf.now c.in-Ok-access.map.pos) = rw root here.entries in
+    ended

@@ -3,7 +3,7 @@ use Rattle.std.proofs.Common.{◌≡◌, [], ◌∷◌, ◌++◌, decimal, rules
 use Rattle.std.specs.Ordering.{nat_cmp}
 use Rattle.rkyv_btree_base.specs.Scalars.{u32_kind}
 use Rattle.btreearc_commands.specs.Opening.{IsArchive, entries_read}
-use Rattle.btreearc_commands.proofs.Found.{told_none, told_some, output_told, found_there}
+use Rattle.btreearc_commands.proofs.Found.{prints_none, prints_some, output_ended, found_there}
 use Rattle.btreearc_commands.proofs.program.get.Goals as goal
 
 pub returns-in_default-clause-done : goal.returns-in_default-clause-done
@@ -12,9 +12,9 @@ returns-in_default-clause-done g c =
     let archive = c.in_ok-archive.archive.items in
     let there = found_there map.buf.now archive map.pos c.args.key (c.in_ok-open.ensures.buffer ∙ c.deref.ensures.value) (rw c.deref.ensures.value at c.in_ok-open.ensures.position) in
     let found = rw there at (c.in_default.ensures.found nat_cmp (λ n b at. refl)) in
-    output_told (g.R.Read.remaining c.args.input.now) (g.W.Write.contents c.args.output.now) _ archive (entries_read map.buf.now map.pos) c.args.key 1 c.in_ok-archive.ensures.all
+    output_ended (g.R.Read.remaining c.args.input.now) (g.W.Write.contents c.args.output.now) _ archive (entries_read map.buf.now map.pos) c.args.key 1 c.in_ok-archive.ensures.all
     (subst (λ b. IsArchive b (entries_read map.buf.now map.pos)) c.deref.ensures.value c.in_ok-open.ensures.accepted)
-    (told_none _ _ found)
+    (prints_none _ _ found)
 
 pub returns-clause-done : goal.returns-clause-done
 returns-clause-done g c =
@@ -23,6 +23,6 @@ returns-clause-done g c =
     let there = found_there map.buf.now archive map.pos c.args.key (c.in_ok-open.ensures.buffer ∙ c.deref.ensures.value) (rw c.deref.ensures.value at c.in_ok-open.ensures.position) in
     let line : c.as_bytes.result.now ≡ decimal (u32_kind.read c.in-Some.value.buf.now c.in-Some.value.pos) ++ 10 ∷ [] = search rules in
     let found = rw there at (c.in-Some.ensures.found nat_cmp (λ n b at. refl)) in
-    output_told (g.R.Read.remaining c.args.input.now) (g.W.Write.contents c.args.output.now) _ archive (entries_read map.buf.now map.pos) c.args.key 0 c.in_ok-archive.ensures.all
+    output_ended (g.R.Read.remaining c.args.input.now) (g.W.Write.contents c.args.output.now) _ archive (entries_read map.buf.now map.pos) c.args.key 0 c.in_ok-archive.ensures.all
     (subst (λ b. IsArchive b (entries_read map.buf.now map.pos)) c.deref.ensures.value c.in_ok-open.ensures.accepted)
-    (told_some _ _ _ (u32_kind.read c.in-Some.value.buf.now c.in-Some.value.pos) c.as_bytes.result.now found line c.in_ok-write_all.ensures.all)
+    (prints_some _ _ _ (u32_kind.read c.in-Some.value.buf.now c.in-Some.value.pos) c.as_bytes.result.now found line c.in_ok-write_all.ensures.all)

@@ -13,6 +13,6 @@ returns-clause-done g c =
       refl,
       output_listed (g.R.Read.remaining c.args.input.now) (g.W.Write.contents c.args.output.now) (g.W.Write.contents c.write_all.new.output) archive c.as_bytes.result.now entries c.in_ok-archive.ensures.all
           (subst (λ b. IsArchive b entries) c.deref.ensures.value c.in_ok-map.ensures.accepted)
-          (c.as_bytes.ensures.value ∙ (c.as_str.ensures.value ∙ from_nothing _ _ _ c.new-text.ensures.bytes given.2 ∙ ap text_of (c.iter.ensures.all given.0 given.1)))
+          (c.as_bytes.ensures.value ∙ (c.as_str.ensures.value ∙ from_nothing _ _ _ c.new-text.ensures.bytes given.2 ∙ ap text_of (c.iter.ensures.yields given.0 given.1)))
           c.in_ok-write_all.ensures.all,
     )

@@ -21,6 +21,6 @@ returns-clause-done g c =
           c.in_ok-archive.ensures.all
           (subst (λ b. IsArchive b entries) c.deref.ensures.value c.in_ok-map.ensures.accepted)
           (between c.args.low c.args.high entries found range.run (range.within nat_cmp (λ n b at. refl)))
-          (c.as_bytes.ensures.value ∙ (c.as_str.ensures.value ∙ from_nothing _ _ _ c.new-text.ensures.bytes given.2 ∙ ap text_of (range.all given.0 given.1)))
+          (c.as_bytes.ensures.value ∙ (c.as_str.ensures.value ∙ from_nothing _ _ _ c.new-text.ensures.bytes given.2 ∙ ap text_of (range.yields given.0 given.1)))
           c.in_ok-write_all.ensures.all,
     )

@@ -2,15 +2,15 @@
 use Rattle.std.proofs.Common.{◌≡◌, [], length}
 use Rattle.examples.proofs.Adding.{Adding}
 use Rattle.examples.proofs.editing.add_ten.Given as goal
-use Rattle.rkyv_btree.specs.Cursor.{places_left}
+use Rattle.rkyv_btree.specs.Cursor.{remaining_places}
 
 abbrev pub invariant-along : goal.invariant-along
 invariant-along l =
     record {
       reference : l.cursor.buf.ghost_name ≡ l.initial.cursor.buf.ghost_name;
       position : l.cursor.pos ≡ l.initial.cursor.pos;
-      adding : Adding l.initial.cursor.buf.now l.cursor.pos [] [] l.cursor.buf.now (places_left l.cursor);
+      adding : Adding l.initial.cursor.buf.now l.cursor.pos [] [] l.cursor.buf.now (remaining_places l.cursor);
     }
 
 abbrev pub decreases-along : goal.decreases-along
-decreases-along l = length (places_left l.cursor)
+decreases-along l = length (remaining_places l.cursor)

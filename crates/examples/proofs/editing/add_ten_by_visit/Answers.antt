@@ -5,7 +5,7 @@ use Rattle.examples.proofs.Adding.{Adding, adding_start, added_all}
 use Rattle.examples.proofs.Calling.{visit_adds}
 use Rattle.examples.proofs.Numbers.{numbers_stand}
 use Rattle.examples.proofs.editing.add_ten_by_visit.Goals as goal
-use Rattle.rkyv_btree.specs.Put.{entry_places}
+use Rattle.rkyv_btree.specs.EntryPlaces.{entry_places}
 use Rattle.rkyv_btree_base.specs.Scalars.{u32_kind}
 
 pub at-map-requires : goal.at-map-requires

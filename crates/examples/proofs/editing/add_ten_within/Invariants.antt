@@ -2,15 +2,15 @@
 use Rattle.std.proofs.Common.{◌≡◌, length, ℕ, List}
 use Rattle.examples.proofs.Adding.{Adding}
 use Rattle.examples.proofs.editing.add_ten_within.Given as goal
-use Rattle.rkyv_btree.specs.Cursor.{range_places_left}
+use Rattle.rkyv_btree.specs.Cursor.{range_remaining_places}
 
 abbrev pub invariant-along : goal.invariant-along
 invariant-along l =
     record {
       reference : l.cursor.buf.ghost_name ≡ l.initial.cursor.buf.ghost_name;
       position : l.cursor.pos ≡ l.initial.cursor.pos;
-      adding : (skipped later : List (ℕ × ℕ)) → Adding l.initial.cursor.buf.now l.cursor.pos skipped later l.initial.cursor.buf.now (range_places_left l.initial.cursor) → Adding l.initial.cursor.buf.now l.cursor.pos skipped later l.cursor.buf.now (range_places_left l.cursor);
+      adding : (skipped later : List (ℕ × ℕ)) → Adding l.initial.cursor.buf.now l.cursor.pos skipped later l.initial.cursor.buf.now (range_remaining_places l.initial.cursor) → Adding l.initial.cursor.buf.now l.cursor.pos skipped later l.cursor.buf.now (range_remaining_places l.cursor);
     }
 
 abbrev pub decreases-along : goal.decreases-along
-decreases-along l = length (range_places_left l.cursor)
+decreases-along l = length (range_remaining_places l.cursor)

@@ -9,7 +9,7 @@ use Rattle.examples.proofs.headline.looked_up_in_set.Goals as goal
 pub returns-in_err-set-clause-refused : goal.returns-in_err-set-clause-refused
 returns-in_err-set-clause-refused g c =
     let p = err_from_is_err_and c.from_residual.result c.from_residual.ensures.1 in
-    rw p.1 (none_accepted c.access.result _ c.in_err-set.was c.access.ensures.all_accepted)
+    rw p.1 (none_accepted c.access.result _ c.in_err-set.was (λ m is. c.access.ensures.accepts.1 (m, is)))
 
 pub returns-clause-found : goal.returns-clause-found
 returns-clause-found g c m is =

@@ -10,17 +10,17 @@ use Rattle.examples.proofs.headline.walk_of_set.Goals as goal
 pub returns-in_err-set-clause-refused : goal.returns-in_err-set-clause-refused
 returns-in_err-set-clause-refused g c =
     let p = err_from_is_err_and c.from_residual.result c.from_residual.ensures.1 in
-    rw p.1 (none_accepted c.access.result _ c.in_err-set.was c.access.ensures.all_accepted)
+    rw p.1 (none_accepted c.access.result _ c.in_err-set.was (λ m is. c.access.ensures.accepts.1 (m, is)))
 
 pub returns-clause-len : goal.returns-clause-len
 returns-clause-len g c m is =
     let list : read_map g.K.Portable.kind unit_kind g.row.E c.args.buf.now c.args.pos ≡ m = list_read g.K.Portable.kind unit_kind g.row.E g.met.K.Portable.laws unit_laws c.args.buf.now c.args.pos m is in
-    rw list at (rw (c.in_ok-set.ensures.buffer, c.in_ok-set.ensures.position) at c.len.ensures) ∙ length-map m (λ e. e.0)
+    rw list at (rw (c.in_ok-set.ensures.buffer, c.in_ok-set.ensures.position) at c.len.ensures.keys) ∙ length-map m (λ e. e.0)
 
 pub returns-clause-keys : goal.returns-clause-keys
 returns-clause-keys g c m is items drains =
     let list = list_read g.K.Portable.kind unit_kind g.row.E g.met.K.Portable.laws unit_laws c.args.buf.now c.args.pos m is in
-    rw (c.in_ok-set.ensures.buffer, c.in_ok-set.ensures.position) at (c.iter.ensures.all items drains) ∙ ap (map (λ e. e.0)) list
+    rw (c.in_ok-set.ensures.buffer, c.in_ok-set.ensures.position) at (c.iter.ensures.yields items drains) ∙ ap (map (λ e. e.0)) list
 
 pub returns-clause-ends : goal.returns-clause-ends
 returns-clause-ends g c = c.iter.ensures.ends

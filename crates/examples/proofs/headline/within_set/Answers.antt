@@ -7,14 +7,14 @@ use Rattle.examples.proofs.headline.within_set.Goals as goal
 pub returns-in_err-set-clause-refused : goal.returns-in_err-set-clause-refused
 returns-in_err-set-clause-refused g c =
     let p = err_from_is_err_and c.from_residual.result c.from_residual.ensures.1 in
-    rw p.1 (none_accepted c.access.result _ c.in_err-set.was c.access.ensures.all_accepted)
+    rw p.1 (none_accepted c.access.result _ c.in_err-set.was (λ m is. c.access.ensures.accepts.1 (m, is)))
 
 pub returns-clause-within : goal.returns-clause-within
 returns-clause-within g c m is =
     let list = list_read g.K.Portable.kind unit_kind g.row.E g.met.K.Portable.laws unit_laws c.args.buf.now c.args.pos m is in
     let run = rw list at (rw (c.in_ok-set.ensures.buffer, c.in_ok-set.ensures.position) at c.range.ensures.run) in
     let within = rw list at (rw (c.in_ok-set.ensures.buffer, c.in_ok-set.ensures.position) at c.range.ensures.within) in
-    (_, run, c.range.ensures.all, within)
+    (_, run, c.range.ensures.yields, within)
 
 pub returns-clause-ends : goal.returns-clause-ends
 returns-clause-ends g c = c.range.ensures.ends

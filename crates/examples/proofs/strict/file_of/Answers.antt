@@ -29,7 +29,7 @@ unreachable-requires c =
     let meant : kind.Value = both_mean string_bytes (λ n. n) c.args.prices.now.entries in
     let archive = in_bytes kind meant c.as_slice.result.now c.in_ok-file.file.items c.as_slice.ensures.value (c.in_ok-file.ensures.ok (itself kind)) in
     let rises = c.std_maps_are_increasing.ensures.maps string_bytes (λ n. n) c.args.prices.now.entries c.natives_are_ordered_alike.ensures.texts c.len-len.ensures.ordered in
-    err_or_ok c.open_strict.result c.is_err.result (c.open_strict.ensures.all_archives meant archive rises) c.is_err.ensures.value c.if-is_err.true
+    err_or_ok c.open_strict.result c.is_err.result (c.open_strict.ensures.accepts.1 (meant, archive, rises)) c.is_err.ensures.value c.if-is_err.true
 
 pub returns : goal.returns
 returns c =

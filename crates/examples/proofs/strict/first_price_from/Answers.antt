@@ -28,7 +28,7 @@ returns-in-None c =
     let file = c.in_ok-prices.prices in
     let within = c.range_by.ensures.within (λ n. slice_cmp nat_cmp n.now) (λ n b at. refl) in (
       entries_of text_kind u32_kind 5 file.view,
-      record { archive = c.in_ok-prices.ensures.archive; increasing = file.increasing },
+      record { archive = c.in_ok-prices.ensures.entries.0; increasing = file.increasing },
       same_first _ _ (sym within ∙ c.in-None.ensures.steps.0),
     )
 
@@ -38,6 +38,6 @@ returns-in-Some c =
     let file = c.in_ok-prices.prices in
     let within = c.range_by.ensures.within (λ n. slice_cmp nat_cmp n.now) (λ n b at. refl) in (
       entries_of text_kind u32_kind 5 file.view,
-      record { archive = c.in_ok-prices.ensures.archive; increasing = file.increasing },
+      record { archive = c.in_ok-prices.ensures.entries.0; increasing = file.increasing },
       ap Some c.to_native.ensures ∙ same_first _ _ (sym within ∙ c.in-Some.ensures.steps),
     )

@@ -19,6 +19,6 @@ returns c =
     let file = c.in_ok-prices.prices in
     let found = c.get_by-price.ensures (λ n. slice_cmp nat_cmp n.now) (λ n b at. refl) in (
       entries_of text_kind u32_kind 5 file.view,
-      record { archive = c.in_ok-prices.ensures.archive; increasing = file.increasing },
+      record { archive = c.in_ok-prices.ensures.entries.0; increasing = file.increasing },
       mapped reads _ (λ x y h. search rules) c.get_by-price.result c.map.result c.map.ensures.cases ∙ found,
     )

@@ -29,7 +29,7 @@ unreachable-requires c =
     let kind = map_kind text_kind u32_kind 5 in
     let meant : kind.Value = both_mean (string_bytes {Z = Global}) (λ n. n) c.args.map.now.entries in
     let archive = in_bytes kind meant c.as_slice.result.now c.in_ok-archive.archive.items c.as_slice.ensures.value (c.in_ok-archive.ensures.ok (itself kind)) in
-    absurd (cc (rw c.in-Err.is at (c.open.ensures.all_archives meant archive)))
+    absurd (cc (rw c.in-Err.is at (c.open.ensures.accepts.1 (meant, archive))))
 
 pub returns : goal.returns
 returns c =
@@ -40,4 +40,4 @@ returns c =
     let view = c.in-Ok.view in
     let same : read_map text_kind u32_kind 5 view.buf.now view.pos ≡ meant = rw (c.in-Ok.ensures.buffer, c.in-Ok.ensures.position) read in
     let tests = c.archives_are_same_as_std.ensures (string_bytes {Z = Global}) (λ n. n) view.buf.now view.pos c.args.map.now.entries (λ x text. pointwise nat_eq x (string_bytes text)) nat_eq same (λ text. nat_list_eq_equiv.refl (string_bytes text)) nat_eq_equiv.refl in
-    c.eq_map.ensures (λ x text. pointwise nat_eq x (string_bytes text)) nat_eq (λ n b at. refl) (λ n b at. refl) ∙ tests
+    c.eq_map.ensures.same (λ x text. pointwise nat_eq x (string_bytes text)) nat_eq (λ n b at. refl) (λ n b at. refl) ∙ tests

@@ -30,7 +30,7 @@ unreachable-requires c =
     let kind = map_kind u32_kind u32_kind 5 in
     let meant : kind.Value = both_mean (λ n. n) (λ n. n) c.args.map.now.entries in
     let archive = in_bytes kind meant c.as_slice.result.now c.in_ok-archive.archive.items c.as_slice.ensures.value (c.in_ok-archive.ensures.ok (itself kind)) in
-    absurd (cc (rw c.in-Err.is at (c.open.ensures.all_archives meant archive)))
+    absurd (cc (rw c.in-Err.is at (c.open.ensures.accepts.1 (meant, archive))))
 
 pub returns : goal.returns
 returns c =

@@ -1,4 +1,4 @@
-use Rattle.rkyv_btree_image.proofs.Accepting.{accepted_over, accepted_empty}
+use Rattle.rkyv_btree_writing_laws.proofs.Accepting.{accepted_over, accepted_empty}
 use Rattle.rkyv_btree_archive.proofs.build.archives_are_accepted.Goals as goal
 
 pub returns : goal.returns

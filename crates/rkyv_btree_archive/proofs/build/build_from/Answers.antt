@@ -2,15 +2,15 @@
 use Rattle.std.proofs.Common.{◌≡◌, ℕ, ◌+◌, ◌<◌, ◌≤◌, List, [], length, map, take, Bor, Option, None, inl, refl, sym, ◌∙◌, subst, arith}
 use Rattle.std.specs.Iterator.{YieldsThen}
 use Rattle.std.proofs.lemmas.Result.{on_ok_weaker}
-use Rattle.rkyv_btree_image.proofs.Kept.{same_begins, went_nowhere}
-use Rattle.rkyv_btree_image.proofs.SmallestMaps.{builds_none}
+use Rattle.rkyv_btree_writing_laws.proofs.Kept.{same_begins, went_nowhere}
+use Rattle.rkyv_btree_writing_laws.proofs.SmallestMaps.{builds_none}
 use Rattle.rkyv_btree_portable.specs.Kind.{Kind}
 use Rattle.rkyv_btree_format.specs.Layout.{layout_of}
 use Rattle.rkyv_btree_shape.specs.Plan.{planned_alone}
 use Rattle.rkyv_btree_writer.specs.Archiving.{Archival}
 use Rattle.rkyv_btree_writer.specs.Writing.{Writing}
-use Rattle.rkyv_btree_image.specs.Entries.{now_of}
-use Rattle.rkyv_btree_image.specs.Written.{ChildWritten}
+use Rattle.rkyv_btree_writing_laws.specs.Entries.{now_of}
+use Rattle.rkyv_btree_writing_laws.specs.Written.{ChildWritten}
 use Rattle.rkyv_btree_archive.specs.mirror.Ended.{CountsTo}
 use Rattle.rkyv_btree_archive.specs.mirror.Source.{Gives}
 use Rattle.rkyv_btree_archive.proofs.build.build_from.Goals as goal

@@ -4,12 +4,12 @@ use Rattle.std.specs.Iterator.{size}
 use Rattle.std.proofs.lemmas.Result.{err_from_is_err_and}
 use Rattle.rkyv_btree_format.specs.Layout.{layout_of}
 use Rattle.rkyv_btree_format.proofs.Sizes.{room_of}
-use Rattle.rkyv_btree_image.specs.Serialising.{meaning_of, Built}
-use Rattle.rkyv_btree_image.specs.Entries.{now_of}
+use Rattle.rkyv_btree_writing_laws.specs.Serialising.{meaning_of, Built}
+use Rattle.rkyv_btree_writing_laws.specs.Entries.{now_of}
 use Rattle.rkyv_btree_shape.specs.Plan.{planned_alone}
-use Rattle.rkyv_btree_image.proofs.Kept.{same_begins}
-use Rattle.rkyv_btree_image.proofs.TreesKept.{child_begins, child_went}
-use Rattle.rkyv_btree_image.proofs.Building.{drained, miscounted_of, meaning_is, spelled_of}
+use Rattle.rkyv_btree_writing_laws.proofs.Kept.{same_begins}
+use Rattle.rkyv_btree_writing_laws.proofs.TreesKept.{child_begins, child_went}
+use Rattle.rkyv_btree_writing_laws.proofs.Building.{drained, miscounted_of, meaning_is, spelled_of}
 use Rattle.rkyv_btree_archive.specs.mirror.Source.{Gives}
 use Rattle.rkyv_btree_archive.proofs.WholeTree.{IsClaim, whole_written, whole_fault, whole_memory, whole_kept}
 use Rattle.rkyv_btree_archive.proofs.build.build_some.Goals as goal

@@ -1,4 +1,4 @@
-use Rattle.rkyv_btree_image.proofs.Accepting.{written_is_held}
+use Rattle.rkyv_btree_writing_laws.proofs.Accepting.{written_is_held}
 use Rattle.rkyv_btree_archive.proofs.build.written_maps_are_held.Goals as goal
 
 pub returns : goal.returns

@@ -1,8 +1,8 @@
 use Rattle.std.proofs.Common.{◌+◌, ◌∙◌, length, map, ap, arith}
 use Rattle.std.proofs.lemmas.List.{length_push}
 use Rattle.std.proofs.lemmas.Result.{err_from_is_err_and}
-use Rattle.rkyv_btree_image.specs.Entries.{IsSerialised, now_of}
-use Rattle.rkyv_btree_image.proofs.InOrder.{next_serialised, value_unserialised, all_serialised}
+use Rattle.rkyv_btree_writing_laws.specs.Entries.{IsSerialised, now_of}
+use Rattle.rkyv_btree_writing_laws.proofs.InOrder.{next_serialised, value_unserialised, all_serialised}
 use Rattle.rkyv_btree_archive.proofs.Numbers.{no_less, as_many}
 use Rattle.rkyv_btree_archive.proofs.entries.serialize_entries.Goals as goal
 

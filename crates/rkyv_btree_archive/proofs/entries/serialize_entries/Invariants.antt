@@ -1,6 +1,6 @@
 use Rattle.std.proofs.Common.{◌≡◌, ◌≤◌, length, map, drop, vec_capacity}
-use Rattle.rkyv_btree_image.specs.Entries.{now_of}
-use Rattle.rkyv_btree_image.proofs.InOrder.{SerialisedSoFar}
+use Rattle.rkyv_btree_writing_laws.specs.Entries.{now_of}
+use Rattle.rkyv_btree_writing_laws.proofs.InOrder.{SerialisedSoFar}
 use Rattle.rkyv_btree_archive.proofs.entries.serialize_entries.Given as goal
 
 abbrev pub invariant-loop-entry : goal.invariant-loop-entry

@@ -2,9 +2,9 @@ use Rattle.std.proofs.Common.{◌≡◌, ◌+◌, ◌-◌, ◌≤◌, ◌<◌, �
 use Rattle.std.proofs.lemmas.Result.{err_from_is_err_and}
 use Rattle.rkyv_btree_format.specs.Layout.{layout_of, leaf_size}
 use Rattle.rkyv_btree_format.proofs.Sizes.{room_of}
-use Rattle.rkyv_btree_image.specs.Entries.{now_of}
-use Rattle.rkyv_btree_image.specs.Image.{leaf_image}
-use Rattle.rkyv_btree_image.specs.Written.{NodeWritten, NodeStopped}
+use Rattle.rkyv_btree_writing_laws.specs.Entries.{now_of}
+use Rattle.rkyv_btree_writing_laws.specs.Image.{leaf_image}
+use Rattle.rkyv_btree_writing_laws.specs.Written.{NodeWritten, NodeStopped}
 use Rattle.rkyv_btree_archive.specs.mirror.Source.{Gives}
 use Rattle.rkyv_btree_archive.proofs.WholeTree.{next_absent, next_leaf, next_leaf_stopped, next_leaf_short}
 use Rattle.rkyv_btree_archive.proofs.Stands.{stands_first, first_fault, sizes, stands_closed, closed_fault, entry_short, goes_on, goes_room, goes_counts, stands_next, next_fault, stands_whole, stands_taken, turn_taken, turn_entry, some_leaf, some_count, none_left, fewer_open, closing_less, level_fits, taken_fits, fits_below, all_claimed}

@@ -7,4 +7,4 @@ returns g c key value =
     let K = g.K.Deserialize in
     let V = g.V.Deserialize in
     let met = g.met.K.DeserializeKey in
-    map_back g.K.Portable.kind g.V.Portable.kind g.row.E K.native V.native K.told V.told key value met.total met.ordered_as_told
+    map_back g.K.Portable.kind g.V.Portable.kind g.row.E K.decoded V.decoded K.model V.model key value met.total met.ordered_as_model

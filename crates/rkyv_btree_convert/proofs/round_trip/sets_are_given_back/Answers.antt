@@ -6,4 +6,4 @@ pub returns : goal.returns
 returns g c key =
     let K = g.K.Deserialize in
     let met = g.met.K.DeserializeKey in
-    set_back g.K.Portable.kind g.row.E K.native K.told key met.total met.ordered_as_told
+    set_back g.K.Portable.kind g.row.E K.decoded K.model key met.total met.ordered_as_model

@@ -57,13 +57,13 @@ pub returns-in_default : goal.returns-in_default
 returns-in_default g c =
     let order = g.K.Portable.kind.order in
     let all = entries_of g.K.Portable.kind g.V.Portable.kind g.M.ArchivedMap.E c.args.map in
-    none order all (sym c.iter-entries.ensures.left ∙ c.in_default.ensures.steps.0) (found g.met.K.ViewOrd.total all)
+    none order all (sym c.iter-entries.ensures.entries ∙ c.in_default.ensures.steps.0) (found g.met.K.ViewOrd.total all)
 
 pub loop-key-init : goal.loop-key-init
 loop-key-init g c =
     let order = g.K.Portable.kind.order in
     let all = entries_of g.K.Portable.kind g.V.Portable.kind g.M.ArchivedMap.E c.args.map in
-    let parts = sym c.iter-entries.ensures.left ∙ c.in-Some.ensures.steps in
+    let parts = sym c.iter-entries.ensures.entries ∙ c.in-Some.ensures.steps in
     record {
       searched = starts order all _ _ _ parts (found g.met.K.ViewOrd.total all);
       count = first_counted all _ _ parts;
@@ -78,8 +78,8 @@ returns-then-not-is_less g c =
 pub overflow_add-index : goal.overflow_add-index
 overflow_add-index g c =
     let all = entries_of g.K.Portable.kind g.V.Portable.kind g.M.ArchivedMap.E c.args.map in
-    let len : c.len-len.result < 4294967296 = omega arith in
-    let fits = few all _ _ _ c.loop-key.index c.len-len.result c.in-Some-next.ensures.steps c.loop-key.invariant.count c.len-len.ensures len in
+    let len : c.len-len.result < 4294967296 = omega (arith, c.len-len.ensures.small) in
+    let fits = few all _ _ _ c.loop-key.index c.len-len.result c.in-Some-next.ensures.steps c.loop-key.invariant.count c.len-len.ensures.entries len in
     omega (arith, fits)
 
 pub loop-key-preserved : goal.loop-key-preserved

@@ -1,6 +1,6 @@
 use Rattle.std.proofs.Common.{rules, length}
 use Prim.{search}
-use Rattle.rkyv_btree_image.proofs.TreeCauses.{root_is}
+use Rattle.rkyv_btree_writing_laws.proofs.TreeCauses.{root_is}
 use Rattle.rkyv_btree_archive.proofs.std_types.BTreeMapArchive.resolve.Goals as goal
 
 pub returns-clause-ok : goal.returns-clause-ok

@@ -1,18 +1,18 @@
 use Rattle.std.specs.Map.Iter.{TakesFirst, deref_pair}
-use Rattle.rkyv_btree_image.proofs.OneTree.{list_one_tree}
-use Rattle.rkyv_btree_image.proofs.SmallestMaps.{list_smallest}
-use Rattle.rkyv_btree_image.proofs.TreeSerialised.{entries_begun, entries_drained, list_serialised, list_unserialised}
+use Rattle.rkyv_btree_writing_laws.proofs.OneTree.{list_one_tree}
+use Rattle.rkyv_btree_writing_laws.proofs.SmallestMaps.{list_smallest}
+use Rattle.rkyv_btree_writing_laws.proofs.TreeSerialised.{entries_begun, entries_drained, list_serialised, list_unserialised}
 use Rattle.rkyv_btree_archive.proofs.std_types.BTreeMapSerialize.serialize.Goals as goal
 
 pub returns-clause-ok : goal.returns-clause-ok
 returns-clause-ok g c =
     list_serialised 5 g.KU.Archived.Portable.kind g.VU.Archived.Portable.kind g.KU.Archive.archival g.VU.Archive.archival g.met.KU.Archive.same_kind g.met.VU.Archive.same_kind g.met.KU.Archive.lawful g.met.VU.Archive.lawful c.requires.fitting (λ map. map.entries) c.args.self.now (g.W.Writer.state c.args.writer.now) _ (TakesFirst deref_pair) c.args.self.now.entries c.len.result (entries_drained c.args.self.now.entries)
-    c.serialize_from_ordered_iter.result (rw (← c.iter.ensures.rest) c.serialize_from_ordered_iter.ensures.ok)
+    c.serialize_from_ordered_iter.result (rw (← c.iter.ensures.rest) c.serialize_from_ordered_iter.ensures.written)
 
 pub returns-clause-err : goal.returns-clause-err
 returns-clause-err g c =
     list_unserialised 5 g.KU.Archived.Portable.kind g.VU.Archived.Portable.kind g.KU.Archive.archival g.VU.Archive.archival g.met.KU.Archive.same_kind g.met.VU.Archive.same_kind g.met.KU.Archive.lawful g.met.VU.Archive.lawful c.requires.fitting (λ map. map.entries) c.args.self.now (g.W.Writer.state c.args.writer.now) _ (TakesFirst deref_pair) c.args.self.now.entries c.len.result (entries_drained c.args.self.now.entries)
-    g.met.KU.Archive.archived g.met.VU.Archive.archived g.met.KU.Archive.causes g.met.VU.Archive.causes (entries_begun c.args.self.now.entries) c.len.ensures.len c.serialize_from_ordered_iter.result c.serialize_from_ordered_iter.ensures.none (rw (← c.iter.ensures.rest) c.serialize_from_ordered_iter.ensures.err)
+    g.met.KU.Archive.archived g.met.VU.Archive.archived g.met.KU.Archive.causes g.met.VU.Archive.causes (entries_begun c.args.self.now.entries) c.len.ensures.len c.serialize_from_ordered_iter.result (λ none. (c.serialize_from_ordered_iter.ensures.none none).0) (rw (← c.iter.ensures.rest) c.serialize_from_ordered_iter.ensures.err)
 
 pub returns-clause-smallest : goal.returns-clause-smallest
 returns-clause-smallest g c =

@@ -1,8 +1,8 @@
 use Rattle.std.proofs.Common.{rules, length, ◌∙◌, sym}
 use Prim.{search}
-use Rattle.rkyv_btree_image.proofs.TreeCauses.{root_is}
-use Rattle.rkyv_btree_image.proofs.TreeSerialised.{units_count}
-use Rattle.rkyv_btree_image.specs.Sets.{with_units}
+use Rattle.rkyv_btree_writing_laws.proofs.TreeCauses.{root_is}
+use Rattle.rkyv_btree_writing_laws.proofs.TreeSerialised.{units_count}
+use Rattle.rkyv_btree_writing_laws.specs.Sets.{with_units}
 use Rattle.rkyv_btree_archive.proofs.std_types.BTreeSetArchive.resolve.Goals as goal
 
 pub returns-clause-ok : goal.returns-clause-ok

@@ -1,5 +1,5 @@
 use Rattle.std.proofs.lemmas.Result.{err_from_is_err_and}
-use Rattle.rkyv_btree_image.proofs.Kept.{then_begins, went_begins, went_on}
+use Rattle.rkyv_btree_writing_laws.proofs.Kept.{then_begins, went_begins, went_on}
 use Rattle.rkyv_btree_archive.specs.EntryArchival.{both_now}
 use Rattle.rkyv_btree_archive.proofs.Both.{key_refused, value_refused, both_serialised}
 use Rattle.rkyv_btree_archive.proofs.util.EntryAdapterSerialize.serialize.Goals as goal

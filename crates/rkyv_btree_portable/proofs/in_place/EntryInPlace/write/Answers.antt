@@ -4,7 +4,7 @@ use Rattle.std.proofs.lemmas.List.{length-take}
 use Rattle.rkyv_btree_portable.specs.Bytes.{filled}
 use Rattle.rkyv_btree_portable.specs.laws.EntryLaws.{key_inside}
 use Rattle.rkyv_btree_portable.specs.laws.Holding.{parts_written}
-use Rattle.rkyv_btree_portable.specs.laws.InPlace.{told_pair}
+use Rattle.rkyv_btree_portable.specs.laws.InPlace.{model_of_pair}
 use Rattle.rkyv_btree_portable.proofs.in_place.EntryInPlace.write.Goals as goal
 
 -- the same of what was written, at the numbers that the type names
@@ -43,5 +43,5 @@ returns-clause-bytes g c =
     written_pair key value c.write.new.bytes c.write-2.new.bytes c.split_at_mut-front.result.0.now c.split_at_mut-front.result.1.now c.size.result c.size-2.result _ _ _ _ c.write.ensures.bytes c.write-2.ensures.bytes c.value_offset.ensures.value c.requires.size
     (parts_written key value c.fill.new.self c.split_at_mut-front.result.0.now c.split_at_mut-front.result.1.now c.size.result c.size-2.result c.value_offset.result (length c.args.bytes.now) key_len value_len (omega (arith, room, c.size.ensures, c.value_offset.ensures.value)) (omega (arith, c.size-2.ensures, c.value_offset.ensures.inside, c.requires.size)) clear cut.front cut.back)
 
-pub returns-clause-told : goal.returns-clause-told
-returns-clause-told g c = told_pair g.K.Portable.kind g.V.Portable.kind g.met.K.Portable.laws g.met.V.Portable.laws g.met.K.InPlace.is_in_place g.met.V.InPlace.is_in_place c.args.value c.write.ensures.told c.write-2.ensures.told
+pub returns-clause-model : goal.returns-clause-model
+returns-clause-model g c = model_of_pair g.K.Portable.kind g.V.Portable.kind g.met.K.Portable.laws g.met.V.Portable.laws g.met.K.InPlace.is_in_place g.met.V.InPlace.is_in_place c.args.value c.write.ensures.model c.write-2.ensures.model

@@ -6,9 +6,9 @@ use Rattle.rkyv_btree_seal.proofs.cursor.IterSeal.next.Goals as goal
 pub invariant_of-self : goal.invariant_of-self
 invariant_of-self g c =
     let self = c.args.self.now in
-    let same = c.step-self.ensures.same in
+    let same = c.step_in-self.ensures.same in
     record {
       valid = rw same self.valid;
-      walks = rw same c.step-self.ensures.walks;
-      among = rw same (∥∥₁_map self.among (among_takes _ _ _ _ _ c.step-self.ensures.takes));
+      walks = rw same c.step_in-self.ensures.walks;
+      among = rw same (∥∥₁_map self.among (among_takes _ _ _ _ _ c.step_in-self.ensures.takes));
     }

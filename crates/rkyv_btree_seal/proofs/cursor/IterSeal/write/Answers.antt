@@ -15,7 +15,7 @@ invariant_of-self g c =
       among = among_kept g.K.Portable.kind g.V.Portable.kind g.M.ArchivedMap.E g.met.K.Portable.laws g.met.V.Portable.laws self.buf.now c.put_at.new.buf self.pos c.put_at.ensures.stood tree _ _ _ (walk_left_kept g.K.Portable.kind g.V.Portable.kind g.M.ArchivedMap.E g.met.K.Portable.laws g.met.V.Portable.laws self.buf.now c.put_at.new.buf self.pos c.put_at.ensures.stood tree self.walk self.walks) self.among;
     }
 
-pub returns-clause-left : goal.returns-clause-left
-returns-clause-left g c =
+pub returns-clause-remaining : goal.returns-clause-remaining
+returns-clause-remaining g c =
     let self = c.args.self.now in
     walk_left_kept g.K.Portable.kind g.V.Portable.kind g.M.ArchivedMap.E g.met.K.Portable.laws g.met.V.Portable.laws self.buf.now c.put_at.new.buf self.pos c.put_at.ensures.stood c.put_at.ensures.puts.tree self.walk self.walks

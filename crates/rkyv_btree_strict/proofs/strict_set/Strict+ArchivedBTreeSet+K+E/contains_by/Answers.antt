@@ -1,20 +1,5 @@
--- The lookup of the set, by a native value that is a cut of the keys.
-use Rattle.std.proofs.Common.{◌∙◌, ap}
-use Rattle.std.specs.BTreeMap.{is_at}
-use Rattle.std.specs.Option.{option_map}
-use Rattle.std.specs.Prelude.{is_some}
-use Rattle.rkyv_btree_base.specs.Read.{read_map}
-use Rattle.rkyv_btree_base.specs.Scalars.{unit_kind}
-use Rattle.rkyv_btree_strict.proofs.LookedUp.{found_is, natives_agree, key_of_entry}
+-- The view's lookup, in keys that increase.
 use Rattle.rkyv_btree_strict.proofs.strict_set.Strict+ArchivedBTreeSet+K+E.contains_by.Goals as goal
 
 pub returns : goal.returns
-returns g c compared agree =
-    let K = g.K.Portable.kind in
-    let view = c.args.self.view in
-    let key = c.args.key in
-    let law = g.met.K.CompareWith.compares in
-    let answer = compared key in
-    let m = read_map K unit_kind g.row.E view.buf.now view.pos in
-    let found = found_is K unit_kind g.row.E view.buf.now view.pos c.args.self.increasing answer (law.compared key) (law.cuts key) (natives_agree law compared agree key view.buf.now) in
-    c.contains_by.ensures.found compared agree ∙ ap is_some (ap (option_map (λ e. e.0)) found ∙ key_of_entry (is_at answer) m)
+returns g c answer agree = c.contains_by.ensures.sorted answer agree c.args.self.increasing

@@ -2,7 +2,7 @@
 use Rattle.std.proofs.Common.{◌∙◌, ap}
 use Rattle.std.specs.BTreeMap.{is_at}
 use Rattle.std.specs.Option.{option_map}
-use Rattle.rkyv_btree_strict.proofs.LookedUp.{value_of_entry}
+use Rattle.rkyv_btree_view.proofs.LookedUp.{value_of_entry}
 use Rattle.rkyv_btree_unverified.proofs.Found.{passed_on, not_both}
 use Rattle.rkyv_btree_view.specs.View.{reads}
 use Rattle.rkyv_btree_unverified.proofs.unverified.Unverified.get.Goals as goal

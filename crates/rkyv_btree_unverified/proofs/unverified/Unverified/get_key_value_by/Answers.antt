@@ -2,7 +2,7 @@
 use Rattle.std.proofs.Common.{rules}
 use Rattle.rkyv_btree_base.proofs.Sizes.{room_of}
 use Rattle.rkyv_btree_unverified.proofs.Found.{same_error, no_error, equal_found, as_checked, sorted_finds}
-use Rattle.rkyv_btree_strict.proofs.LookedUp.{natives_agree}
+use Rattle.rkyv_btree_view.proofs.LookedUp.{natives_agree}
 use Rattle.rkyv_btree_unverified.proofs.unverified.Unverified.get_key_value_by.Goals as goal
 
 pub returns-in-Err-clause-refused : goal.returns-in-Err-clause-refused

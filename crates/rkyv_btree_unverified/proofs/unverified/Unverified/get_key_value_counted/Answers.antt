@@ -33,3 +33,6 @@ returns-clause-complete g c m h f p =
 
 pub returns-clause-counts : goal.returns-clause-counts
 returns-clause-counts g c m h f p = c.in-Ok.ensures.counts m h f (λ q w r e. let by = p q w in search rules)
+
+pub returns-clause-levels : goal.returns-clause-levels
+returns-clause-levels g c f p = (c.in-Ok.found, c.in-Ok.ensures.deep f (λ q w r e. let by = p q w in search rules), c.entry_found.ensures.places)

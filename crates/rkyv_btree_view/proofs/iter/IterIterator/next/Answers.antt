@@ -1,70 +1,33 @@
--- The next entry of the leaf, or of the path above it: what is left is one shorter.
-use Rattle.std.proofs.Common.{◌+◌, ◌∷◌, ◌∙◌, map, arith, sym, ap}
+-- The walk takes the next entry, so one entry less remains.
+use Rattle.std.proofs.Common.{◌∷◌, ◌∙◌, map, sym, ap}
 use Rattle.rkyv_btree_base.specs.Layout.{layout_of}
 use Rattle.rkyv_btree_base.specs.Read.{entry_at}
-use Rattle.rkyv_btree_walk.specs.mirror.Path.{read_rest}
-use Rattle.rkyv_btree_walk.proofs.Paths.{walk_more, walk_length, step_length}
-use Rattle.rkyv_btree_walk.proofs.Props.{path_had, run_had}
+use Rattle.rkyv_btree_view.proofs.Remaining.{end_taken, remaining_is, shorter}
+use Rattle.rkyv_btree_view.specs.View.{reads_both}
+use Rattle.rkyv_btree_walk.specs.mirror.Along.{walk_left}
 use Rattle.rkyv_btree_view.proofs.iter.IterIterator.next.Goals as goal
+use mathlib.Core.Logic.{∥∥₁_map}
 
-pub entry-item-requires-clause-stands : goal.entry-item-requires-clause-stands
-entry-item-requires-clause-stands g c = λ j low high.
-    run_had g.K.Portable.kind g.V.Portable.kind g.M.ArchivedMap.E c.args.self.now.buf.now c.args.self.now.node c.args.self.now.next c.args.self.now.end c.args.self.now.in_leaf j low (omega arith)
+pub invariant_of-self : goal.invariant_of-self
+invariant_of-self g c = record {
+  valid = c.args.self.now.valid;
+  walks = c.step.ensures.walks;
+  ends = ∥∥₁_map c.args.self.now.ends (end_taken _ _ _ c.step.result c.step.ensures.takes);
+}
 
-pub returns-then-next-self-clause-steps : goal.returns-then-next-self-clause-steps
-returns-then-next-self-clause-steps g c =
+pub returns-clause-steps : goal.returns-clause-steps
+returns-clause-steps g c =
     let K = g.K.Portable.kind in
     let V = g.V.Portable.kind in
     let E = g.M.ArchivedMap.E in
     let self = c.args.self.now in
-    ap (map (entry_at K V E self.buf.now)) (walk_more (layout_of K V E) self.buf.now self.node self.next self.end self.path.items c.if-next-self.true)
-    ∙ ap (λ e. e ∷ read_rest K V E self.buf.now self.node (self.next + 1) self.end self.path.items) (sym c.entry-item.ensures)
+    let b = self.buf.now in
+    let ends = ∥∥₁_map self.ends (end_taken _ _ _ c.step.result c.step.ensures.takes) in
+    let means = map (entry_at K V E b) in
+    let left = means (walk_left (layout_of K V E) b c.step.new.walk) in
+    remaining_is K V E b self.pos self.walk self.walks self.ends ∙ ap means c.in_ok-place.ensures.takes
+    ∙ ap (λ e. e ∷ left) (sym c.entry.ensures)
+    ∙ ap (λ rest. reads_both c.entry.result ∷ rest) (sym (remaining_is K V E b self.pos c.step.new.walk c.step.ensures.walks ends))
 
-pub invariant_of-self-clause-in_leaf : goal.invariant_of-self-clause-in_leaf
-invariant_of-self-clause-in_leaf g c =
-    let run = run_had g.K.Portable.kind g.V.Portable.kind g.M.ArchivedMap.E c.args.self.now.buf.now c.args.self.now.node c.args.self.now.next c.args.self.now.end c.args.self.now.in_leaf in
-    ∣ (λ j low high. run j (omega arith) high) ∣₁
-
-pub advance-requires-clause-path : goal.advance-requires-clause-path
-advance-requires-clause-path g c =
-    path_had g.K.Portable.kind g.V.Portable.kind g.M.ArchivedMap.E c.args.self.now.buf.now 32 c.args.self.now.path.items c.args.self.now.on_path
-
-pub invariant_of-self-clause-counted : goal.invariant_of-self-clause-counted
-invariant_of-self-clause-counted g c =
-    let s = layout_of g.K.Portable.kind g.V.Portable.kind g.M.ArchivedMap.E in
-    let self = c.args.self.now in
-    let counted = self.counted in
-    let before = walk_length s self.buf.now self.node self.next self.end self.path.items in
-    let after = walk_length s self.buf.now self.node (self.next + 1) self.end self.path.items in
-    omega (arith, c.if-next-self.true)
-
-pub invariant_of-self-in-Some-clause-counted : goal.invariant_of-self-in-Some-clause-counted
-invariant_of-self-in-Some-clause-counted g c =
-    let s = layout_of g.K.Portable.kind g.V.Portable.kind g.M.ArchivedMap.E in
-    let self = c.args.self.now in
-    let step = c.in-Some.step in
-    let counted = self.counted in
-    let before = walk_length s self.buf.now self.node self.next self.end self.path.items in
-    let same = step_length s self.buf.now step.leaf.node _ step.leaf.count self.path.items c.advance.new.path.items c.in-Some.ensures.rest in
-    let after = walk_length s self.buf.now step.leaf.node 0 step.leaf.count c.advance.new.path.items in
-    omega arith
-
-pub overflow_sub-self : goal.overflow_sub-self
-overflow_sub-self g c =
-    let s = layout_of g.K.Portable.kind g.V.Portable.kind g.M.ArchivedMap.E in
-    let self = c.args.self.now in
-    let step = c.in-Some.step in
-    let counted = self.counted in
-    let before = walk_length s self.buf.now self.node self.next self.end self.path.items in
-    let same = step_length s self.buf.now step.leaf.node _ step.leaf.count self.path.items c.advance.new.path.items c.in-Some.ensures.rest in
-    omega arith
-
-pub overflow_sub-self-in-Some : goal.overflow_sub-self-in-Some
-overflow_sub-self-in-Some g c =
-    let s = layout_of g.K.Portable.kind g.V.Portable.kind g.M.ArchivedMap.E in
-    let self = c.args.self.now in
-    let step = c.in-Some.step in
-    let counted = self.counted in
-    let before = walk_length s self.buf.now self.node self.next self.end self.path.items in
-    let same = step_length s self.buf.now step.leaf.node _ step.leaf.count self.path.items c.advance.new.path.items c.in-Some.ensures.rest in
-    omega arith
+pub returns-clause-goes : goal.returns-clause-goes
+returns-clause-goes g c = record { on = λ _. (tt, tt, shorter _ _ _ (returns-clause-steps g c)); keeps = tt; rests = λ _. tt }

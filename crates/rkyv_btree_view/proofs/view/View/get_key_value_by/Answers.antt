@@ -1,9 +1,24 @@
 -- A native value compares as at the positions of keys.
-use Rattle.std.proofs.Common.{ap, rules}
-use Rattle.rkyv_btree_view.proofs.Lookups.{place_finds}
+use Rattle.std.proofs.Common.{◌∙◌, ap, rules}
+use Rattle.std.specs.Option.{option_map}
+use Rattle.rkyv_btree_base.specs.Read.{entry_at}
+use Rattle.rkyv_btree_view.proofs.LookedUp.{found_member, found_complete, found_is, natives_agree}
+use Rattle.rkyv_btree_view.specs.View.{reads_both}
 use Rattle.rkyv_btree_view.proofs.view.View.get_key_value_by.Goals as goal
 
-pub returns : goal.returns
-returns g c f p =
+pub returns-clause-found : goal.returns-clause-found
+returns-clause-found g c f p =
     let found = c.search-found.ensures.found f (λ q w r e. let same = p q.now w.buf.now w.pos in search rules) in
-    place_finds g.K.Portable.kind g.V.Portable.kind g.M.ArchivedMap.E c.args.self.buf.now c.args.self.pos (f c.args.key) c.search-found.result.0 _ c.entry_found.ensures (ap (λ r. r.0) found)
+    c.entry_found.ensures ∙ ap (λ r. option_map (entry_at g.K.Portable.kind g.V.Portable.kind g.M.ArchivedMap.E c.args.self.buf.now) r.0) found
+
+pub returns-clause-member : goal.returns-clause-member
+returns-clause-member g c f p = found_member g.K.Portable.kind g.V.Portable.kind g.M.ArchivedMap.E c.args.self.buf.now c.args.self.pos (f c.args.key) reads_both _ (returns-clause-found g c f p)
+
+pub returns-clause-complete : goal.returns-clause-complete
+returns-clause-complete g c f p = found_complete g.K.Portable.kind g.V.Portable.kind g.M.ArchivedMap.E c.args.self.buf.now c.args.self.pos (f c.args.key) reads_both _ (returns-clause-found g c f p)
+
+pub returns-clause-sorted : goal.returns-clause-sorted
+returns-clause-sorted g c f p = λ rises.
+    let law = g.met.K.CompareWith.compares in
+    let key = c.args.key in
+    returns-clause-found g c f p ∙ found_is g.K.Portable.kind g.V.Portable.kind g.M.ArchivedMap.E c.args.self.buf.now c.args.self.pos rises (f key) (law.compared key) (law.cuts key) (natives_agree law f p key c.args.self.buf.now)

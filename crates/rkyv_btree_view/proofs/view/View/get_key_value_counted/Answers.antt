@@ -1,20 +1,20 @@
--- The entry that is found stands in the map, and the search asks no more than the tree has room for.
-use Rattle.std.proofs.Common.{◌∙◌, ◌+◌, ap, arith, rules}
+-- The entry that is found is one of the map, and the search compares no more keys than the tree has room for.
+use Rattle.std.proofs.Common.{◌∙◌, ◌+◌, ap, arith, refl, rules}
 use Rattle.rkyv_btree_base.specs.Map.{map_kind}
 use Rattle.rkyv_btree_base.specs.laws.Views.{fitting_of}
 use Rattle.rkyv_btree_walk.specs.mirror.Search.{answers_at}
 use Rattle.rkyv_btree_walk.proofs.Roots.{map_asked_bound}
-use Rattle.rkyv_btree_view.proofs.Lookups.{place_finds, count_room}
+use Rattle.rkyv_btree_view.proofs.Lookups.{count_room}
+use Rattle.std.specs.Option.{option_map}
+use Rattle.rkyv_btree_base.specs.Read.{entry_at}
+use Rattle.rkyv_btree_view.proofs.LookedUp.{found_member, found_complete, found_is}
+use Rattle.rkyv_btree_view.specs.View.{reads_both}
 use Rattle.rkyv_btree_view.proofs.view.View.get_key_value_counted.Goals as goal
 
 pub add-requires : goal.add-requires
 add-requires g c =
     let K = g.K.Portable.kind in let V = g.V.Portable.kind in let E = g.M.ArchivedMap.E in
     count_room K V E g.met.K.Portable.laws g.met.V.Portable.laws (fitting_of (map_kind K V E) _ _ c.opened.ensures) _ _ c.requires.room c.search-found.ensures.few
-
-pub returns-clause-finds : goal.returns-clause-finds
-returns-clause-finds g c f p =
-    place_finds g.K.Portable.kind g.V.Portable.kind g.M.ArchivedMap.E c.args.self.buf.now c.args.self.pos (f c.args.key.now) c.search-found.result.0 _ c.entry_found.ensures (ap (λ r. r.0) (c.search-found.ensures.found f (λ q w r e. let by = p q w in search rules)))
 
 pub returns-clause-counts : goal.returns-clause-counts
 returns-clause-counts g c f p = c.add.ensures ∙ ap (λ r. c.args.steps.now + r.1) (c.search-found.ensures.found f (λ q w r e. let by = p q w in search rules))
@@ -26,3 +26,19 @@ returns-clause-few g c f p =
     let bound = map_asked_bound K V E g.met.K.Portable.laws g.met.V.Portable.laws b c.args.self.pos c.opened.ensures (answers_at K V E b (f c.args.key.now)) in
     let asked = ap (λ r. r.1) (c.search-found.ensures.found f (λ q w r e. let by = p q w in search rules)) in
     omega (arith, bound, asked, c.add.ensures)
+
+pub returns-clause-found : goal.returns-clause-found
+returns-clause-found g c f p =
+    let found = c.search-found.ensures.found f (λ q w r e. let by = p q w in search rules) in
+    c.entry_found.ensures ∙ ap (λ r. option_map (entry_at g.K.Portable.kind g.V.Portable.kind g.M.ArchivedMap.E c.args.self.buf.now) r.0) found
+
+pub returns-clause-member : goal.returns-clause-member
+returns-clause-member g c f p = found_member g.K.Portable.kind g.V.Portable.kind g.M.ArchivedMap.E c.args.self.buf.now c.args.self.pos (f c.args.key.now) reads_both _ (returns-clause-found g c f p)
+
+pub returns-clause-complete : goal.returns-clause-complete
+returns-clause-complete g c f p = found_complete g.K.Portable.kind g.V.Portable.kind g.M.ArchivedMap.E c.args.self.buf.now c.args.self.pos (f c.args.key.now) reads_both _ (returns-clause-found g c f p)
+
+pub returns-clause-sorted : goal.returns-clause-sorted
+returns-clause-sorted g c f p = λ cut rises.
+    let answer = f c.args.key.now in
+    returns-clause-found g c f p ∙ found_is g.K.Portable.kind g.V.Portable.kind g.M.ArchivedMap.E c.args.self.buf.now c.args.self.pos rises answer answer cut (λ p. refl)

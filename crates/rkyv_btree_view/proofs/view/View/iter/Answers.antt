@@ -5,6 +5,6 @@ use Rattle.rkyv_btree_view.specs.View.{reads_both}
 use Rattle.rkyv_btree_view.proofs.Drained.{drained}
 use Rattle.rkyv_btree_view.proofs.view.View.iter.Goals as goal
 
-pub returns-clause-all : goal.returns-clause-all
-returns-clause-all g c = λ items all.
+pub returns-clause-yields : goal.returns-clause-yields
+returns-clause-yields g c = λ items all.
     drained reads_both entries_left _ items all ∙ c.walk.ensures

@@ -5,5 +5,5 @@ use Rattle.rkyv_btree_view.specs.View.{reads}
 use Rattle.rkyv_btree_view.proofs.Drained.{drained}
 use Rattle.rkyv_btree_view.proofs.view.View.keys.Goals as goal
 
-pub returns-clause-all : goal.returns-clause-all
-returns-clause-all g c = λ items all. drained reads keys_left _ items all ∙ ap (map (λ e. e.0)) c.walk.ensures
+pub returns-clause-yields : goal.returns-clause-yields
+returns-clause-yields g c = λ items all. drained reads keys_left _ items all ∙ ap (map (λ e. e.0)) c.walk.ensures

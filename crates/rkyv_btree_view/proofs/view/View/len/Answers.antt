@@ -2,5 +2,5 @@
 use Rattle.std.proofs.Common.{rules}
 use Rattle.rkyv_btree_view.proofs.view.View.len.Goals as goal
 
-pub returns : goal.returns
-returns g c = search rules
+pub returns-clause-entries : goal.returns-clause-entries
+returns-clause-entries g c = search rules

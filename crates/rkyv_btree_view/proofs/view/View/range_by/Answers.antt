@@ -1,23 +1,28 @@
 -- All items of the iterator are all that is left of its walk; and a native value compares as at the positions of keys.
-use Rattle.std.proofs.Common.{rules, subst, sym}
-use Rattle.rkyv_btree_walk.specs.mirror.Path.{IsPath}
+use Rattle.std.proofs.Common.{rules}
 use Rattle.rkyv_btree_view.specs.Range.{range_left}
-use Rattle.rkyv_btree_view.specs.View.{reads_both}
+use Rattle.rkyv_btree_view.specs.View.{reads_both, entries_of}
 use Rattle.rkyv_btree_view.proofs.Bounds.{within_referred}
 use Rattle.rkyv_btree_view.proofs.Drained.{drained}
+use Rattle.rkyv_btree_view.proofs.LookedUp.{natives_agree}
+use Rattle.rkyv_btree_view.proofs.Ordered.{entries_ordered, natives_alike}
 use Rattle.rkyv_btree_view.proofs.view.View.range_by.Goals as goal
 
-pub returns-clause-all : goal.returns-clause-all
-returns-clause-all g c = λ items all. drained reads_both range_left _ items all
+pub returns-clause-yields : goal.returns-clause-yields
+returns-clause-yields g c = λ items all. drained reads_both range_left _ items all
 
 pub returns-clause-within : goal.returns-clause-within
 returns-clause-within g c f p low high =
-    let within = c.between-stop.ensures.within f (λ q w r e. let same = p q.now w.buf.now w.pos in search rules) in
-    rw c.empty_range-range.ensures.buf (within_referred f c.as_ref.result c.as_ref-2.result c.args.low c.args.high _ _ c.as_ref.ensures c.as_ref-2.ensures within low high)
+    let within = c.start_between.ensures.within f (λ q w r e. let same = p q.now w.buf.now w.pos in search rules) in
+    (within_referred f c.as_ref-low.result c.as_ref-high.result c.args.low c.args.high _ _ c.as_ref-low.ensures c.as_ref-high.ensures within low high)
 
-pub invariant_of-range-clause-on_path : goal.invariant_of-range-clause-on_path
-invariant_of-range-clause-on_path g c =
-    subst (λ b. ∥ IsPath g.K.Portable.kind g.V.Portable.kind g.M.ArchivedMap.E b 32 c.between-stop.new.path.items ∥₁) (sym c.empty_range-range.ensures.buf) (∣ c.between-stop.ensures.path ∣₁)
-
-pub invariant_of-range-clause-in_leaf : goal.invariant_of-range-clause-in_leaf
-invariant_of-range-clause-in_leaf g c = rw c.empty_range-range.ensures.buf (∣ c.between-stop.ensures.stands ∣₁)
+pub returns-clause-sorted : goal.returns-clause-sorted
+returns-clause-sorted g c f p rises =
+    let K = g.K.Portable.kind in
+    let V = g.V.Portable.kind in
+    let E = g.M.ArchivedMap.E in
+    let view = c.args.self in
+    let law = g.met.K.CompareWith.compares in
+    let ordered = entries_ordered K.order (entries_of K V E view) rises f law.compared law.cuts
+    (λ q. natives_alike K V E view.buf.now view.pos (f q) (law.compared q) (natives_agree law f p q view.buf.now)) in
+    returns-clause-within g c f p (ordered c.args.low) (ordered c.args.high)

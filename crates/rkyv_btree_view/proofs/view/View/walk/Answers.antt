@@ -1,29 +1,16 @@
--- The walk is as long as the list, of which its first leaf has a part.
-use Rattle.std.proofs.Common.{length, arith, ap}
-use Rattle.std.proofs.lemmas.List.{length-map}
-use Rattle.rkyv_btree_base.specs.Layout.{layout_of}
-use Rattle.rkyv_btree_base.specs.Read.{entry_at, map_tree}
-use Rattle.rkyv_btree_base.specs.Tree.{list}
-use Rattle.rkyv_btree_walk.proofs.Paths.{begun_length}
+-- At its start a walk has all entries left.
+use Rattle.std.proofs.Common.{[], refl, sym, ap, ◌∙◌, map}
+use Rattle.rkyv_btree_base.specs.Read.{entry_at}
+use Rattle.rkyv_btree_view.proofs.Remaining.{remaining_is}
 use Rattle.rkyv_btree_view.proofs.view.View.walk.Goals as goal
 
-pub overflow_sub-result : goal.overflow_sub-result
-overflow_sub-result g c =
-    let K = g.K.Portable.kind in
-    let V = g.V.Portable.kind in
-    let E = g.M.ArchivedMap.E in
-    let b = c.args.self.buf.now in
-    let all = begun_length (layout_of K V E) b c.begin-leaf.result.node c.begin-leaf.result.count c.begin-leaf.new.path.items _ c.begin-leaf.ensures.rest in
-    let read = length-map (list (map_tree (layout_of K V E) b c.args.self.pos)) (entry_at K V E b) in
-    omega arith
+pub invariant_of-result : goal.invariant_of-result
+invariant_of-result g c = record { valid = c.args.self.valid; walks = c.start.ensures.walks; ends = ∣ ([], sym c.start.ensures.all) ∣₁ }
 
-pub invariant_of-result-clause-counted : goal.invariant_of-result-clause-counted
-invariant_of-result-clause-counted g c =
+pub returns : goal.returns
+returns g c =
     let K = g.K.Portable.kind in
     let V = g.V.Portable.kind in
     let E = g.M.ArchivedMap.E in
-    let b = c.args.self.buf.now in
-    let walked = ap length c.begin-leaf.ensures.rest in
-    let all = begun_length (layout_of K V E) b c.begin-leaf.result.node c.begin-leaf.result.count c.begin-leaf.new.path.items _ c.begin-leaf.ensures.rest in
-    let read = length-map (list (map_tree (layout_of K V E) b c.args.self.pos)) (entry_at K V E b) in
-    omega arith
+    let self = c.args.self in
+    remaining_is K V E self.buf.now self.pos c.start.result c.start.ensures.walks (∣ ([], sym c.start.ensures.all) ∣₁) ∙ ap (map (entry_at K V E self.buf.now)) c.start.ensures.all

@@ -1,0 +1,19 @@
+#!/usr/bin/env bash
+# Runs the two examples on archives that the test has written into the folder.
+set -euo pipefail
+cd "$1"
+[[ $(./lookup texts.archive "key 00007") == "value 7" ]]
+[[ $(./lookup texts.archive --from "key 00998") == $'key 00998\tvalue 998\nkey 00999\tvalue 999' ]]
+status=0
+./lookup texts.archive "key 7" || status=$?
+[[ $status == 1 ]]
+status=0
+./lookup numbers.archive x 2> said || status=$?
+[[ $status == 2 && $(cat said) == lookup:* ]]
+./edit numbers.archive 14 4711
+status=0
+./edit numbers.archive 15 4711 || status=$?
+[[ $status == 1 ]]
+status=0
+./edit numbers.archive 14 4294967296 2> said || status=$?
+[[ $status == 2 && $(cat said) == "edit: the values of the map aren't such numbers" ]]

@@ -1,0 +1,64 @@
+/* Looks a text up in an archive of texts to texts, or lists the entries from a text on:
+ *     lookup FILE KEY
+ *     lookup FILE --from KEY */
+#include "rkyv_btree.h"
+
+#include <fcntl.h>
+#include <stdio.h>
+#include <string.h>
+#include <sys/mman.h>
+#include <sys/stat.h>
+#include <unistd.h>
+
+static void print_text(const uint8_t *data, rkyv_btree_item item) {
+    fwrite(data + item.start, 1, item.len, stdout);
+}
+
+static int say(uint32_t code, const rkyv_btree_refusal *why) {
+    uint8_t text[128];
+    rkyv_btree_strerror(code, text, sizeof text);
+    fprintf(stderr, "lookup: %s (at %lld)\n", (const char *)text, (long long)why->at);
+    return 2;
+}
+
+static int list_from(const rkyv_btree_map *map, const char *key) {
+    rkyv_btree_cursor cursor;
+    rkyv_btree_entry entries[64];
+    size_t written = 64;
+    memset(&cursor, 0, sizeof cursor);
+    rkyv_btree_seek_text(map, (const uint8_t *)key, strlen(key), &cursor);
+    while (written == 64 && rkyv_btree_next(map, &cursor, entries, 64, &written) == RKYV_BTREE_OK) {
+        for (size_t i = 0; i < written; i++) {
+            print_text(map->data, entries[i].key);
+            putchar('\t');
+            print_text(map->data, entries[i].value);
+            putchar('\n');
+        }
+    }
+    return 0;
+}
+
+int main(int argc, char **argv) {
+    rkyv_btree_map map = {0};
+    rkyv_btree_refusal why = {0};
+    rkyv_btree_entry found = {0};
+    struct stat stat;
+    if (argc < 3 || argc > 4) {
+        fprintf(stderr, "usage: lookup FILE KEY | lookup FILE --from KEY\n");
+        return 2;
+    }
+    int file = open(argv[1], O_RDONLY);
+    if (file < 0 || fstat(file, &stat) != 0 || stat.st_size == 0) {
+        fprintf(stderr, "lookup: can't read %s\n", argv[1]);
+        return 2;
+    }
+    const uint8_t *data = mmap(NULL, (size_t)stat.st_size, PROT_READ, MAP_PRIVATE, file, 0);
+    if (data == MAP_FAILED) return 2;
+    uint32_t code = rkyv_btree_open_strict(&map, RKYV_BTREE_TEXT_TO_TEXT, data, (size_t)stat.st_size, &why);
+    if (code != RKYV_BTREE_OK) return say(code, &why);
+    if (argc == 4) return list_from(&map, argv[3]);
+    if (rkyv_btree_get_text(&map, (const uint8_t *)argv[2], strlen(argv[2]), &found) != RKYV_BTREE_OK) return 1;
+    print_text(data, found.value);
+    putchar('\n');
+    return 0;
+}

@@ -1,0 +1,115 @@
+"""Tests of the Python module: maps of each type, files, slices of keys, and bytes that are no map."""
+
+import doctest
+import pathlib
+import re
+import tempfile
+import unittest
+
+import rkyv_btree
+from rkyv_btree import Error, Map, build
+
+VALUES = {
+    "u32": [0, 1, 7, 2**31, 2**32 - 1],
+    "u64": [0, 5, 2**32, 2**63, 2**64 - 1],
+    "text": ["", "a", "b\n\t", "ä", "𝄞 long enough for a text of its own"],
+}
+
+
+class Maps(unittest.TestCase):
+    def test_all_types(self):
+        for key_type, keys in VALUES.items():
+            for value_type, values in VALUES.items():
+                entries = list(zip(keys, values))
+                for strict in (False, True):
+                    found = Map(build(key_type, value_type, entries, strict), key_type, value_type, strict)
+                    self.assertEqual(list(found.items()), entries)
+                    self.assertEqual(list(found), keys)
+                    self.assertEqual(len(found), len(entries))
+                    for key, value in entries:
+                        self.assertIn(key, found)
+                        self.assertEqual(found[key], value)
+
+    def test_lengths_and_slices(self):
+        for length in [*range(60), 255, 256, 257, 511, 512, 513, 2000]:
+            entries = [(2 * n, n) for n in range(length)]
+            found = Map(build("u32", "u64", entries), "u32", "u64", strict=True)
+            self.assertEqual(dict(found), dict(entries))
+            for low in (0, 1, length, 2 * length):
+                for high in (0, length, 2 * length, 3 * length):
+                    wanted = [e for e in entries if low <= e[0] < high]
+                    self.assertEqual(list(found[low:high]), wanted)
+
+    def test_texts_in_order_of_bytes(self):
+        words = sorted({f"{a}{b}" for a in "aäz𝄞" for b in "\x00b\uffff"}, key=str.encode)
+        found = Map(build("text", "text", [(w, w) for w in words], strict=True), "text", "text", strict=True)
+        self.assertEqual([k for k, _ in found["b":]], [w for w in words if w.encode() >= b"b"])
+        self.assertEqual([k for k, _ in found[:"z"]], [w for w in words if w.encode() < b"z"])
+
+    def test_absent(self):
+        found = Map(build("text", "u32", [("b", 1)]), "text", "u32")
+        for key in ("a", "c", "", "\ud800", 1, None):
+            self.assertNotIn(key, found)
+        with self.assertRaises(KeyError):
+            found["a"]
+        with self.assertRaises(ValueError):
+            found["a":"b":2]
+        self.assertEqual(found.get("a", 7), 7)
+        numbers = Map(build("u32", "u32", [(1, 1)]), "u32", "u32")
+        for key in (-1, 2**32 + 1, 2**64, "1"):
+            self.assertNotIn(key, numbers)
+        self.assertEqual(list(numbers[2**70:]), [])
+
+    def test_file(self):
+        with tempfile.TemporaryDirectory() as folder:
+            path = pathlib.Path(folder) / "archive"
+            path.write_bytes(build("text", "u64", [(f"{n:06}", n) for n in range(10000)]))
+            found = Map.from_file(path, "text", "u64", strict=True)
+            self.assertEqual(found["004711"], 4711)
+            self.assertEqual(sum(v for _, v in found.items()), 9999 * 5000)
+            path.write_bytes(b"")
+            with self.assertRaises(Error):
+                Map.from_file(path, "text", "u64")
+
+    def test_refused(self):
+        good = build("u32", "u32", [(1, 2)])
+        for data, code in ((b"", 1), (bytes(7), 1), (b"\x07" + good[1:], 3), (good[:-1], 2)):
+            with self.assertRaises(Error) as caught:
+                Map(data, "u32", "u32")
+            self.assertEqual(caught.exception.code, code, data)
+        unordered = build("u32", "u32", [(2, 0), (1, 0)])
+        self.assertEqual(len(Map(unordered, "u32", "u32")), 2)
+        with self.assertRaises(Error) as caught:
+            Map(unordered, "u32", "u32", strict=True)
+        self.assertEqual(str(caught.exception), "a key isn't greater than the key before it at entry 1")
+        with self.assertRaises(Error):
+            build("u32", "u32", [(2, 0), (1, 0)], strict=True)
+        with self.assertRaises(Error):
+            build("u32", "u32", [(2**32, 0)])
+        with self.assertRaises(TypeError):
+            Map(bytearray(good), "u32", "u32")
+
+    def test_forged_cursor(self):
+        found = Map(build("u32", "u32", [(n, n) for n in range(1000)]), "u32", "u32")
+        for field in ("node", "end", "depth"):
+            for number in (1, 7, 33, 1000, 2**31, 2**32 - 1):
+                cursor = rkyv_btree._Cursor()
+                rkyv_btree._first(found._map, cursor)
+                setattr(cursor, field, number)
+                batch, written = (rkyv_btree._Entry * 4)(), rkyv_btree._SIZE()
+                code = rkyv_btree._next(found._map, cursor, batch, 4, written)
+                self.assertIn(code, (0, 19))
+
+    def test_readme(self):
+        readme = (pathlib.Path(__file__).parent / "README.md").read_text()
+        example = re.search(r"```python\n(.*?)```", readme, re.S).group(1)
+        exec(example, {})
+
+
+def load_tests(loader, tests, ignore):
+    tests.addTests(doctest.DocTestSuite(rkyv_btree))
+    return tests
+
+
+if __name__ == "__main__":
+    unittest.main()

@@ -1,0 +1,254 @@
+use crate::error::Error;
+use crate::field::sealed::Query;
+use crate::field::{AsKey, Field};
+use crate::raw;
+use std::cmp::Ordering;
+use std::fmt;
+use std::iter::FusedIterator;
+use std::marker::PhantomData;
+use std::ops::{Bound, Index, RangeBounds};
+use std::ptr;
+
+const BATCH: usize = 32;
+
+/// Returns the number that the header has for a map's type.
+pub(crate) fn type_number<'a, K: Field<'a>, V: Field<'a>>() -> u32 {
+    3 * K::NUMBER + V::NUMBER + 1
+}
+
+/// A map in a buffer, which is borrowed and so doesn't change.
+#[derive(Clone, Copy)]
+pub struct Map<'a, K, V> {
+    raw: raw::Map,
+    data: &'a [u8],
+    of: PhantomData<(K, V)>,
+}
+
+// SAFETY: reading calls write through no pointer of the map, and the buffer is a shared borrow.
+unsafe impl<K, V> Send for Map<'_, K, V> {}
+// SAFETY: the same.
+unsafe impl<K, V> Sync for Map<'_, K, V> {}
+
+type Open = unsafe extern "C" fn(*mut raw::Map, u32, *const u8, usize, *mut raw::Refusal) -> u32;
+
+impl<'a, K: Field<'a>, V: Field<'a>> Map<'a, K, V> {
+    /// Validates a whole archive, whose own bytes are the last eight.
+    ///
+    /// # Errors
+    ///
+    /// The first fault for which the bytes are no map.
+    pub fn open(data: &'a [u8]) -> Result<Map<'a, K, V>, Error> {
+        Map::open_by(data, raw::rkyv_btree_open)
+    }
+
+    /// Validates a whole archive whose keys increase. A lookup in it finds each key, and a range has all that is in it.
+    ///
+    /// # Errors
+    ///
+    /// The first fault for which the bytes are no such map.
+    pub fn open_strict(data: &'a [u8]) -> Result<Map<'a, K, V>, Error> {
+        Map::open_by(data, raw::rkyv_btree_open_strict)
+    }
+
+    fn open_by(data: &'a [u8], open: Open) -> Result<Map<'a, K, V>, Error> {
+        let mut raw = raw::Map { data: ptr::null(), data_len: 0, pos: 0, kind: 0 };
+        let mut why = raw::Refusal::default();
+        // SAFETY: pointer and length are those of one slice, which is borrowed as long as the map is there.
+        let code = unsafe { open(&mut raw, type_number::<K, V>(), data.as_ptr(), data.len(), &mut why) };
+        match code {
+            raw::OK => Ok(Map { raw, data, of: PhantomData }),
+            _ => Err(Error::refused(raw::Refusal { code, ..why })),
+        }
+    }
+
+    /// Returns the number of entries.
+    pub fn len(&self) -> usize {
+        let mut len = 0;
+        // SAFETY: the map is open.
+        unsafe { raw::rkyv_btree_len(&self.raw, &mut len) };
+        len as usize
+    }
+
+    /// Returns whether there are no entries.
+    pub fn is_empty(&self) -> bool {
+        self.len() == 0
+    }
+
+    /// Returns the value of a key. If the keys don't increase, a key may be there and not be found.
+    pub fn get(&self, key: impl AsKey<K>) -> Option<V> {
+        let mut entry = raw::Entry::default();
+        let code = match key.query() {
+            // SAFETY: the map is open.
+            Query::Number(number) => unsafe {
+                raw::rkyv_btree_get_number(&self.raw, number, &mut entry)
+            },
+            // SAFETY: the map is open, and the text is borrowed during the call.
+            Query::Text(text) => unsafe {
+                raw::rkyv_btree_get_text(&self.raw, text.as_ptr(), text.len(), &mut entry)
+            },
+        };
+        (code == raw::OK).then(|| V::read(self.data, entry.value))
+    }
+
+    /// Returns whether the map has a key.
+    pub fn contains_key(&self, key: impl AsKey<K>) -> bool {
+        self.get(key).is_some()
+    }
+
+    /// Returns an iterator over the entries, in their order.
+    pub fn iter(&self) -> Iter<'a, K, V> {
+        let mut cursor = raw::Cursor::default();
+        // SAFETY: the map is open.
+        unsafe { raw::rkyv_btree_first(&self.raw, &mut cursor) };
+        Iter::at(*self, cursor)
+    }
+
+    /// Returns an iterator over the entries whose keys are within the bounds, if the keys increase.
+    pub fn range<Q: AsKey<K>, R: RangeBounds<Q>>(&self, range: R) -> Range<'a, K, V, Q, R> {
+        let mut cursor = raw::Cursor::default();
+        match range.start_bound() {
+            // SAFETY: the map is open.
+            Bound::Unbounded => unsafe {
+                raw::rkyv_btree_first(&self.raw, &mut cursor);
+            },
+            Bound::Included(key) | Bound::Excluded(key) => match key.query() {
+                // SAFETY: the map is open.
+                Query::Number(number) => unsafe {
+                    raw::rkyv_btree_seek_number(&self.raw, number, &mut cursor);
+                },
+                // SAFETY: the map is open, and the text is borrowed during the call.
+                Query::Text(text) => unsafe {
+                    raw::rkyv_btree_seek_text(&self.raw, text.as_ptr(), text.len(), &mut cursor);
+                },
+            },
+        }
+        Range { entries: Iter::at(*self, cursor), range, of: PhantomData }
+    }
+}
+
+impl<'a, K: Field<'a>, Q: AsKey<K>> Index<Q> for Map<'a, K, &'a str> {
+    type Output = str;
+
+    /// Returns the text of a key.
+    ///
+    /// # Panics
+    ///
+    /// If the key isn't found.
+    fn index(&self, key: Q) -> &str {
+        self.get(key).expect("no such key")
+    }
+}
+
+impl<'a, K: Field<'a> + fmt::Debug, V: Field<'a> + fmt::Debug> fmt::Debug for Map<'a, K, V> {
+    fn fmt(&self, f: &mut fmt::Formatter<'_>) -> fmt::Result {
+        f.debug_map().entries(self.iter()).finish()
+    }
+}
+
+impl<'a, K: Field<'a>, V: Field<'a>> IntoIterator for Map<'a, K, V> {
+    type Item = (K, V);
+    type IntoIter = Iter<'a, K, V>;
+
+    fn into_iter(self) -> Iter<'a, K, V> {
+        self.iter()
+    }
+}
+
+impl<'a, K: Field<'a>, V: Field<'a>> IntoIterator for &Map<'a, K, V> {
+    type Item = (K, V);
+    type IntoIter = Iter<'a, K, V>;
+
+    fn into_iter(self) -> Iter<'a, K, V> {
+        self.iter()
+    }
+}
+
+/// The entries of a map, in their order.
+pub struct Iter<'a, K, V> {
+    map: Map<'a, K, V>,
+    cursor: raw::Cursor,
+    batch: [raw::Entry; BATCH],
+    next: usize,
+    end: usize,
+}
+
+impl<'a, K: Field<'a>, V: Field<'a>> Iter<'a, K, V> {
+    fn at(map: Map<'a, K, V>, cursor: raw::Cursor) -> Iter<'a, K, V> {
+        Iter { map, cursor, batch: [raw::Entry::default(); BATCH], next: BATCH, end: BATCH }
+    }
+
+    /// Takes the next entry. A batch that isn't full was the last.
+    fn next_entry(&mut self) -> Option<raw::Entry> {
+        if self.next == self.end {
+            if self.end < BATCH {
+                return None;
+            }
+            self.next = 0;
+            self.end = 0;
+            // SAFETY: the map is open, and pointer and length are those of one array.
+            unsafe {
+                raw::rkyv_btree_next(
+                    &self.map.raw,
+                    &mut self.cursor,
+                    self.batch.as_mut_ptr(),
+                    BATCH,
+                    &mut self.end,
+                )
+            };
+        }
+        let entry = *self.batch.get(self.next).filter(|_| self.next < self.end)?;
+        self.next += 1;
+        Some(entry)
+    }
+}
+
+impl<'a, K: Field<'a>, V: Field<'a>> Iterator for Iter<'a, K, V> {
+    type Item = (K, V);
+
+    fn next(&mut self) -> Option<(K, V)> {
+        let entry = self.next_entry()?;
+        let data = self.map.data;
+        Some((K::read(data, entry.key), V::read(data, entry.value)))
+    }
+}
+
+impl<'a, K: Field<'a>, V: Field<'a>> FusedIterator for Iter<'a, K, V> {}
+
+/// The entries of a map between two bounds, in their order.
+pub struct Range<'a, K, V, Q, R> {
+    entries: Iter<'a, K, V>,
+    range: R,
+    of: PhantomData<Q>,
+}
+
+/// Compares a key of a map with a query.
+fn compare(data: &[u8], key: raw::Item, query: Query<'_>) -> Ordering {
+    match query {
+        Query::Number(number) => key.number.cmp(&number),
+        Query::Text(text) => {
+            let start = key.start as usize;
+            let bytes = data.get(start..start + key.len as usize).unwrap_or_default();
+            bytes.cmp(text.as_bytes())
+        }
+    }
+}
+
+impl<'a, K: Field<'a>, V: Field<'a>, Q: AsKey<K>, R: RangeBounds<Q>> Iterator for Range<'a, K, V, Q, R> {
+    type Item = (K, V);
+
+    fn next(&mut self) -> Option<(K, V)> {
+        let data = self.entries.map.data;
+        let mut entry = self.entries.next_entry()?;
+        if let Bound::Excluded(low) = self.range.start_bound() {
+            while compare(data, entry.key, low.query()) == Ordering::Equal {
+                entry = self.entries.next_entry()?;
+            }
+        }
+        let within = match self.range.end_bound() {
+            Bound::Unbounded => true,
+            Bound::Included(high) => compare(data, entry.key, high.query()) != Ordering::Greater,
+            Bound::Excluded(high) => compare(data, entry.key, high.query()) == Ordering::Less,
+        };
+        within.then(|| (K::read(data, entry.key), V::read(data, entry.value)))
+    }
+}

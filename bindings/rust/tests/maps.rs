@@ -1,0 +1,122 @@
+//! Maps of each type of key and value, built and read back, and bytes that are no map.
+use rkyv_btree::{Builder, Edit, Error, Field, Map};
+use std::collections::BTreeMap;
+
+fn given_back<'a, K: Field<'a> + Ord + std::fmt::Debug, V: Field<'a> + PartialEq + std::fmt::Debug>(
+    entries: &[(K, V)],
+    bytes: &'a mut Vec<u8>,
+) {
+    *bytes = entries.iter().copied().collect::<Builder<K, V>>().build_strict().unwrap();
+    let map = Map::<K, V>::open_strict(bytes).unwrap();
+    assert_eq!(map.len(), entries.len());
+    assert_eq!(map.is_empty(), entries.is_empty());
+    assert_eq!(map.iter().collect::<Vec<_>>(), entries);
+}
+
+#[test]
+fn all_types() {
+    let numbers: Vec<u32> = (0..1000).map(|n| 7 * n).collect();
+    let texts: Vec<String> = (0..1000).map(|n| format!("key {n:05}")).collect();
+    let mut bytes: Vec<Vec<u8>> = vec![Vec::new(); 9];
+    let mut bytes = bytes.iter_mut();
+    let all = 0..1000;
+    given_back(&all.clone().map(|i| (numbers[i], numbers[i])).collect::<Vec<_>>(), bytes.next().unwrap());
+    given_back(&all.clone().map(|i| (numbers[i], u64::MAX - i as u64)).collect::<Vec<_>>(), bytes.next().unwrap());
+    given_back(&all.clone().map(|i| (numbers[i], &*texts[i])).collect::<Vec<_>>(), bytes.next().unwrap());
+    given_back(&all.clone().map(|i| (u64::MAX - 1000 + i as u64, numbers[i])).collect::<Vec<_>>(), bytes.next().unwrap());
+    given_back(&all.clone().map(|i| (i as u64, i as u64)).collect::<Vec<_>>(), bytes.next().unwrap());
+    given_back(&all.clone().map(|i| (i as u64, &*texts[i])).collect::<Vec<_>>(), bytes.next().unwrap());
+    given_back(&all.clone().map(|i| (&*texts[i], numbers[i])).collect::<Vec<_>>(), bytes.next().unwrap());
+    given_back(&all.clone().map(|i| (&*texts[i], i as u64)).collect::<Vec<_>>(), bytes.next().unwrap());
+    given_back(&all.map(|i| (&*texts[i], &*texts[i])).collect::<Vec<_>>(), bytes.next().unwrap());
+}
+
+#[test]
+fn all_lengths() {
+    for len in 0..300u32 {
+        let entries: Vec<(u32, u64)> = (0..len).map(|n| (2 * n, u64::from(n))).collect();
+        let mut bytes = Vec::new();
+        given_back(&entries, &mut bytes);
+        let std: BTreeMap<u32, u64> = entries.iter().copied().collect();
+        let map = Map::<u32, u64>::open(&bytes).unwrap();
+        for key in 0..2 * len + 1 {
+            assert_eq!(map.get(key), std.get(&key).copied());
+            let range: Vec<_> = map.range(key..).collect();
+            assert_eq!(range, std.range(key..).map(|e| (*e.0, *e.1)).collect::<Vec<_>>());
+        }
+    }
+}
+
+#[test]
+fn ranges() {
+    let words = ["ant", "bee", "cat", "dog", "elk", "fox", "gnu"];
+    let bytes = words.iter().map(|w| (*w, w.len() as u32)).collect::<Builder<_, _>>().build().unwrap();
+    let map = Map::<&str, u32>::open(&bytes).unwrap();
+    let keys = |low: &str, high: &str| map.range(low..high).map(|e| e.0).collect::<Vec<_>>();
+    assert_eq!(keys("bee", "dog"), ["bee", "cat"]);
+    assert_eq!(keys("b", "d"), ["bee", "cat"]);
+    assert_eq!(map.range("bee"..="dog").count(), 3);
+    assert_eq!(map.range(.."bee").count(), 1);
+    let after = (std::ops::Bound::Excluded("bee"), std::ops::Bound::<&str>::Unbounded);
+    assert_eq!(map.range::<&str, _>(after).count(), 5);
+    assert_eq!(map.get("cow"), None);
+    assert!(map.contains_key(String::from("cat")));
+    assert_eq!(map.into_iter().count(), 7);
+}
+
+#[test]
+fn index() {
+    let bytes = Builder::new().entry(1u32, "one").entry(2, "two").build().unwrap();
+    let map = Map::<u32, &str>::open(&bytes).unwrap();
+    assert_eq!(&map[2], "two");
+    assert_eq!(format!("{map:?}"), "{1: \"one\", 2: \"two\"}");
+}
+
+#[test]
+fn edits() {
+    let mut bytes = Builder::new().entry("a", 1u32).entry("b", 2).build().unwrap();
+    let mut edit = Edit::<&str, u32>::open(&mut bytes).unwrap();
+    assert!(edit.set("b", 20));
+    assert!(!edit.set("c", 30));
+    let map = Map::<&str, u32>::open(&bytes).unwrap();
+    assert_eq!(map.iter().collect::<Vec<_>>(), [("a", 1), ("b", 20)]);
+}
+
+#[test]
+fn refusals() {
+    fn code(bytes: &[u8]) -> Option<u32> {
+        Map::<u32, u32>::open(bytes).err().map(|e: Error| e.code())
+    }
+    assert_eq!(code(&[]), Some(1));
+    assert_eq!(code(&[0; 7]), Some(1));
+    let mut bytes = Builder::new().entry(1u32, 2u32).build().unwrap();
+    assert_eq!(code(&bytes), None);
+    bytes[0] = 7;
+    let error = Map::<u32, u32>::open(&bytes).err().unwrap();
+    assert_eq!((error.code(), error.position(), error.found()), (3, 0, 7));
+    assert_eq!(error.to_string(), "the byte is the kind of no node at position 0");
+    let unordered = Builder::new().entry(2u32, 0u32).entry(1, 0);
+    assert_eq!(unordered.build_strict().err().unwrap().code(), 37);
+    let bytes = unordered.build().unwrap();
+    assert_eq!(code(&bytes), None);
+    assert_eq!(Map::<u32, u32>::open_strict(&bytes).err().unwrap().to_string(), "a key isn't greater than the key before it at entry 1");
+}
+
+#[test]
+fn no_bytes_crash() {
+    let good = (0..40u32).map(|n| (n, n)).collect::<Builder<_, _>>().build().unwrap();
+    for at in 0..good.len() {
+        for byte in [0, 1, 2, 127, 128, 255] {
+            let mut bytes = good.clone();
+            bytes[at] = byte;
+            if let Ok(map) = Map::<u32, u32>::open(&bytes) {
+                assert_eq!(map.iter().count(), map.len());
+            }
+        }
+    }
+}
+
+#[test]
+fn readme() {
+    assert!(include_str!("../README.md").contains(include_str!("../examples/five_lines.rs")));
+}

@@ -1,0 +1,178 @@
+//! The words of the command line.
+
+use btreekv_commands::command;
+use clap::{Arg, ArgAction, ArgMatches, Command, Error};
+use std::alloc::{AllocError, Global};
+
+/// Returns a flag of a command.
+fn flag<'a>(alloc: Global, name: &'a str, help: &'a str) -> Arg<'a> {
+    Arg::new(alloc, name)
+        .long(name)
+        .help(help)
+        .action(ArgAction::SetTrue)
+}
+
+/// Returns a required word of a command.
+fn word(alloc: Global, name: &str) -> Arg<'_> {
+    Arg::new(alloc, name)
+        .required(true)
+        .allow_hyphen_values(true)
+        .action(ArgAction::Set)
+}
+
+/// Returns the file of a command, if not standard input.
+fn file<'a>(alloc: Global) -> Arg<'a> {
+    Arg::new(alloc, "FILE")
+        .help("the file to read, if not standard input")
+        .action(ArgAction::Set)
+}
+
+/// Returns the words of `build`.
+fn build<'a>(alloc: Global) -> Result<Command<'a>, AllocError> {
+    let sort = flag(
+        alloc,
+        "sort",
+        "sort by keys; of equal keys the last value counts",
+    );
+    Command::new(alloc, "build")
+        .about("write the archive of lines KEY TAB VALUE")
+        .arg(sort.conflicts_with("strict")?)?
+        .arg(flag(alloc, "strict", "fail unless the keys increase"))?
+        .arg(file(alloc))
+}
+
+/// Returns the words of `list`.
+fn list<'a>(alloc: Global) -> Result<Command<'a>, AllocError> {
+    Command::new(alloc, "list")
+        .about("write the lines of an archive")
+        .arg(flag(alloc, "json", "write a JSON object"))?
+        .arg(file(alloc))
+}
+
+/// Returns the words of `check`.
+fn check<'a>(alloc: Global) -> Result<Command<'a>, AllocError> {
+    Command::new(alloc, "check")
+        .about("write how many entries an archive has")
+        .arg(flag(alloc, "strict", "fail unless the keys increase"))?
+        .arg(file(alloc))
+}
+
+/// Returns the words of `stat`.
+fn stat<'a>(alloc: Global) -> Result<Command<'a>, AllocError> {
+    Command::new(alloc, "stat")
+        .about("write how many entries, levels, nodes and bytes an archive has")
+        .arg(file(alloc))
+}
+
+/// Returns the words of `explain`.
+fn explain<'a>(alloc: Global) -> Result<Command<'a>, AllocError> {
+    Command::new(alloc, "explain")
+        .about("write the bytes of an archive with their meaning")
+        .arg(file(alloc))
+}
+
+/// Returns the words of `get`.
+fn get<'a>(alloc: Global) -> Result<Command<'a>, AllocError> {
+    Command::new(alloc, "get")
+        .about("write the value of a key")
+        .arg(flag(alloc, "json", "write a JSON string"))?
+        .arg(word(alloc, "KEY"))?
+        .arg(file(alloc))
+}
+
+/// Returns the words of `range`.
+fn range<'a>(alloc: Global) -> Result<Command<'a>, AllocError> {
+    Command::new(alloc, "range")
+        .about("write the lines of the keys from LOW to HIGH, both included")
+        .arg(word(alloc, "LOW"))?
+        .arg(word(alloc, "HIGH"))?
+        .arg(file(alloc))
+}
+
+/// Returns the words of `prefix`.
+fn prefix<'a>(alloc: Global) -> Result<Command<'a>, AllocError> {
+    Command::new(alloc, "prefix")
+        .about("write the lines of the keys that begin with TEXT")
+        .arg(word(alloc, "TEXT"))?
+        .arg(file(alloc))
+}
+
+/// Returns what the program understands.
+fn grammar<'a>(alloc: Global) -> Result<Command<'a>, AllocError> {
+    let build = build(alloc)?;
+    let list = list(alloc)?;
+    let check = check(alloc)?;
+    let stat = stat(alloc)?;
+    let explain = explain(alloc)?;
+    let get = get(alloc)?;
+    let range = range(alloc)?;
+    let prefix = prefix(alloc)?;
+    Command::new(alloc, "btreekv")
+        .about("Builds, validates and queries archived maps of texts")
+        .subcommand_required(true)
+        .subcommand(build)?
+        .subcommand(list)?
+        .subcommand(check)?
+        .subcommand(stat)?
+        .subcommand(explain)?
+        .subcommand(get)?
+        .subcommand(range)?
+        .subcommand(prefix)
+}
+
+/// Reads the words of the command line.
+pub fn parse<'a>(alloc: Global, words: &'a [String]) -> Result<ArgMatches<'a>, Error> {
+    grammar(alloc)?.try_get_matches_from(words)
+}
+
+/// Returns a word as a text of its own.
+fn owned(alloc: Global, matches: &ArgMatches<'_>, name: &str) -> Result<String, AllocError> {
+    String::from_str(alloc, matches.get_str(name).unwrap_or(""))
+}
+
+/// Returns the command of the matches of a subcommand.
+pub fn command_of(
+    alloc: Global,
+    name: &str,
+    matches: &ArgMatches<'_>,
+) -> Result<command::Command, AllocError> {
+    match name {
+        "build" => {
+            if matches.get_flag("strict") {
+                return Ok(command::Command::BuildStrict);
+            }
+            if matches.get_flag("sort") {
+                return Ok(command::Command::BuildSorted);
+            }
+            Ok(command::Command::Build)
+        }
+        "check" => {
+            if matches.get_flag("strict") {
+                return Ok(command::Command::CheckStrict);
+            }
+            Ok(command::Command::Check)
+        }
+        "stat" => Ok(command::Command::Stat),
+        "explain" => Ok(command::Command::Explain),
+        "get" => {
+            let key = owned(alloc, matches, "KEY")?;
+            if matches.get_flag("json") {
+                return Ok(command::Command::GetJson(key));
+            }
+            Ok(command::Command::Get(key))
+        }
+        "range" => {
+            let low = owned(alloc, matches, "LOW")?;
+            let high = owned(alloc, matches, "HIGH")?;
+            Ok(command::Command::Range(low, high))
+        }
+        "prefix" => Ok(command::Command::Prefix(owned(alloc, matches, "TEXT")?)),
+        "list" => {
+            if matches.get_flag("json") {
+                return Ok(command::Command::ListJson);
+            }
+            Ok(command::Command::List)
+        }
+        _ => Ok(command::Command::List),
+    }
+}

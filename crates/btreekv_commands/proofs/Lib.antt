@@ -1,0 +1,9 @@
+pub mod Built
+pub mod Fits
+pub mod Found
+pub mod JsonTexts
+pub mod Listed
+pub mod PrefixOrder
+pub mod Sorted
+pub mod Splitting
+pub mod Unbuilt

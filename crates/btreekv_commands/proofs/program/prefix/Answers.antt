@@ -1,0 +1,23 @@
+-- The entries with the prefix are the output.
+use Rattle.std.proofs.Common.{refl, ap, ◌∙◌}
+use Rattle.rkyv_btree_base.specs.Text.{text_kind}
+use Rattle.rkyv_btree.specs.Range.{range_left}
+use Rattle.rkyv_btree.specs.View.{entries_of}
+use Rattle.btreekv_commands.specs.Lines.{text_of}
+use Rattle.btreekv_commands.proofs.Listed.{from_nothing}
+use Rattle.btreekv_commands.proofs.program.prefix.Goals as goal
+
+pub returns-in-Ok-clause-ok : goal.returns-in-Ok-clause-ok
+returns-in-Ok-clause-ok c =
+    let map = c.in_ok-map.map in
+    let r = c.with_prefix-entries in
+    let given = c.in-Ok.ensures in (
+      refl,
+      (
+        entries_of text_kind text_kind 5 map,
+        range_left r.result,
+        c.in_ok-map.ensures.accepted,
+        rw c.as_str.ensures.value at r.ensures.has_prefix,
+        from_nothing _ _ _ c.new-text.ensures.bytes given.2 ∙ ap text_of (r.ensures.yields given.0 given.1),
+      ),
+    )

@@ -1,0 +1,104 @@
+-- What each command writes of known input, and when it fails.
+use Rattle.std.specs.Prelude.{◌≡◌, ℕ, List, [], ◌∷◌, ◌++◌, Option, Some, None, IfSome, Result, Ok, Err}
+use Rattle.std.specs.Prelude.{codes, decimal, length, string_bytes}
+use Rattle.std.specs.Cmp.Lexicographic.{slice_cmp}
+use Rattle.std.specs.Io.KnownBytes.{Appends}
+use Rattle.std.specs.Ordering.{nat_cmp}
+use Rattle.std.specs.declared.alloc.AllocError.{AllocError}
+use Rattle.std.specs.declared.ops.Bound.TheVariants.{Included}
+use Rattle.rkyv_btree_base.specs.Fault.{Fault}
+use Rattle.rkyv_btree_base.specs.Refusal.{Refusal}
+use Rattle.rkyv_btree_base.specs.Text.{text_kind}
+use Rattle.rkyv_btree_base.specs.Whole.{own_at}
+use Rattle.rkyv_btree.specs.Bounds.{IsRun, IsWithin}
+use Rattle.rkyv_btree.specs.Lookup.{found_at}
+use Rattle.btreearc_lines.specs.declared.fault.ProgramFault.{ProgramFault}
+use Rattle.btreearc_lines.specs.declared.fault.ProgramFault.TheVariants.{Line, Refused, NotBuilt, InputFailed, OutputFailed, Memory}
+use Rattle.btreekv_commands.specs.Building.{last_values, IsUnbuilt, IsUnbuiltInOrder}
+use Rattle.btreekv_commands.specs.Figures.{archive_nodes, figures}
+use Rattle.btreekv_commands.specs.Json.{json_object, json_string}
+use Rattle.btreekv_commands.specs.Lines.{Entry, AreLines, IsBadLine, text_of}
+use Rattle.btreekv_commands.specs.Opening.{texts, IsArchive, KeysIncrease, CountsStrict, RefusesArchive, RefusesStrictArchive}
+use Rattle.btreekv_commands.specs.Prefixes.{HasPrefix}
+use Rattle.btreekv_commands.specs.declared.command.Command.{Command}
+use Rattle.btreekv_commands.specs.declared.command.Command.TheVariants.{Build, BuildStrict, BuildSorted, List as ListEntries}
+use Rattle.btreekv_commands.specs.declared.command.Command.TheVariants.{Check, CheckStrict, Explain, Get, GetJson, ListJson, Prefix, Range, Stat}
+
+-- the line of an archive of so many entries
+abbrev pub total : ℕ → List ℕ
+total count = codes "ok " ++ (decimal count ++ (codes " entries" ++ 10 ∷ []))
+
+-- the entry that a search of an archive for a key finds
+abbrev pub found_in_archive : List ℕ → List ℕ → Option Entry
+found_in_archive b key = found_at text_kind text_kind 5 b (own_at texts b) (slice_cmp nat_cmp key)
+
+-- the line of the value that is found, as it is written, with status 0; or nothing, with status 1
+abbrev pub FoundValue : (List ℕ → List ℕ) → Option Entry → List ℕ → ℕ → Type 0
+FoundValue written None text status = (text ≡ []) × (status ≡ 1)
+FoundValue written (Some e) text status = (text ≡ written e.1 ++ 10 ∷ []) × (status ≡ 0)
+
+-- these entries of a list are a run of it, and those from the key `low` to the key `high`
+pub record IsBetween (low high : List ℕ) (entries within : List Entry) : Type 0 where
+  pub run : IsRun within entries
+  pub all : IsWithin (Included (slice_cmp nat_cmp low)) (Included (slice_cmp nat_cmp high)) entries within
+
+-- what a command writes of an input, and its status
+abbrev pub Outputs : Command → List ℕ → List ℕ → ℕ → Type 0
+Outputs Build input text status = (status ≡ 0) × ((entries : List Entry) × AreLines input entries × IsArchive text entries)
+Outputs BuildStrict input text status =
+    (status ≡ 0) × ((entries : List Entry) × AreLines input entries × IsArchive text entries × KeysIncrease entries)
+Outputs BuildSorted input text status =
+    (status ≡ 0) × ((entries : List Entry) × AreLines input entries
+    × IsArchive text (last_values entries) × KeysIncrease (last_values entries))
+Outputs ListEntries input text status = (status ≡ 0) × ((entries : List Entry) × IsArchive input entries × (text ≡ text_of entries))
+Outputs ListJson input text status =
+    (status ≡ 0) × ((entries : List Entry) × IsArchive input entries × (text ≡ json_object entries ++ 10 ∷ []))
+Outputs Check input text status = (status ≡ 0) × ((entries : List Entry) × IsArchive input entries × (text ≡ total (length entries)))
+Outputs CheckStrict input text status = (status ≡ 0) × ((count : ℕ) × CountsStrict input count × (text ≡ total count))
+Outputs Stat input text status =
+    (status ≡ 0) × ((entries : List Entry) × (is : IsArchive input entries)
+    × (text ≡ figures (length entries) (archive_nodes input entries is) (length input)))
+Outputs Explain input text status = (status ≡ 0) × ((entries : List Entry) × IsArchive input entries)
+Outputs (Get key) input text status =
+    ((entries : List Entry) × IsArchive input entries) × FoundValue (λ v. v) (found_in_archive input (string_bytes key)) text status
+Outputs (GetJson key) input text status =
+    ((entries : List Entry) × IsArchive input entries)
+    × FoundValue json_string (found_in_archive input (string_bytes key)) text status
+Outputs (Range low high) input text status =
+    (status ≡ 0) × ((entries within : List Entry) × IsArchive input entries
+    × IsBetween (string_bytes low) (string_bytes high) entries within × (text ≡ text_of within))
+Outputs (Prefix prefix) input text status =
+    (status ≡ 0) × ((entries within : List Entry) × IsArchive input entries
+    × HasPrefix (string_bytes prefix) entries within × (text ≡ text_of within))
+
+-- why an archive isn't built of an input: its first bad line, or why its entries have no archive; or there is no memory
+abbrev pub FailsToBuild : (List Entry → Fault AllocError → Type 0) → List ℕ → ProgramFault → Type 0
+FailsToBuild Unbuilt input (Line n) = IsBadLine input n
+FailsToBuild Unbuilt input (NotBuilt fault) = (entries : List Entry) × AreLines input entries × Unbuilt entries fault
+FailsToBuild Unbuilt input Memory = Unit {0}
+FailsToBuild Unbuilt input _ = ⊥
+
+-- why an archive isn't read: the first error of bytes that are none; or there is no memory
+abbrev pub FailsToRead : (List ℕ → Refusal → Type 0) → List ℕ → ProgramFault → Type 0
+FailsToRead Refuses input (Refused refusal) = Refuses input refusal
+FailsToRead Refuses input Memory = Unit {0}
+FailsToRead Refuses input _ = ⊥
+
+-- why a command has no output for an input
+abbrev pub Fails : Command → List ℕ → ProgramFault → Type 0
+Fails Build input fault = FailsToBuild IsUnbuilt input fault
+Fails BuildStrict input fault = FailsToBuild IsUnbuiltInOrder input fault
+Fails BuildSorted input fault = FailsToBuild (λ entries. IsUnbuilt (last_values entries)) input fault
+Fails CheckStrict input fault = FailsToRead RefusesStrictArchive input fault
+Fails _ input fault = FailsToRead RefusesArchive input fault
+
+-- a command has written its output; or it has failed by its cause, and has written nothing; or reading, memory or writing
+-- failed. Only a failed write may leave a part of the output
+abbrev pub Does : Command → Option (List ℕ) → Option (List ℕ) → Option (List ℕ) → Result ℕ ProgramFault → Type 0
+Does command input old new (Ok status) =
+    IfSome input (λ bytes. (text : List ℕ) × Outputs command bytes text status × Appends old new text)
+Does command input old new (Err InputFailed) = new ≡ old
+Does command input old new (Err Memory) = new ≡ old
+Does command input old new (Err OutputFailed) =
+    IfSome input (λ bytes. (text : List ℕ) × (status : ℕ) × Outputs command bytes text status)
+Does command input old new (Err fault) = IfSome input (λ bytes. Fails command bytes fault) × (new ≡ old)

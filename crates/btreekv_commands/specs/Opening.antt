@@ -1,0 +1,46 @@
+-- Archives of texts to texts, and why other bytes are refused.
+use Rattle.std.specs.Prelude.{◌≡◌, ℕ, List, length}
+use Rattle.std.specs.Cmp.Lexicographic.{slice_cmp}
+use Rattle.std.specs.Ordering.{nat_cmp}
+use Rattle.rkyv_btree_base.specs.Increasing.{Increasing}
+use Rattle.rkyv_btree_base.specs.Kind.{Kind}
+use Rattle.rkyv_btree_base.specs.Map.{map_kind}
+use Rattle.rkyv_btree_base.specs.Refusal.{Refusal}
+use Rattle.rkyv_btree_base.specs.Refusals.{RefusesMap}
+use Rattle.rkyv_btree_base.specs.Text.{text_kind}
+use Rattle.rkyv_btree_base.specs.Whole.{IsArchiveOf}
+use Rattle.rkyv_btree.specs.Strict.{RefusesStrict}
+use Rattle.rkyv_btree.specs.Whole.{IsUnopened}
+use Rattle.btreearc_lines.specs.declared.fault.ProgramFault.{ProgramFault}
+use Rattle.btreearc_lines.specs.declared.fault.ProgramFault.TheVariants.{Refused}
+use Rattle.btreekv_commands.specs.Lines.{Entry}
+
+abbrev pub texts : Kind
+texts = map_kind text_kind text_kind 5
+
+-- the keys of entries increase, byte by byte
+abbrev pub KeysIncrease : List Entry → Type 0
+KeysIncrease entries = Increasing (slice_cmp nat_cmp) entries
+
+-- the archive of a list of entries
+abbrev pub IsArchive : List ℕ → List Entry → Type 0
+IsArchive bytes entries = IsArchiveOf texts bytes entries
+
+-- it is an archive of so many entries, whose keys increase
+abbrev pub CountsStrict : List ℕ → ℕ → Type 0
+CountsStrict bytes count = (entries : List Entry) × IsArchive bytes entries × KeysIncrease entries × (count ≡ length entries)
+
+-- bytes are an archive of no list, and this is their first error
+pub record RefusesArchive (bytes : List ℕ) (refusal : Refusal) : Type 0 where
+  pub first : IsUnopened texts (RefusesMap text_kind text_kind 5) bytes refusal
+  pub none : (entries : List Entry) → ¬ IsArchive bytes entries
+
+-- bytes are an archive of no list whose keys increase, and this is their first error
+pub record RefusesStrictArchive (bytes : List ℕ) (refusal : Refusal) : Type 0 where
+  pub first : IsUnopened texts (RefusesStrict text_kind text_kind 5) bytes refusal
+  pub none : (entries : List Entry) → IsArchive bytes entries → ¬ KeysIncrease entries
+
+-- an error of opening an archive
+abbrev pub IsOpenFault : (Refusal → Type 0) → ProgramFault → Type 0
+IsOpenFault Refuses (Refused refusal) = Refuses refusal
+IsOpenFault Refuses _ = ⊥

@@ -1,0 +1,14 @@
+//! What the program `btreekv` does: archives of texts to texts are built from lines, checked, listed and looked up in, by commands
+//! over a reader and a writer.
+#![tactic(auto)]
+
+pub mod building;
+pub mod command;
+pub mod explaining;
+pub mod figures;
+pub mod json;
+pub mod lines;
+pub mod listing;
+pub mod opening;
+pub mod prefixes;
+pub mod program;

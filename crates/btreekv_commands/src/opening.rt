@@ -1,0 +1,51 @@
+//! Opening archives that anybody wrote.
+ghost use Rattle.std.specs.Prelude.{◌≡◌, IfOk, IfErr};
+ghost use Rattle.rkyv_btree_base.specs.Text.{text_kind};
+ghost use Rattle.rkyv_btree_base.specs.Whole.{own_at};
+ghost use Rattle.rkyv_btree.specs.View.{entries_of};
+ghost use Rattle.btreekv_commands.specs.Opening.{texts, CountsStrict, IsArchive, IsOpenFault, RefusesArchive, RefusesStrictArchive};
+
+use btreearc_lines::fault::ProgramFault;
+use rkyv_btree::strict::open_strict;
+use rkyv_btree::view::View;
+use rkyv_btree::whole;
+use rkyv_btree_base::map::ArchivedBTreeMap;
+use rkyv_btree_base::text::ArchivedText;
+
+/// The maps that the program archives.
+pub type Texts = ArchivedBTreeMap<ArchivedText, ArchivedText, 5>;
+
+/// Returns the map of an archive.
+///
+/// # Errors
+///
+/// `Refused` with the first error of bytes that are no archive.
+#[tactic(auto, using(crate::proofs::Fits::texts_fit))]
+pub fn open(archive: &[u8]) -> Result<View<'_, Texts>, ProgramFault>
+    ensures buffer { IfOk result (λ map. map.buf.now ≡ archive.now) }
+    ensures position { IfOk result (λ map. map.pos ≡ own_at texts archive.now) }
+    ensures accepted { IfOk result (λ map.
+        IsArchive archive.now (entries_of text_kind text_kind 5 map)) }
+    ensures err { IfErr result (IsOpenFault (RefusesArchive archive.now)) }
+{
+    match whole::open::<Texts>(archive) {
+        Ok(map) => Ok(map),
+        Err(refusal) => Err(ProgramFault::Refused(refusal)),
+    }
+}
+
+/// Returns the number of entries of an archive whose keys increase.
+///
+/// # Errors
+///
+/// As of `open`, and `Refused` with the first entry whose key isn't greater than the key before it.
+#[tactic(auto, using(crate::proofs::Fits::texts_fit))]
+pub fn strict_count(archive: &[u8]) -> Result<usize, ProgramFault>
+    ensures ok { IfOk result (λ count. CountsStrict archive.now count) }
+    ensures err { IfErr result (IsOpenFault (RefusesStrictArchive archive.now)) }
+{
+    match open_strict::<ArchivedText, ArchivedText, 5>(archive) {
+        Ok(map) => Ok(map.len()),
+        Err(refusal) => Err(ProgramFault::Refused(refusal)),
+    }
+}

@@ -1,0 +1,44 @@
+//! Entries whose keys begin with a text.
+ghost use Rattle.std.specs.Prelude.{◌≡◌};
+ghost use Rattle.std.specs.Iterator.{IsFinite};
+ghost use Rattle.rkyv_btree.specs.Items.{ShowsAll};
+ghost use Rattle.rkyv_btree.specs.Range.{range_left};
+ghost use Rattle.rkyv_btree.specs.View.{entries_of, reads_both};
+ghost use Rattle.rkyv_btree_base.specs.Text.{text_kind};
+ghost use Rattle.btreekv_commands.specs.Prefixes.{HasPrefix, prefix_cmp};
+
+use crate::opening::Texts;
+use rkyv_btree::range::Range;
+use rkyv_btree::view::View;
+use rkyv_btree_base::text::ArchivedText;
+use std::cmp::Ordering;
+use std::ops::Bound;
+
+/// Compares a prefix with as many first bytes of a key.
+fn compare_prefix(prefix: &str, key: &str) -> Ordering
+    ensures { result ≡ prefix_cmp prefix.now key.now }
+{
+    let prefix = prefix.as_bytes();
+    let key = key.as_bytes();
+    if prefix.len() < key.len() {
+        prefix.cmp(&key[..prefix.len()])
+    } else {
+        prefix.cmp(key)
+    }
+}
+
+/// Returns an iterator over the entries whose keys begin with a text, in order. If the keys don't increase, its items are
+/// some contiguous run of entries.
+pub fn with_prefix<'a>(map: View<'a, Texts>, prefix: &str) -> Range<'a, Texts>
+    ensures yields { ShowsAll ⟦<Range<'a, Texts> as Iterator>⟧.next_gives reads_both result
+        (range_left result) }
+    ensures ends { IsFinite (⟦<Range<'a, Texts> as Iterator>⟧.remaining result) }
+    ensures has_prefix { HasPrefix prefix.now (entries_of text_kind text_kind 5 map.entry)
+        (range_left result) }
+{
+    map.range_with(
+        Bound::Included(&prefix),
+        Bound::Included(&prefix),
+        |prefix: &&str, key: View<ArchivedText>| compare_prefix(prefix, key.as_str()),
+    )
+}

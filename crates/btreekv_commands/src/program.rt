@@ -1,0 +1,246 @@
+//! The commands over a reader and a writer.
+ghost use Rattle.std.specs.Prelude.{◌≡◌, IfOk, IfErr, string_bytes};
+ghost use Rattle.btreekv_commands.specs.Commands.{Does, Fails, FailsToBuild, FailsToRead, Outputs, total};
+ghost use Rattle.btreekv_commands.specs.declared.command.Command.TheVariants.{Build, BuildStrict, BuildSorted, List as ListEntries};
+ghost use Rattle.btreekv_commands.specs.declared.command.Command.TheVariants.{Check, CheckStrict, Explain, Get, GetJson, ListJson, Prefix, Range, Stat};
+
+use crate::command::Command;
+use crate::figures::figures_of;
+use crate::json::{push_object, push_string};
+use crate::lines::parse_lines;
+use crate::listing::write_entries;
+use crate::opening::{open, strict_count};
+use crate::prefixes::with_prefix;
+use crate::{building, explaining};
+use btreearc_lines::fault::ProgramFault;
+use btreearc_lines::streams::{read_all, write_all};
+use std::alloc::Global;
+use std::io::{Read, Write};
+use std::ops::Bound;
+
+/// Returns the lines of an archive.
+fn list(alloc: Global, archive: &[u8]) -> Result<String, ProgramFault>
+    ensures ok { IfOk result (λ text. Outputs ListEntries archive.now (string_bytes text) 0) }
+    ensures err { IfErr result (Fails ListEntries archive.now) }
+{
+    let map = open(archive)?;
+    let mut text = String::new(alloc);
+    match write_entries(&mut text, map.iter()) {
+        Ok(()) => Ok(text),
+        Err(_) => Err(ProgramFault::Memory),
+    }
+}
+
+/// Returns the line of the JSON object of an archive.
+fn list_json(alloc: Global, archive: &[u8]) -> Result<Vec<u8>, ProgramFault>
+    ensures ok { IfOk result (λ text. Outputs ListJson archive.now text.items 0) }
+    ensures err { IfErr result (Fails ListJson archive.now) }
+{
+    let map = open(archive)?;
+    let mut text = Vec::new(alloc);
+    if push_object(&mut text, map.iter()).is_err() {
+        return Err(ProgramFault::Memory);
+    }
+    match text.push(b'\n') {
+        Ok(()) => Ok(text),
+        Err(_) => Err(ProgramFault::Memory),
+    }
+}
+
+/// Returns the line of an archive of so many entries.
+///
+/// # Errors
+///
+/// `Memory` if an allocation fails.
+fn total(alloc: Global, count: usize) -> Result<String, ProgramFault>
+    ensures ok { IfOk result (λ text. string_bytes text ≡ total count) }
+    ensures err { IfErr result (λ fault. fault ≡ ProgramFault.Memory) }
+{
+    let mut text = String::new(alloc);
+    if writeln!(text, "ok {count} entries").is_err() {
+        return Err(ProgramFault::Memory);
+    }
+    Ok(text)
+}
+
+/// Returns the line of an archive.
+fn check(alloc: Global, archive: &[u8]) -> Result<String, ProgramFault>
+    ensures ok { IfOk result (λ text. Outputs Check archive.now (string_bytes text) 0) }
+    ensures err { IfErr result (Fails Check archive.now) }
+{
+    let map = open(archive)?;
+    total(alloc, map.len())
+}
+
+/// Returns the line of an archive whose keys increase.
+fn check_strict(alloc: Global, archive: &[u8]) -> Result<String, ProgramFault>
+    ensures ok { IfOk result (λ text. Outputs CheckStrict archive.now (string_bytes text) 0) }
+    ensures err { IfErr result (Fails CheckStrict archive.now) }
+{
+    let count = strict_count(archive)?;
+    total(alloc, count)
+}
+
+/// Returns the lines of the figures of an archive.
+fn stat(alloc: Global, archive: &[u8]) -> Result<String, ProgramFault>
+    ensures ok { IfOk result (λ text. Outputs Stat archive.now (string_bytes text) 0) }
+    ensures err { IfErr result (Fails Stat archive.now) }
+{
+    let map = open(archive)?;
+    figures_of(alloc, archive, map.pos, map.len())
+}
+
+/// Returns the lines of the bytes of an archive with their meaning.
+fn explain(alloc: Global, archive: &[u8]) -> Result<String, ProgramFault>
+    ensures ok { IfOk result (λ text. Outputs Explain archive.now (string_bytes text) 0) }
+    ensures err { IfErr result (Fails Explain archive.now) }
+{
+    let map = open(archive)?;
+    explaining::explain(alloc, archive, map.pos)
+}
+
+/// Returns the line of a key's value, or no line and the status 1.
+fn get(alloc: Global, archive: &[u8], key: &String) -> Result<(String, u8), ProgramFault>
+    ensures ok { IfOk result (λ r. Outputs (Get key.now) archive.now (string_bytes r.0) r.1) }
+    ensures err { IfErr result (Fails (Get key.now) archive.now) }
+{
+    let map = open(archive)?;
+    let mut text = String::new(alloc);
+    match map.get_by(key.as_str()) {
+        None => Ok((text, 1)),
+        Some(value) => {
+            if writeln!(text, "{}", value.as_str()).is_err() {
+                return Err(ProgramFault::Memory);
+            }
+            Ok((text, 0))
+        }
+    }
+}
+
+/// Returns the line of a key's value as a JSON string, or no line and the status 1.
+fn get_json(alloc: Global, archive: &[u8], key: &String) -> Result<(Vec<u8>, u8), ProgramFault>
+    ensures ok { IfOk result (λ r. Outputs (GetJson key.now) archive.now r.0.items r.1) }
+    ensures err { IfErr result (Fails (GetJson key.now) archive.now) }
+{
+    let map = open(archive)?;
+    let mut out = Vec::new(alloc);
+    match map.get_by(key.as_str()) {
+        None => Ok((out, 1)),
+        Some(value) => {
+            if push_string(&mut out, value.as_str()).is_err() {
+                return Err(ProgramFault::Memory);
+            }
+            match out.push(b'\n') {
+                Ok(()) => Ok((out, 0)),
+                Err(_) => Err(ProgramFault::Memory),
+            }
+        }
+    }
+}
+
+/// Returns the lines of the keys from one to another.
+fn range(alloc: Global, archive: &[u8], low: &String, high: &String) -> Result<String, ProgramFault>
+    ensures ok { IfOk result (λ text.
+        Outputs (Range low.now high.now) archive.now (string_bytes text) 0) }
+    ensures err { IfErr result (Fails (Range low.now high.now) archive.now) }
+{
+    let map = open(archive)?;
+    let entries = map.range_by(
+        Bound::Included(low.as_str()),
+        Bound::Included(high.as_str()),
+    );
+    let mut text = String::new(alloc);
+    match write_entries(&mut text, entries) {
+        Ok(()) => Ok(text),
+        Err(_) => Err(ProgramFault::Memory),
+    }
+}
+
+/// Returns the lines of the keys that begin with a text.
+fn prefix(alloc: Global, archive: &[u8], prefix: &String) -> Result<String, ProgramFault>
+    ensures ok { IfOk result (λ text.
+        Outputs (Prefix prefix.now) archive.now (string_bytes text) 0) }
+    ensures err { IfErr result (Fails (Prefix prefix.now) archive.now) }
+{
+    let map = open(archive)?;
+    let entries = with_prefix(map, prefix.as_str());
+    let mut text = String::new(alloc);
+    match write_entries(&mut text, entries) {
+        Ok(()) => Ok(text),
+        Err(_) => Err(ProgramFault::Memory),
+    }
+}
+
+/// Returns the archive of lines, in their order.
+fn build(alloc: Global, text: &[u8]) -> Result<Vec<u8>, ProgramFault>
+    ensures ok { IfOk result (λ bytes. Outputs Build text.now bytes.items 0) }
+    ensures err { IfErr result (Fails Build text.now) }
+{
+    let entries = parse_lines(alloc, text)?;
+    building::archive(alloc, &entries)
+}
+
+/// Returns the archive of lines whose keys increase.
+fn build_strict(alloc: Global, text: &[u8]) -> Result<Vec<u8>, ProgramFault>
+    ensures ok { IfOk result (λ bytes. Outputs BuildStrict text.now bytes.items 0) }
+    ensures err { IfErr result (Fails BuildStrict text.now) }
+{
+    let entries = parse_lines(alloc, text)?;
+    building::strict_archive(alloc, &entries)
+}
+
+/// Returns the archive of lines in increasing order of their keys.
+fn build_sorted(alloc: Global, text: &[u8]) -> Result<Vec<u8>, ProgramFault>
+    ensures ok { IfOk result (λ bytes. Outputs BuildSorted text.now bytes.items 0) }
+    ensures err { IfErr result (Fails BuildSorted text.now) }
+{
+    let entries = parse_lines(alloc, text)?;
+    building::sorted_archive(alloc, entries)
+}
+
+/// Returns what a command writes of an input, and its status.
+fn output_of(alloc: Global, command: &Command, input: &[u8]) -> Result<(Vec<u8>, u8), ProgramFault>
+    ensures ok { IfOk result (λ r. Outputs command.now input.now r.0.items r.1) }
+    ensures err { IfErr result (Fails command.now input.now) }
+{
+    match command {
+        Command::Build => Ok((build(alloc, input)?, 0)),
+        Command::BuildStrict => Ok((build_strict(alloc, input)?, 0)),
+        Command::BuildSorted => Ok((build_sorted(alloc, input)?, 0)),
+        Command::List => Ok((list(alloc, input)?.into_bytes(), 0)),
+        Command::ListJson => Ok((list_json(alloc, input)?, 0)),
+        Command::Check => Ok((check(alloc, input)?.into_bytes(), 0)),
+        Command::CheckStrict => Ok((check_strict(alloc, input)?.into_bytes(), 0)),
+        Command::Stat => Ok((stat(alloc, input)?.into_bytes(), 0)),
+        Command::Explain => Ok((explain(alloc, input)?.into_bytes(), 0)),
+        Command::Get(key) => {
+            let (text, status) = get(alloc, input, key)?;
+            Ok((text.into_bytes(), status))
+        }
+        Command::GetJson(key) => get_json(alloc, input, key),
+        Command::Range(low, high) => Ok((range(alloc, input, low, high)?.into_bytes(), 0)),
+        Command::Prefix(text) => Ok((prefix(alloc, input, text)?.into_bytes(), 0)),
+    }
+}
+
+/// Runs a command, and returns the exit status. Nothing is written before all of the input is read and tested, and all of
+/// the output is made.
+///
+/// # Errors
+///
+/// `Line`, `Refused` and `NotBuilt` as the command has them. `InputFailed` and `OutputFailed` if the reader or the writer
+/// fails, and `Memory` if an allocation fails. An error leaves the output as it was, except for `OutputFailed`.
+pub fn run<R: Read, W: Write>(
+    alloc: Global,
+    command: &Command,
+    input: &mut R,
+    output: &mut W,
+) -> Result<u8, ProgramFault>
+    ensures { Does command.now (R.remaining input.old) (W.contents output.old)
+        (W.contents output.new) result }
+{
+    let bytes = read_all(alloc, input)?;
+    let (text, status) = output_of(alloc, command, &bytes)?;
+    write_all(output, &text)?;
+    Ok(status)
+}

@@ -1,0 +1,108 @@
+//! Lookups in a case's buffer as a source, which isn't read whole.
+
+use crate::input::{Input, Wire};
+use crate::shown::Shown;
+use anyhow::{bail, ensure};
+use rkyv_btree::prelude::*;
+use rkyv_btree::source::{Fetch, SourceFault, UnverifiedSource};
+use rkyv_btree_base::layout;
+use std::alloc::Global;
+use std::num::NonZeroU32;
+
+/// Appends what a lookup in a source returns.
+fn show_found<V: Shown>(
+    found: Result<Option<View<'_, V>>, SourceFault<std::convert::Infallible>>,
+    out: &mut String,
+) -> anyhow::Result<()> {
+    match found {
+        Ok(Some(value)) => {
+            out.push_str(" =")?;
+            V::show(&value, out)?;
+        }
+        Ok(None) => write!(out, " none")?,
+        Err(SourceFault::Refused(refusal)) => write!(out, " refused: {refusal}")?,
+        Err(SourceFault::Read(error)) => match error {},
+        Err(SourceFault::NoRoom { needed }) => write!(out, " needs {needed}")?,
+        Err(SourceFault::OverBudget) => write!(out, " over budget")?,
+    }
+    Ok(())
+}
+
+/// Looks up a native key of a case in its buffer as a source, and counts the bytes that are read.
+fn by_number<N: Wire, K: Fetch + CompareWith<N>, V: Fetch + Shown, const E: usize>(
+    alloc: Global,
+    case: &[u8],
+    out: &mut String,
+) -> anyhow::Result<()> {
+    let mut input = Input { rest: case };
+    let budget = input.number()?;
+    let len = input.number()?;
+    let pos = input.number()?;
+    let key = N::take(alloc, &mut input)?;
+    ensure!(layout::fits::<K, V, E>(), "the map doesn't fit");
+    let mut room = [0u8; 4096];
+    let room = &mut room[..(len as usize).min(4096)];
+    let mut map = UnverifiedSource::<&[u8], ArchivedBTreeMap<K, V, E>>::new(
+        input.rest,
+        pos,
+        u64::from(budget),
+    );
+    let mut shown = String::new(alloc);
+    show_found(map.get_by(key, room), &mut shown)?;
+    let read = u64::from(budget).saturating_sub(map.budget_left());
+    write!(out, "{read}{shown}")?;
+    Ok(())
+}
+
+/// Does the same for a text.
+fn by_text<V: Fetch + Shown, const E: usize>(
+    alloc: Global,
+    case: &[u8],
+    out: &mut String,
+) -> anyhow::Result<()> {
+    let mut input = Input { rest: case };
+    let budget = input.number()?;
+    let len = input.number()?;
+    let pos = input.number()?;
+    let key = String::take(alloc, &mut input)?;
+    ensure!(layout::fits::<ArchivedText, V, E>(), "the map doesn't fit");
+    let mut room = [0u8; 4096];
+    let room = &mut room[..(len as usize).min(4096)];
+    let mut map = UnverifiedSource::<&[u8], ArchivedBTreeMap<ArchivedText, V, E>>::new(
+        input.rest,
+        pos,
+        u64::from(budget),
+    );
+    let mut shown = String::new(alloc);
+    show_found(map.get_by(key.as_str(), room), &mut shown)?;
+    let read = u64::from(budget).saturating_sub(map.budget_left());
+    write!(out, "{read}{shown}")?;
+    Ok(())
+}
+
+/// Looks up a native key of a case in its buffer, by the name of the map's type.
+pub(crate) fn lookup(
+    alloc: Global,
+    kind: &str,
+    case: &[u8],
+    out: &mut String,
+) -> anyhow::Result<()> {
+    match kind {
+        "u32,u32,5" => by_number::<u32, ArchivedU32, ArchivedU32, 5>(alloc, case, out),
+        "u32,u32,1" => by_number::<u32, ArchivedU32, ArchivedU32, 1>(alloc, case, out),
+        "u32,u32,2" => by_number::<u32, ArchivedU32, ArchivedU32, 2>(alloc, case, out),
+        "u32,u32,7" => by_number::<u32, ArchivedU32, ArchivedU32, 7>(alloc, case, out),
+        "u64,u8,1" => by_number::<u64, ArchivedU64, u8, 1>(alloc, case, out),
+        "u64,u8,5" => by_number::<u64, ArchivedU64, u8, 5>(alloc, case, out),
+        "u32,unit,5" => by_number::<u32, ArchivedU32, (), 5>(alloc, case, out),
+        "u8,u16,3" => by_number::<u8, u8, ArchivedU16, 3>(alloc, case, out),
+        "u8,u16,5" => by_number::<u8, u8, ArchivedU16, 5>(alloc, case, out),
+        "i32,unit,5" => by_number::<i32, ArchivedI32, (), 5>(alloc, case, out),
+        "bool,u8,3" => by_number::<bool, bool, u8, 3>(alloc, case, out),
+        "char,u16,2" => by_number::<char, ArchivedChar, ArchivedU16, 2>(alloc, case, out),
+        "nonzero,u8,2" => by_number::<NonZeroU32, ArchivedNonZeroU32, u8, 2>(alloc, case, out),
+        "text,u32,1" => by_text::<ArchivedU32, 1>(alloc, case, out),
+        "text,i32,5" => by_text::<ArchivedI32, 5>(alloc, case, out),
+        _ => bail!("no such type of a source"),
+    }
+}

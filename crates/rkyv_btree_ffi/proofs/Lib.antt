@@ -1,0 +1,7 @@
+pub mod Built
+pub mod Cursors
+pub mod Fits
+pub mod Never
+pub mod Places
+pub mod Shown
+pub mod Types

@@ -1,0 +1,100 @@
+-- What is known of calls at the types of a map, as C has it.
+use Rattle.std.proofs.Common.{◌≡◌, ℕ, ◌≤◌, ◌<◌, IsTrue, IfSome, IfOk, IfErr, List, [], ◌∷◌, ◌++◌, length, take, map, Option, Some, None, Bor, refl, rules, ap}
+use Rattle.std.specs.Prelude.{Result, Ok, Err, IsOk}
+use Rattle.std.proofs.lemmas.Bool.{lt-ltb}
+use Rattle.std.specs.Int.{w32, to_le_bytes}
+use Rattle.std.specs.Option.{option_map}
+use Rattle.rkyv_btree_base.specs.Increasing.{Increasing}
+use Rattle.rkyv_btree_base.specs.Read.{entry_at}
+use Rattle.rkyv_btree_base.specs.Refusal.{Refusal}
+use Rattle.rkyv_btree_base.specs.Refusals.{RefusesMap}
+use Rattle.rkyv_btree_base.specs.Views.{stands}
+use Rattle.rkyv_btree_base.specs.Whole.{IsArchiveOf, own_at}
+use Rattle.rkyv_btree.specs.Strict.{RefusesStrict}
+use Rattle.rkyv_btree.specs.Whole.{IsUnopened}
+use Rattle.rkyv_btree_ffi.specs.Batches.{AreShown, IsEither as IsEitherPlace}
+use Rattle.rkyv_btree_ffi.specs.Editing.{narrow}
+use Rattle.rkyv_btree_ffi.specs.Entries.{answer, by_number, by_text, IsKey, IsValue, AreEntries, IsEither, IsBatch}
+use Rattle.rkyv_btree_ffi.specs.MapTypes.{key_kind, value_kind, kind_of, entries_at}
+use Rattle.rkyv_btree_ffi.specs.Opening.{Opens, OpensStrict}
+use Rattle.rkyv_btree_ffi.specs.declared.item.BtreeItem.{BtreeItem}
+use Rattle.rkyv_btree_ffi.specs.declared.item.BtreeEntry.{BtreeEntry}
+use Rattle.rkyv_btree_ffi.specs.declared.map_type.MapType.{MapType}
+use Rattle.rkyv_btree_ffi.specs.declared.map_type.MapType.TheVariants.{U32ToU32, U32ToU64, U32ToText, U64ToU32, U64ToU64, U64ToText, TextToU32, TextToU64, TextToText}
+use Rattle.rkyv_btree_ffi.specs.declared.query.Query.TheVariants.{Number, Text}
+
+no_ok : (e : Refusal) → IsOk {T = ℕ} {E = Refusal} (Err e) → ⊥
+no_ok e h = absurd (search (rules, h))
+
+-- what comparing a number gives, and a text
+pub number_is : (t : MapType) (n : ℕ) → answer t (Number n) ≡ by_number t n
+number_is U32ToU32 n = refl
+number_is U32ToU64 n = refl
+number_is U32ToText n = refl
+number_is U64ToU32 n = refl
+number_is U64ToU64 n = refl
+number_is U64ToText n = refl
+number_is TextToU32 n = refl
+number_is TextToU64 n = refl
+number_is TextToText n = refl
+
+pub text_is : (t : MapType) (text : Bor (List ℕ)) → answer t (Text text) ≡ by_text t text.now
+text_is U32ToU32 text = refl
+text_is U32ToU64 text = refl
+text_is U32ToText text = refl
+text_is U64ToU32 text = refl
+text_is U64ToU64 text = refl
+text_is U64ToText text = refl
+text_is TextToU32 text = refl
+text_is TextToU64 text = refl
+text_is TextToText text = refl
+
+-- a number of 32 bits has its four own bytes
+pub narrow_is : (value : ℕ) → value < 4294967296 → narrow value ≡ Some (to_le_bytes w32 value)
+narrow_is value low = rw (lt-ltb value 4294967296 low) refl
+
+module _ (t : MapType) (b : List ℕ) where
+  pub opens : (r : Result ℕ Refusal) → IfOk r (λ at. at ≡ own_at (kind_of t) b) → IfOk r (λ at. IsTrue (stands (kind_of t) b at))
+      → IfOk r (λ at. IsArchiveOf (kind_of t) b (entries_at t b at)) → ((m : (kind_of t).Value) → IsArchiveOf (kind_of t) b m → IsOk r)
+      → IfErr r (IsUnopened (kind_of t) (RefusesMap (key_kind t) (value_kind t) 5) b) → Opens t b r
+  opens (Ok at) position stood archive all refused = record { position = position; stands = stood; archive = archive }
+  opens (Err e) position stood archive all refused = (refused, λ m is. no_ok e (all m is))
+
+  pub opens_strict : (r : Result ℕ Refusal) → IfOk r (λ at. at ≡ own_at (kind_of t) b) → IfOk r (λ at. IsTrue (stands (kind_of t) b at))
+      → IfOk r (λ at. IsArchiveOf (kind_of t) b (entries_at t b at)) → IfOk r (λ at. Increasing (key_kind t).order (entries_at t b at))
+      → ((m : (kind_of t).Value) → IsArchiveOf (kind_of t) b m → Increasing (key_kind t).order m → IsOk r)
+      → IfErr r (IsUnopened (kind_of t) (RefusesStrict (key_kind t) (value_kind t) 5) b) → OpensStrict t b r
+  opens_strict (Ok at) position stood archive increasing all refused = (record { position = position; stands = stood; archive = archive }, increasing)
+  opens_strict (Err e) position stood archive increasing all refused = (refused, λ m is up. no_ok e (all m is up))
+
+  -- what a key and a value at a position are
+  abbrev key_at_place : List ℕ → ℕ → BtreeItem → Type 0
+  key_at_place c at item = IsKey c t ((key_kind t).read c at) item
+
+  abbrev value_at_place : List ℕ → ℕ → BtreeItem → Type 0
+  value_at_place c at item = IsValue c t ((value_kind t).read c at) item
+
+  abbrev means : ℕ × ℕ → (key_kind t).Value × (value_kind t).Value
+  means = entry_at (key_kind t) (value_kind t) 5 b
+
+  pub finds : (o : Option (ℕ × ℕ)) (r : Option BtreeEntry) → IsEitherPlace (key_kind t) (value_kind t) key_at_place value_at_place b o r → IsEither t b (option_map means o) r
+  finds None None h = tt
+  finds None (Some e) h = absurd h
+  finds (Some p) None h = absurd h
+  finds (Some p) (Some e) h = record { key = h.key; value = h.value }
+
+  parts : (places : List (ℕ × ℕ)) (es : List BtreeEntry) (later : List (ℕ × ℕ)) → AreShown (key_kind t) (value_kind t) key_at_place value_at_place b places es later
+      → (taken : List ((key_kind t).Value × (value_kind t).Value)) × (map means places ≡ taken ++ map means later) × AreEntries t b taken es
+  parts places [] later h = ([], ap (map means) h, tt)
+  parts [] (x ∷ es) later h = absurd h
+  parts (p ∷ ps) (x ∷ es) later h =
+      let r = parts ps es later h.1 in
+      (means p ∷ r.0, ap (λ l. means p ∷ l) r.1, (record { key = h.0.key; value = h.0.value }, r.2))
+
+  pub batches : (places later : List (ℕ × ℕ)) (out : List BtreeEntry) (r : Option ℕ) → IfSome r (λ n. n ≤ length out)
+      → IfSome r (λ n. AreShown (key_kind t) (value_kind t) key_at_place value_at_place b places (take n out) later)
+      → IfSome r (λ n. n < length out → later ≡ []) → IfSome r (IsBatch t b (map means places) (map means later) out)
+  batches places later out None room shown last = tt
+  batches places later out (Some n) room shown last =
+      let r = parts places (take n out) later shown in
+      record { taken = r.0; parts = r.1; entries = r.2; room = room; last = λ less. ap (map means) (last less) }

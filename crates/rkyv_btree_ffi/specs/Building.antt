@@ -1,0 +1,109 @@
+-- What building an archive for C does.
+use Rattle.std.specs.Prelude.{◌≡◌, ℕ, ◌<◌, ◌≤◌, List, ◌∷◌, length, map, drop, Result, Ok, Err, ◌⊎◌, ◌++◌}
+use Rattle.std.specs.List.{All}
+use Rattle.std.specs.declared.alloc.AllocError.{AllocError}
+use Rattle.std.specs.declared.alloc.Global.{Global}
+use Rattle.std.specs.declared.vec.Vec.{Vec}
+use Rattle.std.specs.declared.cmp.Ordering.{Ordering}
+use Rattle.rkyv_btree_base.specs.Archiving.{Archival, IsUnserialised, Serialises}
+use Rattle.rkyv_btree_base.specs.Fault.{Fault}
+use Rattle.rkyv_btree_base.specs.Fault.TheVariants.{Length, LengthOverflow, PositionOverflow, OffsetOverflow, Writer, Memory, Entry, OutOfOrder}
+use Rattle.rkyv_btree_base.specs.Increasing.{Increasing as AreIncreasing, IsOutOfOrder}
+use Rattle.rkyv_btree_base.specs.Serialising.{RootFault}
+use Rattle.rkyv_btree_base.specs.TreeArchival.{tree_archival}
+use Rattle.rkyv_btree_base.specs.Whole.{IsArchiveOf, fresh}
+use Rattle.rkyv_btree_base.specs.Writing.{Writing}
+use Rattle.rkyv_btree_ffi.specs.Items.{IsOfType, item_value, Native, native_value, archival_of}
+use Rattle.rkyv_btree_ffi.specs.MapTypes.{key_type, value_type, key_kind, value_kind, kind_of}
+use Rattle.rkyv_btree_ffi.specs.declared.building.BuildFault.{BuildFault}
+use Rattle.rkyv_btree_ffi.specs.declared.building.BuildFault.TheVariants.{BadItem, Unbuilt}
+use Rattle.rkyv_btree_ffi.specs.declared.order.Order.{Order}
+use Rattle.rkyv_btree_ffi.specs.declared.order.Order.TheVariants.{Increasing}
+use Rattle.rkyv_btree_ffi.specs.declared.item.BtreeEntry.{BtreeEntry}
+use Rattle.rkyv_btree_ffi.specs.declared.map_type.MapType.{MapType}
+
+-- the library stops with a fault when it writes native entries from position 0 on: in their tree, or in the map after it
+abbrev pub StopsWith : {M N R S : Type 0} → Archival M R → Archival N S → List (M × N) → Fault AllocError → Type 0
+StopsWith KA VA natives fault =
+    (left : Writing) × (IsUnserialised (tree_archival 5 KA VA (λ xs. xs)) natives fresh fault left
+    ⊎ ((root : ℕ) × (mid : Writing) × Serialises (tree_archival 5 KA VA (λ xs. xs)) natives fresh mid root × RootFault root (length natives) mid fault left))
+
+-- the entry at an index is the first that isn't of the map's type
+pub record IsFirstBad (IsOf : BtreeEntry → Type 0) (entries : List BtreeEntry) (index : ℕ) : Type 0 where
+  pub front : List BtreeEntry
+  pub entry : BtreeEntry
+  pub back : List BtreeEntry
+  pub parts : entries ≡ front ++ entry ∷ back
+  pub number : index ≡ length front
+  pub good : All IsOf front
+  pub bad : IsOf entry → ⊥
+
+-- of entries of any map: which are of its type, what they mean, and the order of keys
+module _ {A B : Type 0} (IsOf : BtreeEntry → Type 0) (meaning : BtreeEntry → A × B) (key_order : A → A → Ordering) (order : Order)
+    (entries : List BtreeEntry) where
+  -- all entries are of the map's type, and what they mean is archived; their keys increase if they must
+  pub record IsBuiltOf (IsArchived : List (A × B) → Type 0) : Type 0 where
+    pub good : All IsOf entries
+    pub archived : IsArchived (map meaning entries)
+    pub increasing : order ≡ Increasing → AreIncreasing key_order (map meaning entries)
+
+  -- why there is no archive, if it is known where the library stops. Nothing is said of a failed allocation
+  abbrev pub IsUnbuiltOf : (List (A × B) → Fault AllocError → Type 0) → BuildFault → Type 0
+  IsUnbuiltOf Stops (BadItem index) = IsFirstBad IsOf entries index
+  IsUnbuiltOf Stops (Unbuilt (Memory error)) = Unit {0}
+  IsUnbuiltOf Stops (Unbuilt (Writer error)) = Unit {0}
+  IsUnbuiltOf Stops (Unbuilt (OutOfOrder index)) = (order ≡ Increasing) × All IsOf entries × IsOutOfOrder key_order (map meaning entries) index
+  IsUnbuiltOf Stops (Unbuilt LengthOverflow) = All IsOf entries × Stops (map meaning entries) LengthOverflow
+  IsUnbuiltOf Stops (Unbuilt PositionOverflow) = All IsOf entries × Stops (map meaning entries) PositionOverflow
+  IsUnbuiltOf Stops (Unbuilt OffsetOverflow) = All IsOf entries × Stops (map meaning entries) OffsetOverflow
+  IsUnbuiltOf Stops (Unbuilt (Length mismatch)) = ⊥
+  IsUnbuiltOf Stops (Unbuilt (Entry fault)) = ⊥
+
+module _ (t : MapType) (texts : List ℕ) where
+  -- an entry that C hands in is of the map's type
+  abbrev pub IsEntryOf : BtreeEntry → Type 0
+  IsEntryOf e = IsOfType (key_type t) texts e.key × IsOfType (value_type t) texts e.value
+
+  -- the key and the value that it is
+  abbrev pub given : BtreeEntry → (key_kind t).Value × (value_kind t).Value
+  given e = (item_value (key_type t) texts e.key, item_value (value_type t) texts e.value)
+
+-- the library stops with a fault when it archives native entries that mean these
+abbrev pub Stops : (t : MapType) → List ((key_kind t).Value × (value_kind t).Value) → Fault AllocError → Type 0
+Stops t entries fault =
+    (natives : List (Native (key_type t) × Native (value_type t)))
+    × (map (λ x. (native_value (key_type t) x.0, native_value (value_type t) x.1)) natives ≡ entries)
+    × StopsWith (archival_of (key_type t)) (archival_of (value_type t)) natives fault
+
+-- the bytes are the archive of the entries that C hands in
+abbrev pub IsBuilt : MapType → Order → List ℕ → List BtreeEntry → List ℕ → Type 0
+IsBuilt t order texts entries bytes = IsBuiltOf (IsEntryOf t texts) (given t texts) (key_kind t).order order entries (IsArchiveOf (kind_of t) bytes)
+
+-- why they have none
+abbrev pub IsUnbuilt : MapType → Order → List ℕ → List BtreeEntry → BuildFault → Type 0
+IsUnbuilt t order texts entries = IsUnbuiltOf (IsEntryOf t texts) (given t texts) (key_kind t).order order entries (Stops t)
+
+-- the archive of the entries that C hands in, by its bytes, or why there is none
+abbrev pub Archives : MapType → Order → List ℕ → List BtreeEntry → Result (Vec ℕ Global) BuildFault → Type 0
+Archives t order texts entries (Ok archive) = IsBuilt t order texts entries archive.items
+Archives t order texts entries (Err fault) = IsUnbuilt t order texts entries fault
+
+-- the code of an error of building
+abbrev pub code_of : BuildFault → ℕ
+code_of (BadItem index) = 36
+code_of (Unbuilt LengthOverflow) = 32
+code_of (Unbuilt PositionOverflow) = 33
+code_of (Unbuilt OffsetOverflow) = 34
+code_of (Unbuilt (Writer error)) = 35
+code_of (Unbuilt (Memory error)) = 35
+code_of (Unbuilt (OutOfOrder index)) = 37
+code_of (Unbuilt (Length mismatch)) = 36
+code_of (Unbuilt (Entry fault)) = 36
+
+-- an archive is written, and its length; or there is no room for it, and nothing is written but its length; or there is none, and
+-- nothing is written
+abbrev pub Puts : Result (Vec ℕ Global) BuildFault → List ℕ → List ℕ → ℕ → ℕ → ℕ → Type 0
+Puts (Ok archive) old new old_len len code =
+    (len ≡ length archive.items)
+    × (((code ≡ 0) × (len ≤ length old) × (new ≡ archive.items ++ drop len old)) ⊎ ((code ≡ 38) × (length old < len) × (new ≡ old)))
+Puts (Err fault) old new old_len len code = (code ≡ code_of fault) × (new ≡ old) × (len ≡ old_len)

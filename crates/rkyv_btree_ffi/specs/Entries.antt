@@ -1,0 +1,124 @@
+-- What C is given of the entries of a map: of a lookup, and of a batch.
+use Rattle.std.specs.Prelude.{◌≡◌, ℕ, ◌≤◌, ◌<◌, List, [], ◌∷◌, ◌++◌, length, take, Option, Some, None}
+use Rattle.std.specs.Cmp.Lexicographic.{slice_cmp}
+use Rattle.std.specs.Ordering.{nat_cmp}
+use Rattle.std.specs.declared.cmp.Ordering.{Ordering}
+use Rattle.std.specs.declared.cmp.Ordering.TheVariants.{Less}
+use Rattle.std.specs.declared.ops.Bound.TheVariants.{Included, Unbounded}
+use Rattle.rkyv_btree.specs.Bounds.{IsRun, IsWithin}
+use Rattle.rkyv_btree.specs.Lookup.{found_at}
+use Rattle.rkyv_btree_ffi.specs.Items.{IsNumberItem, IsTextItem}
+use Rattle.rkyv_btree_ffi.specs.MapTypes.{key_kind, value_kind, entries_at}
+use Rattle.rkyv_btree_ffi.specs.Queries.{number_answer, text_answer}
+use Rattle.rkyv_btree_ffi.specs.declared.item.BtreeItem.{BtreeItem}
+use Rattle.rkyv_btree_ffi.specs.declared.item.BtreeEntry.{BtreeEntry}
+use Rattle.rkyv_btree_ffi.specs.declared.query.Query.{Query}
+use Rattle.rkyv_btree_ffi.specs.declared.map_type.MapType.{MapType}
+use Rattle.rkyv_btree_ffi.specs.declared.map_type.MapType.TheVariants.{U32ToU32, U32ToU64, U32ToText, U64ToU32, U64ToU64, U64ToText}
+use Rattle.rkyv_btree_ffi.specs.declared.map_type.MapType.TheVariants.{TextToU32, TextToU64, TextToText}
+
+-- what comparing a query with a key gives
+abbrev pub answer : (t : MapType) → Query → (key_kind t).Value → Ordering
+answer U32ToU32 = number_answer
+answer U32ToU64 = number_answer
+answer U32ToText = number_answer
+answer U64ToU32 = number_answer
+answer U64ToU64 = number_answer
+answer U64ToText = number_answer
+answer TextToU32 = text_answer
+answer TextToU64 = text_answer
+answer TextToText = text_answer
+
+-- what comparing a number with a key gives; it is before every text
+abbrev pub by_number : (t : MapType) → ℕ → (key_kind t).Value → Ordering
+by_number U32ToU32 n = nat_cmp n
+by_number U32ToU64 n = nat_cmp n
+by_number U32ToText n = nat_cmp n
+by_number U64ToU32 n = nat_cmp n
+by_number U64ToU64 n = nat_cmp n
+by_number U64ToText n = nat_cmp n
+by_number TextToU32 n = λ key. Less
+by_number TextToU64 n = λ key. Less
+by_number TextToText n = λ key. Less
+
+-- what comparing a text with a key gives; it is before every number
+abbrev pub by_text : (t : MapType) → List ℕ → (key_kind t).Value → Ordering
+by_text U32ToU32 text = λ key. Less
+by_text U32ToU64 text = λ key. Less
+by_text U32ToText text = λ key. Less
+by_text U64ToU32 text = λ key. Less
+by_text U64ToU64 text = λ key. Less
+by_text U64ToText text = λ key. Less
+by_text TextToU32 text = slice_cmp nat_cmp text
+by_text TextToU64 text = slice_cmp nat_cmp text
+by_text TextToText text = slice_cmp nat_cmp text
+
+module _ (b : List ℕ) where
+  -- an item is this key
+  abbrev pub IsKey : (t : MapType) → (key_kind t).Value → BtreeItem → Type 0
+  IsKey U32ToU32 key item = IsNumberItem key item
+  IsKey U32ToU64 key item = IsNumberItem key item
+  IsKey U32ToText key item = IsNumberItem key item
+  IsKey U64ToU32 key item = IsNumberItem key item
+  IsKey U64ToU64 key item = IsNumberItem key item
+  IsKey U64ToText key item = IsNumberItem key item
+  IsKey TextToU32 key item = IsTextItem b key item
+  IsKey TextToU64 key item = IsTextItem b key item
+  IsKey TextToText key item = IsTextItem b key item
+
+  -- an item is this value
+  abbrev pub IsValue : (t : MapType) → (value_kind t).Value → BtreeItem → Type 0
+  IsValue U32ToU32 value item = IsNumberItem value item
+  IsValue U32ToU64 value item = IsNumberItem value item
+  IsValue U32ToText value item = IsTextItem b value item
+  IsValue U64ToU32 value item = IsNumberItem value item
+  IsValue U64ToU64 value item = IsNumberItem value item
+  IsValue U64ToText value item = IsTextItem b value item
+  IsValue TextToU32 value item = IsNumberItem value item
+  IsValue TextToU64 value item = IsNumberItem value item
+  IsValue TextToText value item = IsTextItem b value item
+
+module _ (t : MapType) (b : List ℕ) where
+  -- C has this entry
+  pub record IsEntry (e : (key_kind t).Value × (value_kind t).Value) (entry : BtreeEntry) : Type 0 where
+    pub key : IsKey b t e.0 entry.key
+    pub value : IsValue b t e.1 entry.value
+
+  -- one after the other
+  abbrev pub AreEntries : List ((key_kind t).Value × (value_kind t).Value) → List BtreeEntry → Type 0
+  AreEntries [] [] = Unit {0}
+  AreEntries [] (entry ∷ entries) = ⊥
+  AreEntries (e ∷ es) [] = ⊥
+  AreEntries (e ∷ es) (entry ∷ entries) = IsEntry e entry × AreEntries es entries
+
+  -- the entry that a lookup in the map at a position finds, if it finds one
+  abbrev pub IsEither : Option ((key_kind t).Value × (value_kind t).Value) → Option BtreeEntry → Type 0
+  IsEither None None = Unit {0}
+  IsEither None (Some entry) = ⊥
+  IsEither (Some e) None = ⊥
+  IsEither (Some e) (Some entry) = IsEntry e entry
+
+  abbrev pub FindsEntry : ℕ → ((key_kind t).Value → Ordering) → Option BtreeEntry → Type 0
+  FindsEntry at asked found = IsEither (found_at (key_kind t) (value_kind t) 5 b at asked) found
+
+  -- C has the entry that was found, or the code that there is none
+  abbrev pub Gives : Option ((key_kind t).Value × (value_kind t).Value) → ℕ → BtreeEntry → Type 0
+  Gives None code entry = code ≡ 18
+  Gives (Some e) code entry = (code ≡ 0) × IsEntry e entry
+
+  -- of the map at a position, that is the entry that a lookup finds
+  abbrev pub LooksUp : ℕ → ((key_kind t).Value → Ordering) → ℕ → BtreeEntry → Type 0
+  LooksUp at asked code entry = Gives (found_at (key_kind t) (value_kind t) 5 b at asked) code entry
+
+  -- the first entries of a list were written, and the others are left: none if there was more room
+  pub record IsBatch (old new : List ((key_kind t).Value × (value_kind t).Value)) (out : List BtreeEntry) (written : ℕ) : Type 0 where
+    pub taken : List ((key_kind t).Value × (value_kind t).Value)
+    pub parts : old ≡ taken ++ new
+    pub entries : AreEntries taken (take written out)
+    pub room : written ≤ length out
+    pub last : written < length out → new ≡ []
+
+  -- these entries of the map at a position are left from a query on: contiguous ones; if the keys are sorted for it, all from it on
+  pub record IsFrom (at : ℕ) (asked : (key_kind t).Value → Ordering) (left : List ((key_kind t).Value × (value_kind t).Value)) : Type 0 where
+    pub run : IsRun left (entries_at t b at)
+    pub within : IsWithin (Included asked) Unbounded (entries_at t b at) left

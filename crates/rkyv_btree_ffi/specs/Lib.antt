@@ -1,0 +1,11 @@
+pub mod Batches
+pub mod Building
+pub mod Codes
+pub mod Editing
+pub mod Entries
+pub mod Items
+pub mod MapTypes
+pub mod Messages
+pub mod Opening
+pub mod Queries
+pub mod mirror

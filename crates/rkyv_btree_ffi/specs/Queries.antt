@@ -1,0 +1,16 @@
+-- What comparing a key that C looks for with a key of a map gives. A query is before every key of another type.
+use Rattle.std.specs.Prelude.{ℕ, List}
+use Rattle.std.specs.Ordering.{nat_cmp}
+use Rattle.std.specs.Cmp.Lexicographic.{slice_cmp}
+use Rattle.std.specs.declared.cmp.Ordering.{Ordering}
+use Rattle.std.specs.declared.cmp.Ordering.TheVariants.{Less}
+use Rattle.rkyv_btree_ffi.specs.declared.query.Query.{Query}
+use Rattle.rkyv_btree_ffi.specs.declared.query.Query.TheVariants.{Number, Text}
+
+abbrev pub number_answer : Query → ℕ → Ordering
+number_answer (Number n) key = nat_cmp n key
+number_answer (Text text) key = Less
+
+abbrev pub text_answer : Query → List ℕ → Ordering
+text_answer (Number n) key = Less
+text_answer (Text text) key = slice_cmp nat_cmp text.now key

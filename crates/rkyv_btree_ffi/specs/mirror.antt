@@ -1,0 +1,4 @@
+pub mod Cursors
+pub mod Left
+pub mod Natives
+pub mod Places

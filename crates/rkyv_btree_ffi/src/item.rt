@@ -1,0 +1,120 @@
+//! Keys and values as C has them.
+ghost use Rattle.std.specs.Prelude.{◌≡◌, ℕ, List};
+ghost use Rattle.std.specs.declared.cmp.Ordering.{Ordering as Answer};
+ghost use Rattle.rkyv_btree_base.specs.Scalars.{u32_kind, u64_kind};
+ghost use Rattle.rkyv_btree_base.specs.Text.{text_kind};
+ghost use Rattle.rkyv_btree_ffi.specs.Items.{IsNumberItem, IsTextItem};
+ghost use Rattle.rkyv_btree_ffi.specs.Queries.{number_answer, text_answer};
+ghost use Rattle.rkyv_btree_ffi.specs.declared.item.BtreeItem.{BtreeItem};
+ghost use Rattle.rkyv_btree_ffi.specs.declared.query.Query.{Query};
+
+use crate::query::Query;
+use rkyv_btree::compare::ViewOrd;
+use rkyv_btree::view::View;
+use rkyv_btree_base::bytes::num32;
+use rkyv_btree_base::check::CheckBytes;
+use rkyv_btree_base::numbers::{ArchivedU32, ArchivedU64};
+use rkyv_btree_base::text::ArchivedText;
+use rkyv_btree_portable::bytes::pointed_at;
+use std::cmp::Ordering;
+
+/// A key or a value: a number, or a text by its place in a buffer.
+#[repr(C)]
+#[derive(Clone, Copy, Debug, PartialEq, Eq)]
+pub struct BtreeItem {
+    /// The number. That of a text is 0.
+    pub number: u64,
+    /// Where the text begins. That of a number is 0.
+    pub start: u32,
+    /// How many bytes the text has. That of a number is 0.
+    pub len: u32,
+}
+
+/// A key and its value.
+#[repr(C)]
+#[derive(Clone, Copy, Debug, PartialEq, Eq)]
+pub struct BtreeEntry {
+    pub key: BtreeItem,
+    pub value: BtreeItem,
+}
+
+/// A type of keys and values that C reads.
+pub trait Shown: CheckBytes + ViewOrd {
+    /// An item shows what is stored at a position of a buffer.
+    ghost ShowsAt: { List ℕ → ℕ → BtreeItem → Type 0 };
+
+    /// What comparing a query with what is stored at a position of a buffer gives.
+    ghost answered_at: { Query → List ℕ → ℕ → Answer };
+
+    /// Returns the item of a view.
+    fn item(view: &View<'_, Self>) -> BtreeItem
+        ensures { ShowsAt view.now.buf.now view.now.pos result };
+
+    /// Compares a query with a view.
+    fn answer(query: &Query<'_>, view: &View<'_, Self>) -> Ordering
+        ensures { result ≡ answered_at query.now view.now.buf.now view.now.pos };
+}
+
+impl Shown for ArchivedU32 {
+    ghost ShowsAt = { λ b at item. IsNumberItem (u32_kind.read b at) item };
+
+    ghost answered_at = { λ query b at. number_answer query (u32_kind.read b at) };
+
+    fn item(view: &View<'_, ArchivedU32>) -> BtreeItem {
+        BtreeItem {
+            number: u64::from(view.to_native()),
+            start: 0,
+            len: 0,
+        }
+    }
+
+    fn answer(query: &Query<'_>, view: &View<'_, ArchivedU32>) -> Ordering {
+        match query {
+            Query::Number(number) => (*number).cmp(&u64::from(view.to_native())),
+            Query::Text(_) => Ordering::Less,
+        }
+    }
+}
+
+impl Shown for ArchivedU64 {
+    ghost ShowsAt = { λ b at item. IsNumberItem (u64_kind.read b at) item };
+
+    ghost answered_at = { λ query b at. number_answer query (u64_kind.read b at) };
+
+    fn item(view: &View<'_, ArchivedU64>) -> BtreeItem {
+        BtreeItem {
+            number: view.to_native(),
+            start: 0,
+            len: 0,
+        }
+    }
+
+    fn answer(query: &Query<'_>, view: &View<'_, ArchivedU64>) -> Ordering {
+        match query {
+            Query::Number(number) => (*number).cmp(&view.to_native()),
+            Query::Text(_) => Ordering::Less,
+        }
+    }
+}
+
+impl Shown for ArchivedText {
+    ghost ShowsAt = { λ b at item. IsTextItem b (text_kind.read b at) item };
+
+    ghost answered_at = { λ query b at. text_answer query (text_kind.read b at) };
+
+    fn item(view: &View<'_, ArchivedText>) -> BtreeItem {
+        // A view stands on a text whose bytes lie before it.
+        BtreeItem {
+            number: 0,
+            start: pointed_at(view.buf, view.pos) as u32,
+            len: num32(view.buf, view.pos + 4),
+        }
+    }
+
+    fn answer(query: &Query<'_>, view: &View<'_, ArchivedText>) -> Ordering {
+        match query {
+            Query::Number(_) => Ordering::Less,
+            Query::Text(text) => (*text).cmp(view.as_str().as_bytes()),
+        }
+    }
+}

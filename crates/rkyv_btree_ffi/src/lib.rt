@@ -1,0 +1,17 @@
+//! Archived maps for C.
+#![tactic(auto)]
+
+mod at_type;
+pub mod building;
+pub mod codes;
+pub mod cursor;
+pub mod editing;
+pub mod given;
+pub mod handle;
+pub mod item;
+pub mod map_type;
+pub mod messages;
+pub mod opening;
+pub mod order;
+pub mod query;
+pub mod reading;

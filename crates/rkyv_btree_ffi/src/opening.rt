@@ -1,0 +1,191 @@
+//! Maps that C opens.
+ghost use Rattle.std.specs.Prelude.{◌≡◌, ◌<◌, ℕ, IsTrue, IfOk, IfErr, IsOk, None, Some, length};
+ghost use Rattle.rkyv_btree_base.specs.Increasing.{Increasing};
+ghost use Rattle.rkyv_btree_base.specs.Layout.{are_fitting};
+ghost use Rattle.rkyv_btree_base.specs.Map.{map_kind};
+ghost use Rattle.rkyv_btree_base.specs.Read.{read_map};
+ghost use Rattle.rkyv_btree_base.specs.Refusals.{RefusesMap};
+ghost use Rattle.rkyv_btree_base.specs.Views.{stands};
+ghost use Rattle.rkyv_btree_base.specs.Whole.{IsArchiveOf, own_at};
+ghost use Rattle.rkyv_btree.specs.Strict.{RefusesStrict};
+ghost use Rattle.rkyv_btree.specs.Whole.{IsUnopened};
+ghost use Rattle.rkyv_btree_ffi.specs.Codes.{refusal_for};
+ghost use Rattle.rkyv_btree_ffi.specs.MapTypes.{type_of, kind_of, key_kind, value_kind, entries_at, IfType};
+ghost use Rattle.rkyv_btree_ffi.specs.Opening.{IsOpened, Opens, OpensAs, OpensStrict};
+
+use crate::at_type;
+use crate::codes::{BAD_TYPE, BtreeRefusal, NOT_OPEN, OK, refusal_of};
+use crate::handle::BtreeMap;
+use crate::map_type::MapType;
+use crate::order::Order;
+use rkyv_btree::compare::ViewOrd;
+use rkyv_btree::strict::open_strict;
+use rkyv_btree::view::View;
+use rkyv_btree::whole::open;
+use rkyv_btree_base::check::CheckBytes;
+use rkyv_btree_base::map::ArchivedBTreeMap;
+use rkyv_btree_base::numbers::{ArchivedU32, ArchivedU64};
+use rkyv_btree_base::refusal::Refusal;
+use rkyv_btree_base::text::ArchivedText;
+use std::marker::PhantomData;
+
+/// Returns the position of the map of a whole archive.
+fn opened<K: CheckBytes, V: CheckBytes>(bytes: &[u8]) -> Result<u32, Refusal>
+    requires { IsTrue (are_fitting K.kind V.kind 5) }
+    ensures position { IfOk result (λ pos. pos ≡ own_at (map_kind K.kind V.kind 5) bytes.now) }
+    ensures stands { IfOk result (λ pos. IsTrue (stands (map_kind K.kind V.kind 5) bytes.now pos)) }
+    ensures archive { IfOk result (λ pos. IsArchiveOf (map_kind K.kind V.kind 5) bytes.now
+        (read_map K.kind V.kind 5 bytes.now pos)) }
+    ensures all_archives { (m : _) → IsArchiveOf (map_kind K.kind V.kind 5) bytes.now m →
+        IsOk result }
+    ensures refused { IfErr result (IsUnopened (map_kind K.kind V.kind 5)
+        (RefusesMap K.kind V.kind 5) bytes.now) }
+{
+    match open::<ArchivedBTreeMap<K, V, 5>>(bytes) {
+        Ok(map) => Ok(map.pos),
+        Err(refusal) => Err(refusal),
+    }
+}
+
+/// Returns the position of the map of a whole archive, if its keys increase.
+fn opened_strict<K: CheckBytes + ViewOrd, V: CheckBytes>(bytes: &[u8]) -> Result<u32, Refusal>
+    requires { IsTrue (are_fitting K.kind V.kind 5) }
+    ensures position { IfOk result (λ pos. pos ≡ own_at (map_kind K.kind V.kind 5) bytes.now) }
+    ensures stands { IfOk result (λ pos. IsTrue (stands (map_kind K.kind V.kind 5) bytes.now pos)) }
+    ensures archive { IfOk result (λ pos. IsArchiveOf (map_kind K.kind V.kind 5) bytes.now
+        (read_map K.kind V.kind 5 bytes.now pos)) }
+    ensures increasing { IfOk result (λ pos. Increasing K.kind.order
+        (read_map K.kind V.kind 5 bytes.now pos)) }
+    ensures all_archives { (m : _) → IsArchiveOf (map_kind K.kind V.kind 5) bytes.now m →
+        Increasing K.kind.order m → IsOk result }
+    ensures refused { IfErr result (IsUnopened (map_kind K.kind V.kind 5)
+        (RefusesStrict K.kind V.kind 5) bytes.now) }
+{
+    match open_strict::<K, V, 5>(bytes) {
+        Ok(map) => Ok(map.view.pos),
+        Err(refusal) => Err(refusal),
+    }
+}
+
+/// Returns the position of the map of a type of a whole archive.
+pub(crate) fn opened_at(map_type: MapType, bytes: &[u8]) -> Result<u32, Refusal>
+    ensures { Opens map_type bytes.now result }
+{
+    at_type!(map_type, opened(bytes))
+}
+
+/// Returns the position of the map of a type of a whole archive, if its keys increase.
+fn opened_strict_at(map_type: MapType, bytes: &[u8]) -> Result<u32, Refusal>
+    ensures { OpensStrict map_type bytes.now result }
+{
+    at_type!(map_type, opened_strict(bytes))
+}
+
+/// Returns the position of the map of a type of a whole archive, if its keys are in an order.
+fn opened_as(map_type: MapType, order: Order, bytes: &[u8]) -> Result<u32, Refusal>
+    ensures opens { OpensAs map_type bytes.now order result }
+    ensures stands { IfOk result (λ pos. IsTrue (stands (kind_of map_type) bytes.now pos)) }
+{
+    match order {
+        Order::Any => opened_at(map_type, bytes),
+        Order::Increasing => opened_strict_at(map_type, bytes),
+    }
+}
+
+/// Opens the map of a whole archive, if its keys are in an order. After a refusal the map is closed.
+fn open_as<'a>(
+    map: &mut BtreeMap<'a>,
+    map_type: u32,
+    order: Order,
+    buf: &'a [u8],
+    refusal: &mut BtreeRefusal,
+) -> u32
+    ensures opens { IfType map_type (λ t. (found : _) × OpensAs t buf.now order found
+        × IsOpened t buf.now found map.new refusal.new result) }
+    ensures no_type { type_of map_type ≡ None → (result ≡ 17) × (map.new.map_type ≡ 0) }
+{
+    *map = BtreeMap {
+        buf: &[],
+        pos: 0,
+        map_type: 0,
+    };
+    let Some(at) = MapType::from_number(map_type) else {
+        return BAD_TYPE;
+    };
+    match opened_as(at, order, buf) {
+        Ok(pos) => {
+            *map = BtreeMap { buf, pos, map_type };
+            OK
+        }
+        Err(why) => {
+            *refusal = refusal_of(why);
+            refusal.code
+        }
+    }
+}
+
+/// Opens the map of a whole archive. After a refusal the map is closed.
+#[unsafe(no_mangle)]
+pub extern "C" fn rkyv_btree_open<'a>(
+    map: &mut BtreeMap<'a>,
+    map_type: u32,
+    buf: &'a [u8],
+    refusal: &mut BtreeRefusal,
+) -> u32
+    ensures opens { IfType map_type (λ t. (found : _) × Opens t buf.now found
+        × IsOpened t buf.now found map.new refusal.new result) }
+    ensures no_type { type_of map_type ≡ None → (result ≡ 17) × (map.new.map_type ≡ 0) }
+{
+    open_as(map, map_type, Order::Any, buf, refusal)
+}
+
+/// Opens the map of a whole archive, if its keys increase. After a refusal the map is closed.
+#[unsafe(no_mangle)]
+pub extern "C" fn rkyv_btree_open_strict<'a>(
+    map: &mut BtreeMap<'a>,
+    map_type: u32,
+    buf: &'a [u8],
+    refusal: &mut BtreeRefusal,
+) -> u32
+    ensures opens { IfType map_type (λ t. (found : _) × OpensStrict t buf.now found
+        × IsOpened t buf.now found map.new refusal.new result) }
+    ensures no_type { type_of map_type ≡ None → (result ≡ 17) × (map.new.map_type ≡ 0) }
+{
+    open_as(map, map_type, Order::Increasing, buf, refusal)
+}
+
+/// Returns the number of entries of the map at `pos`.
+fn count<K: CheckBytes, V: CheckBytes>(buf: &[u8], pos: u32) -> u32
+    requires { IsTrue (stands (map_kind K.kind V.kind 5) buf.now pos) }
+    ensures { result ≡ length (read_map K.kind V.kind 5 buf.now pos) }
+{
+    let map: View<'_, ArchivedBTreeMap<K, V, 5>> = View {
+        buf,
+        pos,
+        of: PhantomData,
+    };
+    map.len() as u32
+}
+
+/// Returns the number of entries of the map of a type at `pos`.
+fn count_at(map_type: MapType, buf: &[u8], pos: u32) -> u32
+    requires { IsTrue (stands (kind_of map_type) buf.now pos) }
+    ensures { result ≡ length (entries_at map_type buf.now pos) }
+{
+    at_type!(map_type, count(buf, pos))
+}
+
+/// Writes the number of entries of an open map.
+#[unsafe(no_mangle)]
+pub extern "C" fn rkyv_btree_len(map: &BtreeMap<'_>, len_out: &mut u32) -> u32
+    ensures len { IfType map.now.map_type (λ t. (result ≡ 0)
+        × (len_out.new ≡ length (entries_at t map.now.buf.now map.now.pos))) }
+    ensures kept { 0 < result → len_out.new ≡ len_out.old }
+    ensures closed { type_of map.now.map_type ≡ None → result ≡ 16 }
+{
+    let Some(map_type) = MapType::from_number(map.map_type) else {
+        return NOT_OPEN;
+    };
+    *len_out = count_at(map_type, map.buf, map.pos);
+    OK
+}

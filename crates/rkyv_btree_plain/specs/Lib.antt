@@ -1,0 +1,3 @@
+-- The definitions over which types of one's own are stated.
+pub mod PlainValues
+pub mod laws

@@ -1,9 +1,0 @@
--- What the search finds is an entry of the map.
-use Rattle.std.proofs.Common.{ap, ◌∙◌, rules}
-use Rattle.rkyv_btree_seal.proofs.Found.{finds_place}
-use Rattle.rkyv_btree_seal.proofs.map.MapSeal.find.Goals as goal
-
-pub returns : goal.returns
-returns g c =
-    let found = c.search-found.ensures.found (λ q k. g.K.Portable.kind.order (g.K.Portable.kind.read q.buf.now q.pos) k) (λ q w r e. search rules) in
-    finds_place g.K.Portable.kind g.V.Portable.kind g.M.ArchivedMap.E c.args.self.now.buf.now c.args.self.now.pos _ _ (c.found_place.ensures ∙ ap (λ r. r.0) found)

@@ -1,0 +1,3 @@
+-- What lookups promise in a source of bytes that isn't read whole.
+pub mod Reading
+pub mod mirror

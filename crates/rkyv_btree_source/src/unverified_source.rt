@@ -1,0 +1,248 @@
+//! Maps in a source of bytes that nobody has validated.
+ghost use Rattle.std.specs.BTreeMap.{is_at};
+ghost use Rattle.std.specs.Map.{lookup};
+ghost use Rattle.std.specs.Option.{option_map};
+ghost use Rattle.std.specs.Prelude.{◌≡◌, ◌+◌, ◌≤◌, ◌<◌, ℕ, List, Some, None, Ok, Err, IfOk, IfErr, IsTrue, is_some, length};
+ghost use Rattle.rkyv_btree_base.specs.Increasing.{Increasing};
+ghost use Rattle.rkyv_btree_base.specs.Layout.{are_fitting, layout_of, inner_size};
+ghost use Rattle.rkyv_btree_base.specs.Map.{map_kind};
+ghost use Rattle.rkyv_btree_base.specs.Refusal.TheVariants.{TooLong};
+ghost use Rattle.rkyv_btree_base.specs.Whole.{own_at};
+ghost use Rattle.rkyv_btree_source.specs.Reading.{IfRefused, IsCaused, most_read};
+ghost use Rattle.rkyv_btree_unverified.specs.Lookups.{FindsAt, LookupGives};
+ghost use Rattle.rkyv_btree_unverified.specs.Steps.{value_place};
+ghost use Rattle.rkyv_btree_view.specs.Lookup.{ByNative};
+ghost use Rattle.rkyv_btree_view.specs.Map.{IsMap};
+ghost use Rattle.rkyv_btree_view.specs.View.{reads};
+
+use crate::fetch::Fetch;
+use crate::reader::Reader;
+use crate::source::ReadAt;
+use crate::source_fault::SourceFault;
+use crate::source_search::search;
+use rkyv_btree_base::check::Portable;
+use rkyv_btree_base::refusal::Refusal;
+use rkyv_btree_unverified::unverified_node::inner_size;
+use rkyv_btree_view::compare_native::CompareWith;
+use rkyv_btree_view::view::View;
+use rkyv_btree_walk::archived_map::ArchivedMap;
+use rkyv_btree_walk::shows::Shows;
+use std::marker::PhantomData;
+
+/// A position in a source of bytes, at which lookups look for a map or a set of type `M`. Each lookup reads the map's own bytes,
+/// one node a level, the texts that it compares, and the value that it finds. It validates what it reads.
+///
+/// `Ok(None)` doesn't mean that the key is absent, since the bytes may be no map.
+#[derive(Drop)]
+pub struct UnverifiedSource<S, M: ArchivedMap> {
+    /// The source, and how many more bytes all lookups together may read.
+    pub reader: Reader<S>,
+    pub pos: u32,
+    pub of: PhantomData<M>,
+    // So a lookup asks nothing of its caller.
+    pub ghost fitting: { IsTrue (are_fitting M.Key.kind M.Mapped.kind M.E) },
+}
+
+impl<S: ReadAt, K: Portable, V: Portable, M: ArchivedMap<Key = K, Mapped = V>> UnverifiedSource<
+    S,
+    M,
+> {
+    /// Returns the position `pos` of a source, of which all lookups together may read `budget` bytes. Nothing is read.
+    pub fn new(source: S, pos: u32, budget: u64) -> UnverifiedSource<S, M>
+        requires { IsTrue (are_fitting K.kind V.kind M.E) }
+        ensures source { result.reader.source ≡ source }
+        ensures budget { result.reader.left ≡ budget }
+        ensures position { result.pos ≡ pos }
+    {
+        UnverifiedSource {
+            reader: Reader {
+                source,
+                left: budget,
+            },
+            pos,
+            of: PhantomData,
+        }
+    }
+
+    /// Returns the position of the own bytes of a whole archive, which are the last eight of the source. Nothing is read but the
+    /// number of bytes.
+    ///
+    /// # Errors
+    ///
+    /// `Refused(TooLong)` if positions of 32 bits don't reach all bytes; `Read` if the source fails.
+    ///
+    /// # Examples
+    ///
+    /// ```rust
+    /// let source = SeekSource { file };
+    /// let mut prices = UnverifiedSource::<SeekSource<File>, Prices>::open(source, BUDGET)?;
+    /// ```
+    pub fn open(source: S, budget: u64) -> Result<UnverifiedSource<S, M>, SourceFault<S::Error>>
+    where
+        S: Drop,
+        requires { IsTrue (are_fitting K.kind V.kind M.E) }
+        ensures source { IfOk result (λ map. S.bytes map.reader.source ≡ S.bytes source) }
+        ensures budget { IfOk result (λ map. map.reader.left ≡ budget) }
+        ensures position { (b : List ℕ) → S.bytes source ≡ Some b →
+            IfOk result (λ map. map.pos ≡ own_at (map_kind K.kind V.kind M.E) b) }
+        ensures refused { (b : List ℕ) → S.bytes source ≡ Some b →
+            IfErr result (IfRefused (λ refusal. (refusal ≡ TooLong) × (4294967295 < length b))) }
+    {
+        let mut reader = Reader {
+            source,
+            left: budget,
+        };
+        let size = match reader.size() {
+            Ok(size) => size,
+            Err(fault) => return Err(fault),
+        };
+        let Ok(len) = u32::try_from(size) else {
+            return Err(SourceFault::Refused(Refusal::TooLong));
+        };
+        Ok(UnverifiedSource {
+            reader,
+            pos: len.saturating_sub(8),
+            of: PhantomData,
+        })
+    }
+
+    /// Returns how many more bytes all lookups together may read.
+    pub fn budget_left(&self) -> u64
+        ensures { result ≡ self.now.reader.left }
+    {
+        self.reader.left
+    }
+
+    /// Returns how many bytes of a lent buffer a node takes. Each lookup needs so many, and room for a value and its texts.
+    pub fn node_len() -> u32
+        requires { IsTrue (are_fitting K.kind V.kind M.E) }
+        ensures { result ≡ inner_size (layout_of K.kind V.kind M.E) }
+    {
+        inner_size::<K, V, M>()
+    }
+}
+
+impl<S: ReadAt, K: Fetch, V: Fetch, M: ArchivedMap<Key = K, Mapped = V>> UnverifiedSource<S, M> {
+    /// Returns the value of an entry whose key is equal to a native value. What is read goes into `lent`, where the view is.
+    ///
+    /// # Errors
+    ///
+    /// `Refused` is the first fault in what the search reads. `Read` is the source's own error. `NoRoom` says that `lent` is too
+    /// short. It needs `node_len` bytes, and at most as many more as there are up to the map's end, at `pos + 8`. `OverBudget` says
+    /// that the next part has more bytes than the budget has left, which are then fewer than `pos + 8`. No memory is allocated.
+    ///
+    /// # Examples
+    ///
+    /// ```rust
+    /// let mut room = [0u8; 4096];
+    /// match prices.get_by(name.as_str(), &mut room)? {
+    ///     Some(price) => println!(rt; "{name}: {}", price.to_native())?,
+    ///     None => println!(rt; "{name}: not found")?,
+    /// }
+    /// ```
+    pub fn get_by<'r, T: Drop>(
+        &mut self,
+        key: T,
+        lent: &'r mut [u8],
+    ) -> Result<Option<View<'r, V>>, SourceFault<S::Error>>
+    where
+        K: CompareWith<T>,
+        requires { length lent.old ≤ 4294967295 }
+        // What is found reads as the value beside an equal key, which is where the search of the bytes comes to.
+        ensures places { (b : List ℕ) → S.bytes self.old.reader.source ≡ Some b →
+            ByNative K.kind K.compared_at key (λ answer. IfOk result (λ found.
+            FindsAt K.kind V.kind M.E b answer K.Refuses V.Refuses self.old.pos
+            (λ e. V.kind.read b (value_place K.kind V.kind M.E e)) (option_map reads found))) }
+        ensures refused { (b : List ℕ) → S.bytes self.old.reader.source ≡ Some b →
+            ByNative K.kind K.compared_at key (λ answer. IfErr result (IfRefused (λ refusal.
+            LookupGives K.kind V.kind M.E b answer K.Refuses V.Refuses self.old.pos
+            (Err refusal)))) }
+        // In a map nothing is refused, and this is what std's lookup finds.
+        ensures accepts { (b : List ℕ) → S.bytes self.old.reader.source ≡ Some b → (m : _) →
+            IsMap K.kind V.kind M.E b self.old.pos m → IfErr result (IfRefused (λ _. ⊥)) }
+        ensures sorted { (b : List ℕ) → S.bytes self.old.reader.source ≡ Some b → (m : _) →
+            IsMap K.kind V.kind M.E b self.old.pos m → Increasing K.kind.order m →
+            ByNative K.kind K.compared_at key (λ answer.
+            IfOk result (λ found. option_map reads found ≡ lookup (is_at answer) m)) }
+        ensures same { S.bytes self.new.reader.source ≡ S.bytes self.old.reader.source }
+        ensures position { self.new.pos ≡ self.old.pos }
+        ensures budget { self.new.reader.left ≤ self.old.reader.left }
+        // This is what all reads of a lookup take of the budget.
+        ensures spent { self.old.reader.left ≤
+            self.new.reader.left + most_read M.E (self.old.pos + 8) }
+        // No part that is read or needed has more bytes than there are up to the map's end, or in a source
+        // whose bytes are known.
+        ensures caused { IfErr result (IsCaused (self.old.pos + 8)
+            (inner_size (layout_of K.kind V.kind M.E)) (length lent.old) self.new.reader.left) }
+        ensures known { (b : List ℕ) → S.bytes self.old.reader.source ≡ Some b →
+            IfErr result (IsCaused (length b)
+            (inner_size (layout_of K.kind V.kind M.E)) (length lent.old) self.new.reader.left) }
+    {
+        let page_len = inner_size::<K, V, M>();
+        if lent.len() < page_len as usize {
+            return Err(SourceFault::NoRoom {
+                needed: u64::from(page_len),
+            });
+        }
+        let (page, room) = lent.split_at_mut(page_len as usize);
+        match search::<S, T, K, V, M>(self.pos, &key, &mut self.reader, room, page) {
+            Err(SourceFault::Refused(refusal)) => Err(SourceFault::Refused(refusal)),
+            Err(SourceFault::Read(error)) => Err(SourceFault::Read(error)),
+            Err(SourceFault::NoRoom { needed }) => Err(SourceFault::NoRoom {
+                needed: needed.saturating_add(u64::from(page_len)),
+            }),
+            Err(SourceFault::OverBudget) => Err(SourceFault::OverBudget),
+            Ok(None) => Ok(None),
+            Ok(Some(hit)) => Ok(Some(View::<V>::at(room, hit.value))),
+        }
+    }
+
+    /// Returns whether `get_by` finds a value.
+    ///
+    /// # Errors
+    ///
+    /// Those of `get_by`.
+    pub fn contains_by<T: Drop>(
+        &mut self,
+        key: T,
+        lent: &mut [u8],
+    ) -> Result<bool, SourceFault<S::Error>>
+    where
+        K: CompareWith<T>,
+        requires { length lent.old ≤ 4294967295 }
+        // This says whether an equal key is where the search of the bytes comes to.
+        ensures places { (b : List ℕ) → S.bytes self.old.reader.source ≡ Some b →
+            ByNative K.kind K.compared_at key (λ answer. IfOk result (λ found. (entry : _)
+            × LookupGives K.kind V.kind M.E b answer K.Refuses V.Refuses self.old.pos (Ok entry)
+            × (found ≡ is_some entry))) }
+        ensures refused { (b : List ℕ) → S.bytes self.old.reader.source ≡ Some b →
+            ByNative K.kind K.compared_at key (λ answer. IfErr result (IfRefused (λ refusal.
+            LookupGives K.kind V.kind M.E b answer K.Refuses V.Refuses self.old.pos
+            (Err refusal)))) }
+        // In a map nothing is refused, and this is what std's lookup says.
+        ensures accepts { (b : List ℕ) → S.bytes self.old.reader.source ≡ Some b → (m : _) →
+            IsMap K.kind V.kind M.E b self.old.pos m → IfErr result (IfRefused (λ _. ⊥)) }
+        ensures sorted { (b : List ℕ) → S.bytes self.old.reader.source ≡ Some b → (m : _) →
+            IsMap K.kind V.kind M.E b self.old.pos m → Increasing K.kind.order m →
+            ByNative K.kind K.compared_at key (λ answer.
+            IfOk result (λ found. found ≡ is_some (lookup (is_at answer) m))) }
+        ensures same { S.bytes self.new.reader.source ≡ S.bytes self.old.reader.source }
+        ensures position { self.new.pos ≡ self.old.pos }
+        ensures budget { self.new.reader.left ≤ self.old.reader.left }
+        // This is what all reads of a lookup take of the budget.
+        ensures spent { self.old.reader.left ≤
+            self.new.reader.left + most_read M.E (self.old.pos + 8) }
+        // No part that is read or needed has more bytes than there are up to the map's end, or in a source
+        // whose bytes are known.
+        ensures caused { IfErr result (IsCaused (self.old.pos + 8)
+            (inner_size (layout_of K.kind V.kind M.E)) (length lent.old) self.new.reader.left) }
+        ensures known { (b : List ℕ) → S.bytes self.old.reader.source ≡ Some b →
+            IfErr result (IsCaused (length b)
+            (inner_size (layout_of K.kind V.kind M.E)) (length lent.old) self.new.reader.left) }
+    {
+        match self.get_by(key, lent) {
+            Err(fault) => Err(fault),
+            Ok(found) => Ok(found.is_some()),
+        }
+    }
+}

@@ -1,0 +1,5 @@
+-- The view's range, in keys that increase.
+use Rattle.rkyv_btree_strict.proofs.strict_map.Strict.range_of.Goals as goal
+
+pub returns-clause-within : goal.returns-clause-within
+returns-clause-within g c known answer agree = c.range_of.ensures.sorted known answer agree c.args.self.increasing

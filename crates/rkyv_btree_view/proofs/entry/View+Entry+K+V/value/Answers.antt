@@ -1,7 +1,0 @@
--- A value stands behind its key.
-use Rattle.rkyv_btree_base.specs.laws.EntryLaws.{value_stands}
-use Rattle.rkyv_btree_view.proofs.entry.View+Entry+K+V.value.Goals as goal
-
-pub invariant_of-result : goal.invariant_of-result
-invariant_of-result g c =
-    rw c.value_offset.ensures.value (record { valid = value_stands _ _ g.met.K.Portable.laws g.met.V.Portable.laws _ _ c.args.self.valid })

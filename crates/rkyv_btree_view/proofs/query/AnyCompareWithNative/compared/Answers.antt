@@ -1,6 +1,0 @@
--- What a look-up asks of a native comparison.
-use Rattle.std.proofs.Common.{rules}
-use Rattle.rkyv_btree_view.proofs.query.AnyCompareWithNative.compared.Goals as goal
-
-pub returns : goal.returns
-returns g c = search rules

@@ -1,6 +1,0 @@
--- The native text comes first.
-use Rattle.std.proofs.Common.{rules}
-use Rattle.rkyv_btree_view.proofs.query.ArchivedTextCompareWithRefStr.compare_with.Goals as goal
-
-pub returns : goal.returns
-returns c = search rules

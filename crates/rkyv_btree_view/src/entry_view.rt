@@ -1,0 +1,37 @@
+//! Views of entries.
+ghost use Rattle.std.specs.Prelude.{◌≡◌, ◌+◌};
+ghost use Rattle.rkyv_btree_base.specs.Entry.{value_offset};
+ghost use Rattle.rkyv_btree_view.specs.View.{reads};
+
+use crate::view::View;
+use rkyv_btree_base::check::Portable;
+use rkyv_btree_base::util::{Entry, value_offset};
+use std::marker::PhantomData;
+
+impl<'a, K: Portable, V: Portable> View<'a, Entry<K, V>> {
+    /// Returns the key, at the entry's own position.
+    pub fn key(self) -> View<'a, K>
+        ensures buffer { result.buf.now ≡ self.entry.buf.now }
+        ensures position { result.pos ≡ self.entry.pos }
+        ensures value { reads result ≡ (reads self.entry).0 }
+    {
+        View {
+            buf: self.buf,
+            pos: self.pos,
+            of: PhantomData,
+        }
+    }
+
+    /// Returns the value, after the key.
+    pub fn value(self) -> View<'a, V>
+        ensures buffer { result.buf.now ≡ self.entry.buf.now }
+        ensures position { result.pos ≡ self.entry.pos + value_offset K.kind V.kind }
+        ensures value { reads result ≡ (reads self.entry).1 }
+    {
+        View {
+            buf: self.buf,
+            pos: self.pos + value_offset::<K, V>(),
+            of: PhantomData,
+        }
+    }
+}

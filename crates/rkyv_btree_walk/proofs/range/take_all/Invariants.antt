@@ -1,6 +1,0 @@
--- Each turn takes a node from the path.
-use Rattle.std.proofs.Common.{length}
-use Rattle.rkyv_btree_walk.proofs.range.take_all.Given as goal
-
-abbrev pub decreases-up : goal.decreases-up
-decreases-up l = length l.path.items

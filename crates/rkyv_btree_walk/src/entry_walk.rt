@@ -1,0 +1,85 @@
+//! A walk along all entries of a map, by their places. Iterators and cursors are made of it.
+ghost use Rattle.std.specs.Prelude.{◌≡◌, ◌+◌, IfSome, IsTrue};
+ghost use Rattle.rkyv_btree_base.specs.Layout.{layout_of};
+ghost use Rattle.rkyv_btree_base.specs.Views.{stands};
+ghost use Rattle.rkyv_btree_walk.specs.EntryPlaces.{entry_places};
+ghost use Rattle.rkyv_btree_walk.specs.mirror.Along.{walk_left, IsWalk, Takes};
+ghost use Rattle.rkyv_btree_walk.specs.mirror.Node.{RunStands};
+
+use crate::archived_map::{ArchivedMap, map_len};
+use crate::entry_place::EntryPlace;
+use crate::path::{Path, advance, begin};
+use arrayvec::ArrayVec;
+use rkyv_btree_base::check::Portable;
+
+/// The state of a walk: the entries that remain of a leaf, and the path above it.
+#[derive(Drop)]
+pub struct Walk {
+    /// The inner nodes from the root on.
+    pub path: Path,
+    /// The position of the leaf.
+    pub node: u32,
+    /// The number of the next entry in the leaf.
+    pub next: u32,
+    /// The number of entries of the leaf.
+    pub end: u32,
+    /// The number of entries after the leaf.
+    pub behind: u32,
+}
+
+/// Returns the walk before the first entry of the map at `pos`.
+#[inline(always)]
+pub fn start<K: Portable, V: Portable, M: ArchivedMap<Key = K, Mapped = V>>(
+    buf: &[u8],
+    pos: u32,
+) -> Walk
+    requires { IsTrue (stands M.kind buf.now pos) }
+    ensures walks { IsWalk (layout_of K.kind V.kind M.E) buf.now pos result }
+    ensures all { walk_left (layout_of K.kind V.kind M.E) buf.now result
+        ≡ entry_places K.kind V.kind M.E buf.now pos }
+{
+    let mut path = ArrayVec::new();
+    let leaf = begin::<K, V, M>(buf, pos, &mut path);
+    Walk {
+        path,
+        node: leaf.node,
+        next: 0,
+        end: leaf.count,
+        behind: map_len::<K, V, M>(buf, pos) - leaf.count,
+    }
+}
+
+/// Takes the next entry of the map at `pos`, and returns its place, or `None` if no entry remains.
+#[inline(always)]
+pub fn step<K: Portable, V: Portable, M: ArchivedMap<Key = K, Mapped = V>>(
+    buf: &[u8],
+    pos: u32,
+    walk: &mut Walk,
+) -> Option<EntryPlace>
+    requires stands { IsTrue (stands M.kind buf.now pos) }
+    requires walks { IsWalk (layout_of K.kind V.kind M.E) buf.now pos walk.old }
+    ensures walks { IsWalk (layout_of K.kind V.kind M.E) buf.now pos walk.new }
+    ensures takes { let s = layout_of K.kind V.kind M.E in
+        Takes (walk_left s buf.now walk.old) (walk_left s buf.now walk.new) result }
+    ensures stands { IfSome result (λ place.
+        RunStands K.kind V.kind M.E buf.now place.node place.index (place.index + 1)) }
+{
+    M::opened(buf, pos);
+    let next = walk.next;
+    if next < walk.end {
+        walk.next = next + 1;
+        return Some(EntryPlace {
+            node: walk.node,
+            index: next as usize,
+        });
+    }
+    let step = advance::<K, V, M>(buf, &mut walk.path)?;
+    walk.node = step.leaf.node;
+    walk.next = 0;
+    walk.end = step.leaf.count;
+    walk.behind = walk.behind - 1 - step.leaf.count;
+    Some(EntryPlace {
+        node: step.node,
+        index: step.index as usize,
+    })
+}

@@ -1,0 +1,158 @@
+/* Archived B-tree maps of rkyv_btree, read, edited and built in C. docs/EMBEDDING.md says what a caller owes.
+ * tools/header.py compares this file with the sources of crates/rkyv_btree_ffi. */
+#ifndef RKYV_BTREE_H
+#define RKYV_BTREE_H
+
+#include <stddef.h>
+#include <stdint.h>
+
+#ifdef __cplusplus
+extern "C" {
+#endif
+
+/* What each call returns, unless it says otherwise. */
+enum {
+    RKYV_BTREE_OK = 0,
+    /* The bytes are no map. The cause is in rkyv_btree_refusal. */
+    RKYV_BTREE_OUT_OF_RANGE = 1,
+    RKYV_BTREE_MISALIGNED = 2,
+    RKYV_BTREE_BAD_KIND = 3,
+    RKYV_BTREE_INVALID_LENGTH = 4,
+    RKYV_BTREE_BAD_ENTRY = 5,
+    RKYV_BTREE_TOO_DEEP = 6,
+    RKYV_BTREE_LENGTH_MISMATCH = 7,
+    RKYV_BTREE_TOO_LONG = 8,
+    RKYV_BTREE_OUT_OF_ORDER = 9,
+    /* The call doesn't fit the map. */
+    RKYV_BTREE_NOT_OPEN = 16,
+    RKYV_BTREE_BAD_TYPE = 17,
+    RKYV_BTREE_NOT_FOUND = 18,
+    RKYV_BTREE_BAD_CURSOR = 19,
+    RKYV_BTREE_BAD_VALUE = 20,
+    /* The entries have no archive. */
+    RKYV_BTREE_LENGTH_OVERFLOW = 32,
+    RKYV_BTREE_POSITION_OVERFLOW = 33,
+    RKYV_BTREE_OFFSET_OVERFLOW = 34,
+    RKYV_BTREE_NO_MEMORY = 35,
+    RKYV_BTREE_BAD_ITEM = 36,
+    RKYV_BTREE_NOT_INCREASING = 37,
+    RKYV_BTREE_NO_ROOM = 38
+};
+
+/* The types of the keys and the values of a map. */
+enum {
+    RKYV_BTREE_U32_TO_U32 = 1,
+    RKYV_BTREE_U32_TO_U64 = 2,
+    RKYV_BTREE_U32_TO_TEXT = 3,
+    RKYV_BTREE_U64_TO_U32 = 4,
+    RKYV_BTREE_U64_TO_U64 = 5,
+    RKYV_BTREE_U64_TO_TEXT = 6,
+    RKYV_BTREE_TEXT_TO_U32 = 7,
+    RKYV_BTREE_TEXT_TO_U64 = 8,
+    RKYV_BTREE_TEXT_TO_TEXT = 9
+};
+
+/* Why bytes were refused. */
+typedef struct {
+    uint32_t code;    /* the code that the call returned */
+    int64_t at;       /* a position in the buffer, or 0 */
+    uint64_t found;   /* a byte, a length, a number of entries, or the index of an entry; or 0 */
+    uint64_t allowed; /* the most that is allowed there, or 0 */
+} rkyv_btree_refusal;
+
+/* A key or a value: a number, or a text by its place in the buffer. Texts are UTF-8, without a final 0. */
+typedef struct {
+    uint64_t number; /* of a text 0 */
+    uint32_t start;  /* of a number 0 */
+    uint32_t len;    /* of a number 0 */
+} rkyv_btree_item;
+
+typedef struct {
+    rkyv_btree_item key;
+    rkyv_btree_item value;
+} rkyv_btree_entry;
+
+/* A map in a buffer of the caller's. It must be initialized, by {0} or by a call, and is written by calls alone. While it is open,
+ * the buffer doesn't change. */
+typedef struct {
+    const uint8_t *data;
+    size_t data_len;
+    uint32_t pos;
+    uint32_t type; /* 0 while it is closed */
+} rkyv_btree_map;
+
+/* The same, whose values are overwritten. Nothing else reads or writes the buffer while it is open. */
+typedef struct {
+    uint8_t *data;
+    size_t data_len;
+    uint32_t pos;
+    uint32_t type;
+} rkyv_btree_edit;
+
+typedef struct {
+    uint32_t node;
+    uint32_t index;
+} rkyv_btree_step;
+
+/* A place between two entries. Its numbers are tested at each call. */
+typedef struct {
+    uint32_t node;
+    uint32_t next;
+    uint32_t end;
+    uint32_t depth;
+    uint32_t stops;
+    rkyv_btree_step stop;
+    rkyv_btree_step path[32];
+} rkyv_btree_cursor;
+
+/* Opens the map of a whole archive, whose own bytes are the last eight. After a refusal the map is closed. */
+uint32_t rkyv_btree_open(rkyv_btree_map *map, uint32_t type, const uint8_t *data, size_t data_len, rkyv_btree_refusal *why);
+
+/* The same, and the keys must increase. */
+uint32_t rkyv_btree_open_strict(rkyv_btree_map *map, uint32_t type, const uint8_t *data, size_t data_len, rkyv_btree_refusal *why);
+
+/* Writes the number of entries. */
+uint32_t rkyv_btree_len(const rkyv_btree_map *map, uint32_t *len);
+
+/* Finds the entry with a key. RKYV_BTREE_NOT_FOUND if there is none, or if the keys are of the other type. */
+uint32_t rkyv_btree_get_number(const rkyv_btree_map *map, uint64_t key, rkyv_btree_entry *entry);
+uint32_t rkyv_btree_get_text(const rkyv_btree_map *map, const uint8_t *key, size_t key_len, rkyv_btree_entry *entry);
+
+/* Sets a cursor before the first entry, or before the first entry whose key isn't less than a key. */
+uint32_t rkyv_btree_first(const rkyv_btree_map *map, rkyv_btree_cursor *cursor);
+uint32_t rkyv_btree_seek_number(const rkyv_btree_map *map, uint64_t key, rkyv_btree_cursor *cursor);
+uint32_t rkyv_btree_seek_text(const rkyv_btree_map *map, const uint8_t *key, size_t key_len, rkyv_btree_cursor *cursor);
+
+/* Writes the next entries, as many as there is room for, and how many they are. Fewer than entries_len are the last ones. A cursor that a
+ * call wrote for the map is accepted. RKYV_BTREE_BAD_CURSOR, and nothing is written, if its numbers are no place in the map. */
+uint32_t rkyv_btree_next(const rkyv_btree_map *map, rkyv_btree_cursor *cursor, rkyv_btree_entry *entries, size_t entries_len,
+                         size_t *written);
+
+/* A closed map in a buffer, as `rkyv_btree_open_edit` takes one. */
+#define RKYV_BTREE_EDIT(data, data_len) {(data), (data_len), 0, 0}
+
+/* Opens the map of the whole archive in the buffer, whose values can then be overwritten. After a refusal the map is closed. */
+uint32_t rkyv_btree_open_edit(rkyv_btree_edit *edit, uint32_t type, rkyv_btree_refusal *why);
+
+/* Overwrites the value of the entry with a key. RKYV_BTREE_BAD_VALUE if the values are texts, or narrower than the value. */
+uint32_t rkyv_btree_set_number(rkyv_btree_edit *edit, uint64_t key, uint64_t value);
+uint32_t rkyv_btree_set_text(rkyv_btree_edit *edit, const uint8_t *key, size_t key_len, uint64_t value);
+
+/* Builds the archive of entries, whose texts are in one buffer, in their order; or only if the keys increase. Where the archive has
+ * more bytes than there is room for, nothing is written to `out`, and the call returns RKYV_BTREE_NO_ROOM. Both then and on success
+ * `archive_len` is how many bytes the archive has. After another code neither is written. RKYV_BTREE_BAD_ITEM if a number has more than
+ * 32 bits where the type has 32, or a text isn't UTF-8 or not within `texts`. RKYV_BTREE_NOT_INCREASING if the keys must increase. */
+uint32_t rkyv_btree_build(uint32_t type, const rkyv_btree_entry *entries, size_t entries_len, const uint8_t *texts,
+                          size_t texts_len, uint8_t *out, size_t out_len, size_t *archive_len);
+uint32_t rkyv_btree_build_strict(uint32_t type, const rkyv_btree_entry *entries, size_t entries_len, const uint8_t *texts,
+                                 size_t texts_len, uint8_t *out, size_t out_len, size_t *archive_len);
+
+/* Writes the text of a code, as much of it as there is room for, and returns how many bytes the whole text has. It ends with a 0 if
+ * it fits. */
+size_t rkyv_btree_strerror(uint32_t code, uint8_t *out, size_t out_len);
+
+#ifdef __cplusplus
+}
+#endif
+
+#endif

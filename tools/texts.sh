@@ -1,0 +1,151 @@
+#!/usr/bin/env bash
+# Runs the built program btreekv as a process of its own, and compares its status, its standard output and its line on standard error
+# with what each case names; then it has 20000 lines built, listed, looked up and explained. It needs Python.
+#
+#     tools/texts.sh [PROGRAM]
+#
+# PROGRAM is the built program, if not crates/btreekv/out/btreekv. The status is 0 where all is as it must be.
+set -euo pipefail
+export LC_ALL=C
+
+tools=$(cd "$(dirname "${BASH_SOURCE[0]}")" && pwd)
+program=${1:-$tools/../crates/btreekv/out/btreekv}
+[[ -f $program && -x $program ]] || { echo "texts: no program at $program" >&2; exit 1; }
+program=$(cd "$(dirname "$program")" && pwd)/$(basename "$program")
+
+work=$(mktemp -d)
+trap 'rm -rf "$work"' EXIT
+cd "$work"
+# clap names a program in its texts as the file is named that was run
+ln -s "$program" btreekv
+program=$work/btreekv
+failed=0
+
+fail() {
+    echo "texts: $*" >&2
+    failed=1
+}
+
+# A case: the status, the first line on standard error, standard input and output with escapes, and the words.
+ends() {
+    local status=$1 line=$2 got=0
+    printf '%b' "$3" > input
+    printf '%b' "$4" > output
+    shift 4
+    "$program" "$@" < input > written 2> said || got=$?
+    [[ $got == "$status" ]] || fail "words ${*@Q}: status $got, not $status"
+    cmp -s written output || fail "words ${*@Q}: another standard output"
+    [[ $(head -n 1 said) == "$line" ]] || fail "words ${*@Q}: on standard error: $(cat said)"
+}
+
+# The bytes of an explanation, which are hexadecimal from its eleventh column on.
+explained_bytes() {
+    python3 -c 'import sys; sys.stdout.buffer.write(bytes.fromhex("".join(line[10:33] for line in sys.stdin)))'
+}
+
+# The archive that is built of these lines, as escapes.
+archive_of() {
+    printf '%b' "$1" | "$program" build "${@:2}" | od -An -v -t x1 | tr -d '\n' | sed 's/ /\\x/g'
+}
+
+empty='\x01\x00\x00\x00\x00\x00\x00\x00'
+three=$(archive_of 'apple\tred\nfig\tblue and green\npear\tyellow\n')
+unordered=$(archive_of 'b\t1\na\t2\nb\t3\n')
+sorted=$(archive_of 'a\t2\nb\t3\n')
+long=$(archive_of '\xc3\xa4\t\xf0\x9d\x84\x9e\n')
+nothing='00000000  01 00 00 00              root node: there is none\n00000004  00 00 00 00              0 entries in the map\n'
+fruit=$(archive_of 'a\t1\nab\t2\nabc\t3\nb\t4\n')
+quoted=$(archive_of 'q"\x08\x0c\r\x01\tx\ty\\\\\x1f\x7f\xc3\xa4\n')
+
+#    status  line on standard error                input                       output                        words
+ends 0 ''                                          ''                          "$empty"                      build
+ends 0 ''                                          'a\t2\nb\t3'                "$sorted"                     build
+ends 0 ''                                          'a\t2\nb\t3\n'              "$sorted"                     build --strict
+ends 0 ''                                          'b\t1\na\t2\nb\t3\n'        "$sorted"                     build --sort
+ends 2 'btreekv: not built: entry 1 is out of order' 'b\t1\na\t2\n'            ''                            build --strict
+ends 2 'btreekv: not built: entry 1 is out of order' 'b\t1\nb\t2\n'            ''                            build --strict
+ends 2 'btreekv: line 1: not KEY TAB VALUE'        'a\n'                       ''                            build
+ends 2 'btreekv: line 2: not KEY TAB VALUE'        'a\tb\n\nc\td\n'            ''                            build
+ends 2 'btreekv: line 2: not KEY TAB VALUE'        'a\tb\n\xff\td\n'           ''                            build
+ends 2 'btreekv: line 1: not KEY TAB VALUE'        'a\t\xff\n'                 ''                            build
+ends 0 ''                                          "$empty"                    ''                            list
+ends 0 ''                                          "$three"                    'apple\tred\nfig\tblue and green\npear\tyellow\n' list
+ends 0 ''                                          "$unordered"                'b\t1\na\t2\nb\t3\n'          list
+ends 0 ''                                          "$long"                     '\xc3\xa4\t\xf0\x9d\x84\x9e\n' list
+ends 0 ''                                          "$(archive_of '\t\n')"      '\t\n'                        list
+ends 0 ''                                          "$(archive_of 'a\tb\tc\n')" 'a\tb\tc\n'                   list
+ends 0 ''                                          "$empty"                    'ok 0 entries\n'              check
+ends 0 ''                                          "$unordered"                'ok 3 entries\n'              check
+ends 0 ''                                          "$three"                    'ok 3 entries\n'              check --strict
+ends 2 'btreekv: refused: entry 1 is out of order' "$unordered"                ''                            check --strict
+ends 0 ''                                          "$three"                    'blue and green\n'            get fig
+ends 0 ''                                          "$(archive_of '-k\tv\n')"   'v\n'                         get -k
+ends 1 ''                                          "$three"                    ''                            get banana
+ends 1 ''                                          "$three"                    ''                            get ''
+ends 0 ''                                          "$three"                    'apple\tred\nfig\tblue and green\n' range a fig
+ends 0 ''                                          "$three"                    'fig\tblue and green\n'       range b ofen
+ends 0 ''                                          "$three"                    ''                            range z a
+ends 0 ''                                          "$fruit"                    'ab\t2\nabc\t3\n'            prefix ab
+ends 0 ''                                          "$fruit"                    'a\t1\nab\t2\nabc\t3\nb\t4\n' prefix ''
+ends 0 ''                                          "$fruit"                    ''                            prefix abcd
+ends 0 ''                                          "$fruit"                    ''                            prefix c
+ends 0 ''                                          "$long"                     '\xc3\xa4\t\xf0\x9d\x84\x9e\n' prefix ä
+ends 0 ''                                          "$empty"                    'entries 0\nleast levels 0\nnodes 0\nbytes 8\n' stat
+ends 0 ''                                          "$three"                    'entries 3\nleast levels 1\nnodes 1\nbytes 132\n' stat
+ends 0 ''                                          "$empty"                    '{}\n'                        list --json
+ends 0 ''                                          "$three"                    '{"apple":"red","fig":"blue and green","pear":"yellow"}\n' list --json
+ends 0 ''                                          "$unordered"                '{"b":"1","a":"2","b":"3"}\n' list --json
+ends 0 ''                                          "$quoted"                   '{"q\\"\\b\\f\\r\\u0001":"x\\ty\\\\\\\\\\u001f\x7f\xc3\xa4"}\n' list --json
+ends 0 ''                                          "$three"                    '"blue and green"\n'          get --json fig
+ends 1 ''                                          "$three"                    ''                            get --json banana
+ends 0 ''                                          "$empty"                    "$nothing"                    explain
+ends 2 'btreekv: refused: position 0 is out of range' ''                       ''                            explain
+ends 2 'btreekv: refused: position 0 is out of range' ''                       ''                            list
+ends 2 'btreekv: refused: position 0 is out of range' 'abc'                    ''                            get a
+ends 2 'btreekv: input failed'                     ''                          ''                            list absent
+ends 2 "error: 'btreekv' requires a subcommand but one was not provided" ''    ''
+ends 2 "error: unrecognized subcommand 'lists'"    ''                          ''                            lists
+ends 2 "error: the argument '--sort' cannot be used with '--strict'" ''        ''                            build --sort --strict
+
+# by name
+printf '%b' "$three" > archive
+ends 0 '' '' 'yellow\n' get pear archive
+ends 0 '' '' 'ok 3 entries\n' check archive
+
+seq -f 'key %06g' 1 20000 | awk '{ print $0 "\tvalue of " $0 }' > many
+"$program" build --strict many > archive || fail "20000 lines: not built"
+"$program" list archive | cmp -s - many || fail "20000 lines: listed otherwise"
+[[ $("$program" get 'key 012345' archive) == 'value of key 012345' ]] || fail "20000 lines: another value"
+[[ $("$program" range 'key 019999' z archive | wc -l) == 2 ]] || fail "20000 lines: another range"
+[[ $("$program" prefix 'key 0123' archive | wc -l) == 100 ]] || fail "20000 lines: another prefix"
+[[ $("$program" stat archive | head -n 2 | tr '\n' ' ') == 'entries 20000 least levels 6 ' ]] || fail "20000 lines: other figures"
+"$program" explain archive > explained || fail "20000 lines: not explained"
+explained_bytes < explained | cmp -s - archive || fail "20000 lines: other bytes explained"
+[[ $(grep -c ' root node: ' explained) == 1 ]] || fail "20000 lines: another root"
+"$program" list --json archive > object
+python3 -c 'import json; print(*(f"{k}\t{v}" for k, v in json.load(open("object")).items()), sep="\n")' | cmp -s - many || fail "20000 lines: another object"
+shuf --random-source=many many | "$program" build --sort | cmp -s - archive || fail "20000 lines: sorted otherwise"
+
+# after a second of reading, standard error says how much was read if it is a terminal, and only then
+python3 -c '
+import os, pty, subprocess, sys, time
+ours, theirs = pty.openpty()
+archive = open("archive", "rb").read()
+child = subprocess.Popen([sys.argv[1], "check"], stdin=subprocess.PIPE, stdout=subprocess.DEVNULL, stderr=theirs)
+child.stdin.write(archive[:8])
+child.stdin.flush()
+time.sleep(1.3)
+child.stdin.write(archive[8:])
+child.stdin.close()
+sys.exit(child.wait() != 0 or b" bytes read" not in os.read(ours, 1000))
+' "$program" || fail "a terminal: no line says how much was read"
+{ head -c 8 archive; sleep 1.3; tail -c +9 archive; } | "$program" check > written 2> said
+[[ $(cat written) == 'ok 20000 entries' && ! -s said ]] || fail "no terminal: on standard error: $(cat said)"
+
+if [[ -e /dev/full ]]; then
+    got=0
+    "$program" list archive > /dev/full 2> said || got=$?
+    [[ $got == 2 && $(cat said) == 'btreekv: output failed' ]] || fail "a full device: status $got: $(cat said)"
+fi
+
+exit "$failed"
