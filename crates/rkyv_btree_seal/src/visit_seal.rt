@@ -13,7 +13,7 @@ use rkyv_btree_walk::archived_map::ArchivedMap;
 use rkyv_btree_walk::entry_walk::{start, step};
 use std::ops::ControlFlow;
 
-/// Calls `f` at each entry of the map at `pos`, in order, up to the first call that breaks, whose value it answers.
+/// Calls `f` at each entry of the map at `pos`, in order, up to the first call that breaks, and returns its value.
 pub(crate) fn visit_entries<
     K: Portable,
     V: InPlace,

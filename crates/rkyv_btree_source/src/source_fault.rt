@@ -1,10 +1,10 @@
-//! Why a lookup in a source of bytes returns no answer.
+//! Errors of lookups in a source of bytes.
 use rkyv_btree_base::refusal::Refusal;
 use std::error::Error;
 use std::fmt;
 use std::fmt::{Debug, Display};
 
-/// Why a lookup in a source returns no answer. `E` is the source's own error.
+/// An error of a lookup in a source. `E` is the source's own error.
 #[derive(Debug, Drop)]
 pub enum SourceFault<E> {
     /// What the lookup read is no part of a map: the first fault in it.

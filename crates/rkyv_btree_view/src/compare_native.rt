@@ -43,7 +43,7 @@ pub trait CompareWith<T>: Portable {
     fn compare_with(native: &T, view: &View<'_, Self>) -> Ordering
         ensures { result ≡ compared_at native.now view.now.buf.now view.now.pos };
 
-    /// What a look-up asks of that. A type whose native values are told apart by plain tests may answer with these.
+    /// Returns what a lookup needs of that. A type whose native values differ by plain tests may return these.
     #[inline(always)]
     fn compared(native: &T, view: &View<'_, Self>) -> Compared
         ensures { result ≡ compared_of (compared_at native.now view.now.buf.now view.now.pos) }

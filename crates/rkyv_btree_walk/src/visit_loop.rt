@@ -34,7 +34,7 @@ fn entry<
     (key, value)
 }
 
-/// Calls `visit` at each entry of a leaf and of the path above it, up to the first break, whose value it answers.
+/// Calls `visit` at each entry of a leaf and of the path above it, up to the first break, and returns its value.
 pub fn visit_rest<
     'a,
     K: Portable,
