@@ -118,6 +118,14 @@ uint32_t rkyv_btree_len(const rkyv_btree_map *map, uint32_t *len);
 uint32_t rkyv_btree_get_number(const rkyv_btree_map *map, uint64_t key, rkyv_btree_entry *entry);
 uint32_t rkyv_btree_get_text(const rkyv_btree_map *map, const uint8_t *key, size_t key_len, rkyv_btree_entry *entry);
 
+/* Finds the entry with a key in bytes that nobody has validated, as the archive of a map. No map is opened: the lookup validates what it
+ * reads. On an archive it returns what the two calls above return for the opened map. On other bytes what it finds is valid and has an
+ * equal key, and a refusal has its cause in `why`; RKYV_BTREE_NOT_FOUND doesn't mean that the key is absent. */
+uint32_t rkyv_btree_find_number(uint32_t type, const uint8_t *data, size_t data_len, uint64_t key, rkyv_btree_entry *entry,
+                                rkyv_btree_refusal *why);
+uint32_t rkyv_btree_find_text(uint32_t type, const uint8_t *data, size_t data_len, const uint8_t *key, size_t key_len,
+                              rkyv_btree_entry *entry, rkyv_btree_refusal *why);
+
 /* Sets a cursor before the first entry, or before the first entry whose key isn't less than a key. */
 uint32_t rkyv_btree_first(const rkyv_btree_map *map, rkyv_btree_cursor *cursor);
 uint32_t rkyv_btree_seek_number(const rkyv_btree_map *map, uint64_t key, rkyv_btree_cursor *cursor);

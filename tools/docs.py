@@ -22,9 +22,9 @@ LONGEST_README = 120
 def texts(kind):
     """Yields the text of each file of this kind in the crates of crates.txt."""
     for line in (ROOT / "crates.txt").read_text().splitlines():
-        name = line.partition("#")[0].partition(":")[0].strip()
-        if name:
-            crate = ROOT / "crates" / name
+        names = line.partition("#")[0].partition(":")[0].split()
+        if names:
+            crate = ROOT / "crates" / names[0]
             for file in sorted(crate.glob(SOURCES[kind])):
                 if "out" not in file.relative_to(crate).parts:
                     yield file.read_text(errors="replace")

@@ -11,9 +11,10 @@ has the same shape and the right value, so that the function means what it did. 
 must be proved, or the edit counts as not refused.
 
 A body is judged by the contracts of what it calls, so the edits of different functions are tried in one check of a copy of the
-crate. A function that is refused for itself names its goals; one whose callee is refused says no more than that it calls it.
-An edit of more than one function's text, or of a function in a cycle of calls, is tried alone, and so is one whose function
-doesn't come out as refused. Twins are tried together; of those that aren't proved together each half is tried.
+crate. A function that is refused for itself names its goals; one whose callee is refused says no more than that it calls it, and is
+tried again with the others of which that is so. An edit of more than one function's text, or of a function in a cycle of calls, is
+tried alone, and so is one whose function doesn't come out as refused. Twins are tried together; of those that aren't proved
+together each half is tried.
 
 What was refused is kept in a folder of this machine, by the checksums of the kit, of this script, of the crate with all
 below it, and of the edit, and isn't tried again. Each check is rt's own; --after-ci takes the libraries that rt ci has just
@@ -228,10 +229,14 @@ def alone(edit, kept):
 
 def try_edits(edits, names, kept):
     """Returns why the prover refuses each edit, or nothing where it doesn't."""
-    told = {}
-    for given in rounds_of([it for it in edits if it.turned(names)], names):
-        found = refused_for_themselves(check(edits[0].crate, given["texts"], kept)[1])
-        told |= {edit: found.get(turned, "") for turned, edit in given["edits"].items()}
+    told, left, more = {}, [it for it in edits if it.turned(names)], True
+    # what is left calls what was refused, which the next turn leaves as it was
+    while left and more:
+        for given in rounds_of(left, names):
+            found = refused_for_themselves(check(edits[0].crate, given["texts"], kept)[1])
+            told |= {edit: found[turned] for turned, edit in given["edits"].items() if turned in found}
+        more = any(it in told for it in left)
+        left = [it for it in left if it not in told]
     return {it: told.get(it) or alone(it, kept) for it in edits}
 
 

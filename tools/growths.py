@@ -6,11 +6,11 @@
 FAILURES and BTREEARC are the built programs of these crates, if not those in their folders `out`. A library of tools/refuse.c
 stands before the C library and refuses one growth of a run, so that any build is tried as it is. CC builds it, or else cc.
 
-Each line of tools/growths.txt is a call, a name and the answers. Those of `btreearc` are its commands, and the other calls are those
-of FAILURES, which makes a call twice and prints both answers. The refused growth is in one of the two, or in what the
-program does before and behind them. So one answer is that of a growth refused, and the other must be right.
+Each line of tools/growths.txt is a call, a name and the results. Those of `btreearc` are its commands, and the other calls are those
+of FAILURES, which makes a call twice and prints both results. The refused growth is in one of the two, or in what the
+program does before and after them. So one result is that of a growth refused, and the other must be right.
 
-The last line is 'N growths refused', and the status is 0 where all answers are those of the file.
+The last line is 'N growths refused', and the status is 0 where all results are those of the file.
 """
 import contextlib
 import itertools
@@ -47,14 +47,14 @@ class Runs:
             return ran.returncode, ran.stdout, ran.stderr.decode("latin-1"), int(file.read())
 
 
-def answers_of_call(runs, failures, call, name):
-    """The answers to a call whose growths are refused in turn."""
+def results_of_call(runs, failures, call, name):
+    """The results to a call whose growths are refused in turn."""
     words = [failures, call, name]
     status, said, error, growths = runs.run(words)
     right, _, again = said.decode().removesuffix("\n").partition("; then ")
     if status != 0 or right != again or not right.startswith("right"):
         raise Mismatch(f"status {status}, {said.decode()}{error}")
-    answers = []
+    results = []
     for number in range(1, growths + 1):
         status, said, error, _ = runs.run(words, first=number, last=number)
         if status == 1 and not said and error.startswith("Error: "):
@@ -62,16 +62,16 @@ def answers_of_call(runs, failures, call, name):
         first, _, second = said.decode().removesuffix("\n").partition("; then ")
         if status != 0 or error or right not in (first, second):
             raise Mismatch(f"growth {number}: status {status}, {said.decode()}{error}")
-        answers.append((first, second))
-    half = len(answers) // 2
-    firsts = [first for first, _ in answers[:half]]
-    seconds = [second for _, second in answers[half:]]
-    if firsts != seconds or any(second != right for _, second in answers[:half]):
+        results.append((first, second))
+    half = len(results) // 2
+    firsts = [first for first, _ in results[:half]]
+    seconds = [second for _, second in results[half:]]
+    if firsts != seconds or any(second != right for _, second in results[:half]):
         raise Mismatch(f"first call: {grouped(firsts)}; second call: {grouped(seconds)}")
     return firsts
 
 
-def answers_of_command(runs, program, words, data):
+def results_of_command(runs, program, words, data):
     """The lines of a command whose growths are refused in turn. It has status 2 and writes nothing then, or else it does what it does
     without a refusal, which is `right`."""
     status, whole, error, growths = runs.run([program, *words], data)
@@ -90,14 +90,14 @@ def answers_of_command(runs, program, words, data):
     return lines
 
 
-def grouped(answers):
-    """The answers in their order, with how many equal ones come in turn."""
-    groups = [f"{len(list(same))} {answer}" for answer, same in itertools.groupby(answers)]
+def grouped(results):
+    """The results in their order, with how many equal ones come in turn."""
+    groups = [f"{len(list(same))} {result}" for result, same in itertools.groupby(results)]
     return "; ".join(groups) or "none"
 
 
 def takes_none(runs, failures):
-    """Makes the calls that take no memory not at all, once and twice, and then once with all growths behind refused. Returns how
+    """Makes the calls that take no memory not at all, once and twice, and then once with all later growths refused. Returns how
     many calls these are."""
     before, once, twice = (runs.run([failures, "read", times]) for times in "012")
     without = runs.run([failures, "read", "1"], first=before[3] + 1, last=sys.maxsize)
@@ -126,9 +126,9 @@ def main():
                 continue
             try:
                 if call == "btreearc":
-                    found = answers_of_command(runs, program, name.split(), tens(6) if name.startswith("build") else archive)
+                    found = results_of_command(runs, program, name.split(), tens(6) if name.startswith("build") else archive)
                 else:
-                    found = answers_of_call(runs, failures, call, name)
+                    found = results_of_call(runs, failures, call, name)
                 if grouped(found) != wanted:
                     raise Mismatch(f"{grouped(found)}, and not {wanted}")
                 refused += len(found)

@@ -43,9 +43,9 @@ class Function:
 def crates():
     """Yields the names of the repository's crates, in the order of crates.txt."""
     for line in (ROOT / "crates.txt").read_text().splitlines():
-        name = line.partition("#")[0].partition(":")[0].strip()
-        if name:
-            yield name
+        words = line.partition("#")[0].partition(":")[0].split()
+        if words:
+            yield words[0]
 
 
 def closing(text, at):
@@ -96,7 +96,7 @@ def functions_of(module, text):
     owner, trait, public = "", None, False
     headers = re.compile(
         r"^(?P<close>\})|^(?P<block>(?:pub )?(?:impl|trait)\b[^{]*\{)"
-        r"|^ *(?P<fn>(?P<pub>pub )?(?:pub\(crate\) )?(?:unsafe )?(?:const )?fn (?P<name>\w+))"
+        r"|^ *(?P<fn>(?P<pub>pub )?(?:pub\(crate\) )?(?:unsafe )?(?:const )?(?:extern .C. )?fn (?P<name>\w+))"
         r"|^ *(?P<shown>pub )?const (?P<const>[A-Z_]+):"
         r"|^    ghost (?P<ghost>\w+)(?: =|:) ",
         re.M,

@@ -30,7 +30,7 @@ while IFS= read -r line; do
 done < crates.txt
 [[ -v uses[$program] ]] || { echo "tools/program.sh: crates.txt has no line for $program" >&2; exit 2; }
 
-# the repository's libraries below a crate, each behind those that it stands on
+# the repository's libraries below a crate, each after those that it uses
 declare -A found
 order=()
 add_below() {

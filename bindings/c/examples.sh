@@ -4,9 +4,12 @@ set -euo pipefail
 cd "$1"
 [[ $(./lookup texts.archive "key 00007") == "value 7" ]]
 [[ $(./lookup texts.archive --from "key 00998") == $'key 00998\tvalue 998\nkey 00999\tvalue 999' ]]
-status=0
-./lookup texts.archive "key 7" || status=$?
-[[ $status == 1 ]]
+[[ $(./lookup texts.archive --unvalidated "key 00007") == "value 7" ]]
+for way in "" --unvalidated; do
+    status=0
+    ./lookup texts.archive $way "key 7" || status=$?
+    [[ $status == 1 ]]
+done
 status=0
 ./lookup numbers.archive x 2> said || status=$?
 [[ $status == 2 && $(cat said) == lookup:* ]]

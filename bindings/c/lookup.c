@@ -1,6 +1,7 @@
 /* Looks a text up in an archive of texts to texts, or lists the entries from a text on:
  *     lookup FILE KEY
- *     lookup FILE --from KEY */
+ *     lookup FILE --from KEY
+ *     lookup FILE --unvalidated KEY    reads a few nodes of the file, and not all of it: a text that isn't found may yet be there */
 #include "rkyv_btree.h"
 
 #include <fcntl.h>
@@ -38,13 +39,21 @@ static int list_from(const rkyv_btree_map *map, const char *key) {
     return 0;
 }
 
+static int print_found(const uint8_t *data, uint32_t code, const rkyv_btree_entry *found, const rkyv_btree_refusal *why) {
+    if (code == RKYV_BTREE_NOT_FOUND) return 1;
+    if (code != RKYV_BTREE_OK) return say(code, why);
+    print_text(data, found->value);
+    putchar('\n');
+    return 0;
+}
+
 int main(int argc, char **argv) {
     rkyv_btree_map map = {0};
     rkyv_btree_refusal why = {0};
     rkyv_btree_entry found = {0};
     struct stat stat;
     if (argc < 3 || argc > 4) {
-        fprintf(stderr, "usage: lookup FILE KEY | lookup FILE --from KEY\n");
+        fprintf(stderr, "usage: lookup FILE KEY | lookup FILE --from KEY | lookup FILE --unvalidated KEY\n");
         return 2;
     }
     int file = open(argv[1], O_RDONLY);
@@ -54,11 +63,14 @@ int main(int argc, char **argv) {
     }
     const uint8_t *data = mmap(NULL, (size_t)stat.st_size, PROT_READ, MAP_PRIVATE, file, 0);
     if (data == MAP_FAILED) return 2;
+    const uint8_t *key = (const uint8_t *)argv[argc - 1];
+    size_t key_len = strlen(argv[argc - 1]);
+    if (argc == 4 && strcmp(argv[2], "--unvalidated") == 0) {
+        uint32_t code = rkyv_btree_find_text(RKYV_BTREE_TEXT_TO_TEXT, data, (size_t)stat.st_size, key, key_len, &found, &why);
+        return print_found(data, code, &found, &why);
+    }
     uint32_t code = rkyv_btree_open_strict(&map, RKYV_BTREE_TEXT_TO_TEXT, data, (size_t)stat.st_size, &why);
     if (code != RKYV_BTREE_OK) return say(code, &why);
     if (argc == 4) return list_from(&map, argv[3]);
-    if (rkyv_btree_get_text(&map, (const uint8_t *)argv[2], strlen(argv[2]), &found) != RKYV_BTREE_OK) return 1;
-    print_text(data, found.value);
-    putchar('\n');
-    return 0;
+    return print_found(data, rkyv_btree_get_text(&map, key, key_len, &found), &found, &why);
 }

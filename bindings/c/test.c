@@ -63,6 +63,12 @@ static uint32_t get(const rkyv_btree_map *map, rkyv_btree_item key, rkyv_btree_e
     return rkyv_btree_get_number(map, key.number, entry);
 }
 
+static uint32_t find(uint32_t type, const uint8_t *data, size_t len, rkyv_btree_item key, rkyv_btree_entry *entry,
+                     rkyv_btree_refusal *why) {
+    if (has_texts_as_keys(type)) return rkyv_btree_find_text(type, data, len, texts + key.start, key.len, entry, why);
+    return rkyv_btree_find_number(type, data, len, key.number, entry, why);
+}
+
 static void walk(const rkyv_btree_map *map, unsigned from, unsigned count, size_t room) {
     rkyv_btree_cursor cursor;
     rkyv_btree_entry batch[64];
@@ -96,7 +102,12 @@ static void one_type(uint32_t type, unsigned count) {
     for (unsigned i = 0; i < count; i++) {
         assert(get(&map, given[i].key, &entry) == RKYV_BTREE_OK);
         assert(same(data, entry.key, given[i].key) && same(data, entry.value, given[i].value));
+        rkyv_btree_entry found = {0};
+        assert(find(type, data, data_len, given[i].key, &found, &why) == RKYV_BTREE_OK);
+        assert(memcmp(&entry, &found, sizeof entry) == 0);
     }
+    assert(rkyv_btree_find_number(type, data, data_len, 1, &entry, &why) == RKYV_BTREE_NOT_FOUND);
+    assert(rkyv_btree_find_text(type, data, data_len, NULL, 0, &entry, &why) == RKYV_BTREE_NOT_FOUND);
     assert(rkyv_btree_get_number(&map, 1, &entry) == RKYV_BTREE_NOT_FOUND);
     assert(rkyv_btree_get_number(&map, UINT64_MAX, &entry) == RKYV_BTREE_NOT_FOUND);
     assert(rkyv_btree_get_text(&map, NULL, 0, &entry) == RKYV_BTREE_NOT_FOUND);
@@ -154,6 +165,10 @@ static void misuse(void) {
     assert(rkyv_btree_open(&map, 1, NULL, 0, &why) == RKYV_BTREE_OUT_OF_RANGE && why.code == RKYV_BTREE_OUT_OF_RANGE);
     assert(rkyv_btree_open(&map, 1, bad, 8, &why) == RKYV_BTREE_OK); /* eight zeros are an empty map */
     assert(rkyv_btree_next(&map, &cursor, batch, 4, &written) == RKYV_BTREE_OK && written == 0);
+    assert(rkyv_btree_find_number(0, bad, 8, 0, &entry, &why) == RKYV_BTREE_BAD_TYPE);
+    assert(rkyv_btree_find_text(10, bad, 8, NULL, 0, &entry, &why) == RKYV_BTREE_BAD_TYPE);
+    assert(rkyv_btree_find_number(1, NULL, 0, 0, &entry, &why) == RKYV_BTREE_OUT_OF_RANGE && why.code == RKYV_BTREE_OUT_OF_RANGE);
+    assert(rkyv_btree_find_number(1, bad, 8, 0, &entry, &why) == RKYV_BTREE_NOT_FOUND);
     assert(rkyv_btree_build(10, NULL, 0, NULL, 0, out, 8, &archive_len) == RKYV_BTREE_BAD_TYPE);
     assert(rkyv_btree_build(1, NULL, 0, NULL, 0, out, 7, &archive_len) == RKYV_BTREE_NO_ROOM && archive_len == 8);
     assert(rkyv_btree_build(1, NULL, 0, NULL, 0, out, 8, &archive_len) == RKYV_BTREE_OK && archive_len == 8);
@@ -202,6 +217,35 @@ static void forged(void) {
     free(data);
 }
 
+/* Each byte of an archive in turn is another one. A lookup without validation returns, and what it finds is in the buffer. If the bytes
+ * can still be opened, it returns what a lookup in the opened map does. */
+static void unvalidated(uint32_t type) {
+    static const uint8_t bytes[] = {0, 1, 2, 127, 128, 255};
+    rkyv_btree_map map = {0};
+    size_t len = 0;
+    give(type, 40);
+    uint8_t *data = build(type, 40, &len);
+    for (size_t at = 0; at < len; at++) {
+        const uint8_t good = data[at];
+        for (size_t n = 0; n < sizeof bytes; n++) {
+            data[at] = bytes[n];
+            for (unsigned i = 0; i < 40; i += 3) {
+                rkyv_btree_refusal why = {0};
+                rkyv_btree_entry entry = {0}, found = {0};
+                uint32_t code = find(type, data, len, given[i].key, &found, &why);
+                assert(code == RKYV_BTREE_OK || code == RKYV_BTREE_NOT_FOUND || (code < 10 && code == why.code));
+                assert(code == RKYV_BTREE_OK || memcmp(&entry, &found, sizeof entry) == 0);
+                assert(code != RKYV_BTREE_OK || (same(data, found.key, given[i].key) && found.value.start + found.value.len <= len));
+                if (rkyv_btree_open(&map, type, data, len, &why) == RKYV_BTREE_OK) {
+                    assert(get(&map, given[i].key, &entry) == code && memcmp(&entry, &found, sizeof entry) == 0);
+                }
+            }
+        }
+        data[at] = good;
+    }
+    free(data);
+}
+
 static void messages(void) {
     uint8_t out[128];
     for (uint32_t code = 0; code < 64; code++) {
@@ -225,6 +269,7 @@ int main(void) {
     for (uint32_t type = 1; type <= 9; type++) {
         for (unsigned count = 0; count <= 220; count++) one_type(type, count);
         one_type(type, MOST);
+        unvalidated(type);
     }
     edits();
     misuse();

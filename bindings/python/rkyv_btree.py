@@ -17,7 +17,7 @@ import pathlib
 from collections.abc import Iterable, Iterator, Mapping
 from typing import Literal, Union, overload
 
-__all__ = ["Error", "Map", "build"]
+__all__ = ["Error", "Map", "build", "find"]
 
 Key = Union[int, str]
 Value = Union[int, str]
@@ -87,6 +87,8 @@ _open_strict = _declared("rkyv_btree_open_strict", _U32, _P(_Map), _U32, _BYTES,
 _len = _declared("rkyv_btree_len", _U32, _P(_Map), _P(_U32))
 _get_number = _declared("rkyv_btree_get_number", _U32, _P(_Map), _U64, _P(_Entry))
 _get_text = _declared("rkyv_btree_get_text", _U32, _P(_Map), ctypes.c_char_p, _SIZE, _P(_Entry))
+_find_number = _declared("rkyv_btree_find_number", _U32, _U32, _BYTES, _SIZE, _U64, _P(_Entry), _P(_Refusal))
+_find_text = _declared("rkyv_btree_find_text", _U32, _U32, _BYTES, _SIZE, ctypes.c_char_p, _SIZE, _P(_Entry), _P(_Refusal))
 _first = _declared("rkyv_btree_first", _U32, _P(_Map), _P(_Cursor))
 _seek_number = _declared("rkyv_btree_seek_number", _U32, _P(_Map), _U64, _P(_Cursor))
 _seek_text = _declared("rkyv_btree_seek_text", _U32, _P(_Map), ctypes.c_char_p, _SIZE, _P(_Cursor))
@@ -114,6 +116,14 @@ class Error(ValueError):
 
 def _number_of(key_type: str, value_type: str) -> int:
     return 3 * TYPES.index(key_type) + TYPES.index(value_type) + 1
+
+
+def _limit_of(key_type: str) -> int:
+    return 2**32 if key_type == "u32" else 2**64
+
+
+def _value_of(view: memoryview, item: _Item, is_text: bool) -> Value:
+    return str(view[item.start : item.start + item.len], "utf-8") if is_text else item.number
 
 
 class Map(Mapping):
@@ -149,7 +159,7 @@ class Map(Mapping):
 
     def _start(self, address: int, length: int, key_type: str, value_type: str, strict: bool) -> None:
         self._texts = (key_type == "text", value_type == "text")
-        self._limit = 2**32 if key_type == "u32" else 2**64
+        self._limit = _limit_of(key_type)
         self._map, why = _Map(), _Refusal()
         opened = _open_strict if strict else _open
         code = opened(self._map, _number_of(key_type, value_type), address, length, why)
@@ -157,9 +167,7 @@ class Map(Mapping):
             raise Error(code, why.at, why.found, why.allowed)
 
     def _read(self, item: _Item, is_text: bool) -> Value:
-        if is_text:
-            return str(self._view[item.start : item.start + item.len], "utf-8")
-        return item.number
+        return _value_of(self._view, item, is_text)
 
     def _find(self, key: object) -> Union[_Entry, None]:
         entry = _Entry()
@@ -232,6 +240,35 @@ class Map(Mapping):
                 if limit is not None and (key.encode() if isinstance(key, str) else key) >= limit:
                     return
                 yield key, self._read(entry.value, self._texts[1])
+
+
+def find(data: bytes, key_type: Type, value_type: Type, key: Key) -> Union[Value, None]:
+    """Returns the value of a key in bytes that nobody has validated, or None. The lookup validates what it reads.
+
+    On the archive of a map that is what a lookup in `Map(data, key_type, value_type)` returns. On other bytes a value that is found is
+    valid and is beside an equal key, and None doesn't mean that the key is absent. Raises Error for a fault in what the lookup reads.
+
+        >>> find(build("text", "u32", [("apple", 3), ("pear", 5)]), "text", "u32", "pear")
+        5
+    """
+    if not isinstance(data, bytes):
+        raise TypeError("data must be bytes, which don't change")
+    entry, why, number = _Entry(), _Refusal(), _number_of(key_type, value_type)
+    address = ctypes.cast(ctypes.c_char_p(data), ctypes.c_void_p)
+    if key_type == "text":
+        if not isinstance(key, str):
+            return None
+        text = key.encode("utf-8", "surrogatepass")
+        code = _find_text(number, address, len(data), text, len(text), entry, why)
+    else:
+        if not isinstance(key, int) or not 0 <= key < _limit_of(key_type):
+            return None
+        code = _find_number(number, address, len(data), key, entry, why)
+    if code == NOT_FOUND:
+        return None
+    if code != OK:
+        raise Error(code, why.at, why.found, why.allowed)
+    return _value_of(memoryview(data), entry.value, value_type == "text")
 
 
 def build(key_type: Type, value_type: Type, entries: Iterable[tuple[Key, Value]], strict: bool = False) -> bytes:

@@ -7,7 +7,7 @@ import tempfile
 import unittest
 
 import rkyv_btree
-from rkyv_btree import Error, Map, build
+from rkyv_btree import Error, Map, build, find
 
 VALUES = {
     "u32": [0, 1, 7, 2**31, 2**32 - 1],
@@ -88,6 +88,33 @@ class Maps(unittest.TestCase):
             build("u32", "u32", [(2**32, 0)])
         with self.assertRaises(TypeError):
             Map(bytearray(good), "u32", "u32")
+
+    def test_find(self):
+        for key_type, keys in VALUES.items():
+            for value_type, values in VALUES.items():
+                data = build(key_type, value_type, zip(keys, values))
+                for key, value in zip(keys, values):
+                    self.assertEqual(find(data, key_type, value_type, key), value)
+                for key in ("\ud800", "absent", -1, 3, 2**64, None):
+                    self.assertIsNone(find(data, key_type, value_type, key))
+        with self.assertRaises(Error) as caught:
+            find(b"", "u32", "u32", 1)
+        self.assertEqual(caught.exception.code, 1)
+        with self.assertRaises(TypeError):
+            find(bytearray(8), "u32", "u32", 1)
+
+    def test_find_in_other_bytes(self):
+        good = build("u32", "text", [(n, "some text") for n in range(20)])
+        for at in range(len(good)):
+            for byte in (0, 1, 2, 127, 128, 255):
+                data = good[:at] + bytes([byte]) + good[at + 1 :]
+                try:
+                    found = find(data, "u32", "text", 7)
+                except (Error, UnicodeDecodeError) as error:
+                    self.assertIsInstance(error, Error)
+                    self.assertRaises(Error, Map, data, "u32", "text")
+                else:
+                    self.assertIn(type(found), (str, type(None)))
 
     def test_forged_cursor(self):
         found = Map(build("u32", "u32", [(n, n) for n in range(1000)]), "u32", "u32")

@@ -116,7 +116,7 @@ pub(crate) mod sealed {
         fn read(data: &'a [u8], item: Item) -> &'a str {
             let start = item.start as usize;
             let text = data.get(start..start + item.len as usize).unwrap_or_default();
-            // SAFETY: the item is one of a validated map in `data`, whose texts are UTF-8.
+            // SAFETY: the item is one of a validated map in `data`, or what a lookup has validated there. Its texts are UTF-8.
             unsafe { std::str::from_utf8_unchecked(text) }
         }
 

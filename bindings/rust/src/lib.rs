@@ -1,11 +1,15 @@
 //! Archived B-tree maps of numbers and texts, in bytes that are validated once and then read in place.
 //!
 //! ```
-#![doc = include_str!("../examples/five_lines.rs")]
+//! # fn main() -> Result<(), rkyv_btree::Error> {
+#![doc = include_str!("../five_lines.rs")]
+//! # Ok(())
+//! # }
 //! ```
 mod edit;
 mod error;
 mod field;
+mod find;
 mod map;
 mod raw;
 
@@ -13,4 +17,5 @@ pub use edit::{Builder, Edit};
 pub use error::Error;
 pub use field::Field;
 pub use field::{AsKey, Number};
+pub use find::find;
 pub use map::{Iter, Map, Range};

@@ -2,6 +2,7 @@
 use std::mem::{align_of, offset_of, size_of};
 
 pub const OK: u32 = 0;
+pub const NOT_FOUND: u32 = 18;
 pub const POSITION_OVERFLOW: u32 = 33;
 pub const NO_ROOM: u32 = 38;
 
@@ -77,6 +78,23 @@ unsafe extern "C" {
     pub fn rkyv_btree_len(map: *const Map, len: *mut u32) -> u32;
     pub fn rkyv_btree_get_number(map: *const Map, key: u64, entry: *mut Entry) -> u32;
     pub fn rkyv_btree_get_text(map: *const Map, key: *const u8, key_len: usize, entry: *mut Entry) -> u32;
+    pub fn rkyv_btree_find_number(
+        kind: u32,
+        data: *const u8,
+        data_len: usize,
+        key: u64,
+        entry: *mut Entry,
+        why: *mut Refusal,
+    ) -> u32;
+    pub fn rkyv_btree_find_text(
+        kind: u32,
+        data: *const u8,
+        data_len: usize,
+        key: *const u8,
+        key_len: usize,
+        entry: *mut Entry,
+        why: *mut Refusal,
+    ) -> u32;
     pub fn rkyv_btree_first(map: *const Map, cursor: *mut Cursor) -> u32;
     pub fn rkyv_btree_seek_number(map: *const Map, key: u64, cursor: *mut Cursor) -> u32;
     pub fn rkyv_btree_seek_text(map: *const Map, key: *const u8, key_len: usize, cursor: *mut Cursor) -> u32;

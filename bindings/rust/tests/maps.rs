@@ -1,5 +1,5 @@
 //! Maps of each type of key and value, built and read back, and bytes that are no map.
-use rkyv_btree::{Builder, Edit, Error, Field, Map};
+use rkyv_btree::{find, Builder, Edit, Error, Field, Map};
 use std::collections::BTreeMap;
 
 fn given_back<'a, K: Field<'a> + Ord + std::fmt::Debug, V: Field<'a> + PartialEq + std::fmt::Debug>(
@@ -117,6 +117,43 @@ fn no_bytes_crash() {
 }
 
 #[test]
+fn found_unvalidated() {
+    let entries: Vec<(u32, u64)> = (0..300).map(|n| (2 * n, u64::from(n))).collect();
+    let bytes = entries.iter().copied().collect::<Builder<_, _>>().build().unwrap();
+    let map = Map::<u32, u64>::open(&bytes).unwrap();
+    for key in 0..700 {
+        assert_eq!(find::<u32, u64>(&bytes, key).unwrap(), map.get(key));
+    }
+    let texts = Builder::new().entry("a", "one").entry("b", "two").build().unwrap();
+    assert_eq!(find::<&str, &str>(&texts, "b").unwrap(), Some("two"));
+    assert_eq!(find::<&str, &str>(&texts, String::from("c")).unwrap(), None);
+    assert_eq!(find::<u32, u32>(&[], 1).err().unwrap().code(), 1);
+    assert_eq!(find::<u32, u32>(&[0; 8], 1).unwrap(), None);
+}
+
+#[test]
+fn no_bytes_crash_a_lookup() {
+    let good = (0..40u32).map(|n| (n, "some text")).collect::<Builder<_, _>>().build().unwrap();
+    for at in 0..good.len() {
+        for byte in [0, 1, 2, 127, 128, 255] {
+            let mut bytes = good.clone();
+            bytes[at] = byte;
+            for key in 0..41 {
+                let found = find::<u32, &str>(&bytes, key);
+                if let Ok(map) = Map::<u32, &str>::open(&bytes) {
+                    assert_eq!(found.unwrap(), map.get(key));
+                } else if let Ok(Some(text)) = found {
+                    assert!(std::str::from_utf8(text.as_bytes()).is_ok());
+                }
+            }
+        }
+    }
+}
+
+// The lines are run as the example of the crate's page.
+#[test]
 fn readme() {
-    assert!(include_str!("../README.md").contains(include_str!("../examples/five_lines.rs")));
+    let lines = include_str!("../five_lines.rs");
+    assert_eq!(lines.lines().count(), 5);
+    assert!(include_str!("../README.md").contains(&format!("```rust\n{lines}```\n")));
 }

@@ -1,5 +1,5 @@
 //! Times maps in memory, of so many entries as its one argument says: a map of texts to numbers, in nanoseconds an entry
-//! for building, checking and walking it, look-ups in a map of numbers, and std's maps to bytes and back. A second argument
+//! for building, checking and walking it, lookups in a map of numbers, and std's maps to bytes and back. A second argument
 //! is the name of a file, to which a map of so many numbers is built in place of all that. Without an argument it compares
 //! the library's builder with one by recursion. With `look WAY FILE KEY` it times one lookup in a file.
 #![tactic(auto)]

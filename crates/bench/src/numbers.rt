@@ -1,4 +1,4 @@
-//! Times maps of `u32` to `u32`, beside std's `BTreeMap` and a binary search in a sorted `Vec`: a million look-ups of keys
+//! Times maps of `u32` to `u32`, beside std's `BTreeMap` and a binary search in a sorted `Vec`: a million lookups of keys
 //! that are there, in random order; walks; and ranges from such keys on, of a million entries in all.
 
 use crate::maps::write;
@@ -18,7 +18,7 @@ use std::ops::{Bound, ControlFlow};
 /// The maps that are timed.
 pub(crate) type Map = ArchivedBTreeMap<ArchivedU32, ArchivedU32, 5>;
 
-/// How many look-ups are timed together.
+/// How many lookups are timed together.
 pub(crate) const LOOKUPS: u32 = 1000000;
 
 /// Key and value of entry `index`.
@@ -38,7 +38,7 @@ pub(crate) fn entries(alloc: Global, count: u32) -> Result<Vec<(u32, u32)>, Allo
     Ok(entries)
 }
 
-/// Keys of such entries in random order, one a look-up.
+/// Keys of such entries in random order, one a lookup.
 fn queries(alloc: Global, count: u32) -> Result<Vec<u32>, AllocError> {
     let mut keys = Vec::with_capacity(alloc, LOOKUPS as usize)?;
     let mut state = 88172645463325252u64;
@@ -191,7 +191,7 @@ fn measure_ranges(
     Ok(())
 }
 
-/// Times look-ups in both maps and in the sorted entries.
+/// Times lookups in both maps and in the sorted entries.
 fn measure_lookups(
     report: &Report,
     map: View<Map>,
@@ -234,7 +234,7 @@ fn std_map(alloc: Global, entries: &[(u32, u32)]) -> Result<BTreeMap<u32, u32>, 
     Ok(map)
 }
 
-/// Times look-ups, walks, ranges and writes of maps of so many entries.
+/// Times lookups, walks, ranges and writes of maps of so many entries.
 pub fn measure(rt: &HostRuntime, count: u32) -> anyhow::Result<()> {
     let entries = entries(rt.alloc(), count)?;
     let keys = queries(rt.alloc(), count)?;

@@ -47,7 +47,7 @@ fn add_one(seal: &mut Seal<'_, ArchivedU32>)
     requires { StandsAlone u32_kind seal.old.buf.now seal.old.pos }
     ensures same_reference { seal.new.buf.ghost_name ≡ seal.old.buf.ghost_name }
     ensures position { seal.new.pos ≡ seal.old.pos }
-    ensures bytes { seal.new.buf.now ≡ put_bytes seal.old.buf.now seal.old.pos (u32_form.own
+    ensures bytes { seal.new.buf.now ≡ put_bytes seal.old.buf.now seal.old.pos (u32_form.own_bytes
         ((from_le (bytes_at seal.old.buf.now seal.old.pos 4) + 1) % 2 ^ 32)) }
 {
     let value = seal.read();

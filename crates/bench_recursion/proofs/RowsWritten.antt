@@ -57,7 +57,7 @@ module _ {M N R S : Type 0} (e : NodeLayout) (K : Archival M R) (V : Archival N 
   turn-so-far {X} {I} {whole} {s0} {s} {xs} {roots} own plan base full rest n start size took end items d some took_is size_is place inside so =
       subst (λ (row : Row (M × N)). RowSoFar X whole s0 row s xs roots) (plan-turn own plan base full rest n start size took end items d some took_is size_is place inside) so
 
-  -- behind other names of the entries and children
+  -- after other names of the entries and children
   pub so-far-as : {X : Type 0} {whole row : Row (M × N)} {s0 s : Writing} {xs ys : List (M × N)} {roots others : List (Option ℕ)} → RowSoFar X whole s0 row s xs roots → ys ≡ xs → others ≡ roots → RowSoFar X whole s0 row s ys others
   so-far-as {X} {whole} {row} {s0} {s} {xs} {ys} {roots} {others} so ents rts =
       subst (λ (zs : List (M × N)). RowSoFar X whole s0 row s zs others) (sym ents) (subst (λ (zs : List (Option ℕ)). RowSoFar X whole s0 row s xs zs) (sym rts) so)

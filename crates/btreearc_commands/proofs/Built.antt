@@ -29,7 +29,7 @@ use Rattle.rkyv_btree_base.specs.Fault.{Fault}
 use Rattle.rkyv_btree_base.specs.Fault.TheVariants.{Length, LengthOverflow, PositionOverflow, OffsetOverflow, Writer, Memory, Entry, OutOfOrder}
 use Rattle.rkyv_btree_base.proofs.Accepting.{accepted_archive, archive_length}
 use Rattle.rkyv_btree_base.proofs.WriteRuns.{AllReach-both, appended-append, stopped_past, stopped_stray}
-use Rattle.btreearc_commands.specs.Archive.{own, five, tree_writes, root_writes, archive_of, HasArchive, IsUnbuilt}
+use Rattle.btreearc_commands.specs.Archive.{own_bytes, five, tree_writes, root_writes, archive_of, HasArchive, IsUnbuilt}
 use Rattle.btreearc_lines.specs.Grammar.{IsLines}
 use Rattle.btreearc_commands.specs.Opening.{IsArchive, root_of}
 
@@ -58,14 +58,14 @@ numbers = plain_archival u32_kind (λ x. x) (λ x. x < 2 ^ 32) (to_le_bytes w32)
 -- the writes of the entries' tree were made, and its root node stands there
 pub record TreeIs (entries : List (ℕ × ℕ)) (root : ℕ) (s : Writing) : Type 0 where
   pub wrote : Wrote nothing_written (tree_writes entries) s
-  pub root_is : root ≡ unwrap_or (child_root five 0 (planned_alone 5 (map own entries))) 0
+  pub root_is : root ≡ unwrap_or (child_root five 0 (planned_alone 5 (map own_bytes entries))) 0
 
 -- of the entries themselves
 pub tree_of : (entries : List (ℕ × ℕ)) (root : ℕ) (from s : Writing) → from ≡ nothing_written → Built five numbers numbers from entries root s → TreeIs entries root s
 tree_of entries root from s start built =
     let tree : Built five numbers numbers nothing_written entries root s = subst (λ (w : Writing). Built five numbers numbers w entries root s) start built in
     let made = child_written u32_kind u32_kind 5 u32_laws u32_laws numbers_fit (λ x. x) (λ x. x) (λ x. x < 2 ^ 32) (λ x. x < 2 ^ 32) (to_le_bytes w32) (to_le_bytes w32) u32_faithful.is_own u32_faithful.is_own nothing_written (planned_alone 5 entries) tree.place s tree.written in
-    let same = alone_mapped own 5 entries in
+    let same = alone_mapped own_bytes 5 entries in
     record {
       wrote = subst (λ (c : Child OwnBytes). Wrote nothing_written (child_image five 0 c) s) (sym same) made.0;
       root_is = tree.root_is ∙ (ap (λ (r : Option ℕ). unwrap_or r 0) made.1 ∙ ap (λ (c : Child OwnBytes). unwrap_or (child_root five 0 c) 0) (sym same));
@@ -74,7 +74,7 @@ tree_of entries root from s start built =
 pub tree_is : (entries : List (ℕ × ℕ)) (items : List (Bor ℕ × Bor ℕ)) (root : ℕ) (from s : Writing) → from ≡ nothing_written → map pair items ≡ entries → Built five numbers numbers from (map now_of items) root s → TreeIs entries root s
 tree_is entries items root from s start are built = tree_of entries root from s start (subst (λ (xs : List (ℕ × ℕ)). Built five numbers numbers from xs root s) are built)
 
--- the map's writes behind the tree
+-- the map's writes after the tree
 roots_are : (entries : List (ℕ × ℕ)) (root : ℕ) (s : Writing) → TreeIs entries root s → root_image (position s) root (length entries) ≡ root_writes entries
 roots_are entries root s built =
     let at : position s ≡ length (appended (tree_writes entries)) = omega (arith, ap length built.wrote.done.contents, built.wrote.done.base) in
@@ -116,10 +116,10 @@ paired (x ∷ xs) (y ∷ ys) n =
     let rest = paired xs ys (omega (arith, n)) in
     ((x, y) ∷ rest.0, ap (λ zs. x ∷ zs) rest.1, ap (λ zs. y ∷ zs) rest.2)
 
-planned_by : (f : (ℕ × ℕ) × (ℕ × ℕ) → ℕ × ℕ) (zs : List ((ℕ × ℕ) × (ℕ × ℕ))) (xs : List (ℕ × ℕ)) → map f zs ≡ xs → planned_alone 5 (map own xs) ≡ mapped_child (λ z. own (f z)) (planned_alone 5 zs)
-planned_by f zs xs e = ap (λ ys. planned_alone 5 (map own ys)) (sym e) ∙ (ap (planned_alone 5) (map-map own f zs) ∙ alone_mapped (λ z. own (f z)) 5 zs)
+planned_by : (f : (ℕ × ℕ) × (ℕ × ℕ) → ℕ × ℕ) (zs : List ((ℕ × ℕ) × (ℕ × ℕ))) (xs : List (ℕ × ℕ)) → map f zs ≡ xs → planned_alone 5 (map own_bytes xs) ≡ mapped_child (λ z. own_bytes (f z)) (planned_alone 5 zs)
+planned_by f zs xs e = ap (λ ys. planned_alone 5 (map own_bytes ys)) (sym e) ∙ (ap (planned_alone 5) (map-map own_bytes f zs) ∙ alone_mapped (λ z. own_bytes (f z)) 5 zs)
 
-own_is : (x : ℕ × ℕ) → IsOwn u32_kind (own x).0 × IsOwn u32_kind (own x).1
+own_is : (x : ℕ × ℕ) → IsOwn u32_kind (own_bytes x).0 × IsOwn u32_kind (own_bytes x).1
 own_is x = (u32_faithful.is_own x.0, u32_faithful.is_own x.1)
 
 -- as many entries have a tree of the same writes but for their numbers, and so the same map
@@ -130,8 +130,8 @@ module _ (xs ys : List (ℕ × ℕ)) (same : length xs ≡ length ys) where
       let front = planned_by (λ z. z.0) p.0 xs p.1 in
       let back = planned_by (λ z. z.1) p.0 ys p.2 in
       subst (λ (c : Child OwnBytes). AreAlike (child_image five 0 c) (tree_writes ys)) (sym front)
-      (subst (λ (c : Child OwnBytes). AreAlike (child_image five 0 (mapped_child (λ z. own z.0) (planned_alone 5 p.0))) (child_image five 0 c)) (sym back)
-      (child_alike u32_kind u32_kind 5 u32_laws u32_laws numbers_fit (λ z. own z.0) (λ z. own z.1) (λ z. own_is z.0) (λ z. own_is z.1) 0 (planned_alone 5 p.0) (alone_shape p.0)))
+      (subst (λ (c : Child OwnBytes). AreAlike (child_image five 0 (mapped_child (λ z. own_bytes z.0) (planned_alone 5 p.0))) (child_image five 0 c)) (sym back)
+      (child_alike u32_kind u32_kind 5 u32_laws u32_laws numbers_fit (λ z. own_bytes z.0) (λ z. own_bytes z.1) (λ z. own_is z.0) (λ z. own_is z.1) 0 (planned_alone 5 p.0) (alone_shape p.0)))
 
 module _ {S : Type 0} (steps : S → Option (Bor ℕ × Bor ℕ) → S → Type 0) (entries : List (ℕ × ℕ)) where
   -- writing the tree of as many entries was stopped
@@ -143,7 +143,7 @@ module _ {S : Type 0} (steps : S → Option (Bor ℕ × Bor ℕ) → S → Type 
       let tree = planned_alone 5 h.entries in
       let stopped = child_stopped u32_kind u32_kind 5 u32_laws u32_laws numbers_fit (λ x. x) (λ x. x) (λ x. x < 2 ^ 32) (λ x. x < 2 ^ 32) (to_le_bytes w32) (to_le_bytes w32) u32_faithful.is_own u32_faithful.is_own nothing_written tree fault t (alone_shape h.entries)
       (subst (λ (s : Writing). ChildStopped five numbers numbers s tree fault t) start (h.stopped h.entries h.claimed)) in
-      subst (λ (c : Child OwnBytes). Stopped nothing_written (child_image five 0 c) fault t) (sym (alone_mapped own 5 h.entries)) stopped
+      subst (λ (c : Child OwnBytes). Stopped nothing_written (child_image five 0 c) fault t) (sym (alone_mapped own_bytes 5 h.entries)) stopped
 
   unbuilt_past : {X : Type 0} (xs : List (ℕ × ℕ)) (t : Writing) → length xs ≡ length entries → Stopped {E = X} nothing_written (tree_writes xs) PositionOverflow t → last_end < length (archive_of entries)
   unbuilt_past xs t same h =

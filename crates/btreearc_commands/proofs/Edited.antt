@@ -27,12 +27,12 @@ pub is_equal : (n m : ℕ) → m ≡ n → nat_cmp n m ≡ Equal
 is_equal n m h = grind (arith, nat_tests)
 
 -- a list stays as long where four of its bytes are replaced by four others
-same_length : (b own : List ℕ) (at : ℕ) → length own ≡ 4 → at + 4 ≤ length b → length (put_bytes b at own) ≡ length b
-same_length b own at four room =
+same_length : (b own_bytes : List ℕ) (at : ℕ) → length own_bytes ≡ 4 → at + 4 ≤ length b → length (put_bytes b at own_bytes) ≡ length b
+same_length b own_bytes at four room =
     let front = length-take-le at b (omega arith) in
-    let back = length-drop (at + length own) b in
-    let tail = length-append own (drop (at + length own) b) in
-    let all = length-append (take at b) (own ++ drop (at + length own) b) in
+    let back = length-drop (at + length own_bytes) b in
+    let tail = length-append own_bytes (drop (at + length own_bytes) b) in
+    let all = length-append (take at b) (own_bytes ++ drop (at + length own_bytes) b) in
     omega arith
 
 -- some entry compares as equal exactly where the key is one of the keys
@@ -70,7 +70,7 @@ module _ (key value : ℕ) (small : value < 2 ^ 32) (writes : WritesValues u32_k
       record {
         i = i;
         number = puts.entry.1;
-        has_key = rw there.means (equal_is key (entry_at u32_kind u32_kind 5 b place).0 finds.answers.hit.0);
+        has_key = rw there.means (equal_is key (entry_at u32_kind u32_kind 5 b place).0 finds.search.hit.0);
         before = there.before;
         bytes = puts.bytes;
         archive = (
@@ -91,7 +91,7 @@ module _ (key value : ℕ) (small : value < 2 ^ 32) (writes : WritesValues u32_k
   set_where_key : (found : Option (ℕ × ℕ)) (ended : Bool) → Found found → ended ≡ is_some found → OrderedBy (λ e. nat_cmp key e.0) entries → (IsTrue ended ↔ Contains (map (λ e. e.0) entries) key)
   set_where_key found ended finds is ordered =
       let read = map_is_read u32_kind u32_kind 5 b u32_laws.is_read u32_laws.is_read 0 (root_of b) (root_of b) opened.0 entries opened.1 in
-      let hits = finds.answers.complete (subst (OrderedBy (λ e. nat_cmp key e.0)) read ordered) in
+      let hits = finds.search.complete (subst (OrderedBy (λ e. nat_cmp key e.0)) read ordered) in
       let keys = hit_is_key key entries in
       let same = is_some-map (entry_at u32_kind u32_kind 5 b) found in (
         λ yes. keys.0 (subst (AnyHit (λ e. nat_cmp key e.0)) (sym read) (hits.0 (same ∙ (sym is ∙ yes)))),

@@ -20,14 +20,14 @@ use Rattle.btreearc_commands.proofs.Ends.{IsKnown, failed, ordered, grown_by_not
 less_is : (n m : ℕ) → nat_cmp n m ≡ Less → n < m
 less_is n m h = grind (arith, nat_tests)
 
--- behind a key that isn't less than the key to be set no value is replaced
+-- after a key that isn't less than the key to be set no value is replaced
 behind : (key value first : ℕ) (entries : List (ℕ × ℕ)) → key ≤ first → AllByRecursion (λ k. nat_cmp first k ≡ Less) (keys entries) → with_value key value entries ≡ entries
 behind key value first [] low above = refl
 behind key value first (x ∷ xs) low above =
     let more : first < x.0 = less_is first x.0 above.0 in
     rw (ne_eqb x.0 key (λ same. omega arith)) (ap (λ (zs : List (ℕ × ℕ)). x ∷ zs) (behind key value first xs low above.1))
 
--- an entry that has the key stands behind those of lesser keys
+-- an entry that has the key stands after those of lesser keys
 before : (key first : ℕ) (entries : List (ℕ × ℕ)) (i : ℕ) → AllByRecursion (λ k. nat_cmp first k ≡ Less) (keys entries) → IsSomeAnd (slice_get entries i) (λ e. e.0 ≡ key) → first < key
 before key first [] i above has = absurd has
 before key first (x ∷ xs) zero above has = let less = less_is first x.0 above.0 in omega (arith, less, has)

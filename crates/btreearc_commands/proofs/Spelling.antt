@@ -1,4 +1,4 @@
--- Lines are entries one behind the other.
+-- Lines are entries one after the other.
 use Rattle.std.proofs.Common.{◌≡◌, ℕ, ◌≤◌, List, [], ◌∷◌, ◌++◌, length, refl, sym, ap, subst, ◌∙◌, arith, append_assoc}
 use Rattle.std.proofs.lemmas.Grind.{common_steps}
 use Rattle.btreearc_lines.specs.Grammar.{IsEntry, lines, AreEntries, IsLines, Leads, IsSpelled}

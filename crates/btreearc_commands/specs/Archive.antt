@@ -1,4 +1,4 @@
--- The archive of entries: their tree from position 0 on, and behind it the map.
+-- The archive of entries: their tree from position 0 on, and after it the map.
 use Rattle.std.specs.Prelude.{ℕ, ◌<◌, ◌≤◌, List, ◌++◌, length, map, unwrap_or}
 use Rattle.std.specs.Int.{w32, to_le_bytes}
 use Rattle.std.specs.Ordering.{nat_cmp}
@@ -15,8 +15,8 @@ use Rattle.btreearc_lines.specs.declared.fault.ProgramFault.{ProgramFault}
 use Rattle.btreearc_lines.specs.declared.fault.ProgramFault.TheVariants.{NotBuilt}
 
 -- the own bytes of an entry's key and value
-abbrev pub own : ℕ × ℕ → OwnBytes
-own x = (to_le_bytes w32 x.0, to_le_bytes w32 x.1)
+abbrev pub own_bytes : ℕ × ℕ → OwnBytes
+own_bytes x = (to_le_bytes w32 x.0, to_le_bytes w32 x.1)
 
 -- the program's nodes have five entries
 abbrev pub five : NodeLayout
@@ -24,11 +24,11 @@ five = layout_of u32_kind u32_kind 5
 
 -- the writes of the tree, and then of the map
 abbrev pub tree_writes : List (ℕ × ℕ) → List Write
-tree_writes entries = child_image five 0 (planned_alone 5 (map own entries))
+tree_writes entries = child_image five 0 (planned_alone 5 (map own_bytes entries))
 
 abbrev pub root_writes : List (ℕ × ℕ) → List Write
 root_writes entries =
-    root_image (length (appended (tree_writes entries))) (unwrap_or (child_root five 0 (planned_alone 5 (map own entries))) 0) (length entries)
+    root_image (length (appended (tree_writes entries))) (unwrap_or (child_root five 0 (planned_alone 5 (map own_bytes entries))) 0) (length entries)
 
 abbrev pub archive_of : List (ℕ × ℕ) → List ℕ
 archive_of entries = appended (tree_writes entries ++ root_writes entries)

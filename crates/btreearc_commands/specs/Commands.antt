@@ -64,7 +64,7 @@ Gets key input old new (Ok status) =
     IfSome input (λ bytes. (entries : List (ℕ × ℕ)) × IsArchive bytes entries × PrintsValue (found_in_archive bytes key) old new status)
 Gets key input old new (Err fault) = FailsOnArchive input old new fault
 
--- the found entries stand in the list one behind the other; and where along the list come keys before a bound, then keys
+-- the found entries stand in the list one after the other; and where along the list come keys before a bound, then keys
 -- equal to it, then keys past it, for both bounds, they are all entries whose keys are from `low` to `high`
 pub record IsBetween (low high : ℕ) (entries found : List (ℕ × ℕ)) : Type 0 where
   pub run : IsRun found entries

@@ -9,24 +9,24 @@ use Rattle.btreearc_lines.specs.Grammar.{IsLines}
 use Rattle.btreearc_lines.specs.declared.fault.ProgramFault.{ProgramFault}
 use Rattle.btreearc_lines.specs.declared.fault.ProgramFault.TheVariants.{NotBuilt, InputFailed, OutputFailed, Memory}
 
--- `build` has written this archive, behind what was there before, for a text whose lines are these entries
+-- `build` has written this archive, after what was there before, for a text whose lines are these entries
 pub record IsBuilt (text : List ℕ) (entries : List (ℕ × ℕ)) (archive : List ℕ) : Type 0 where
   pub lines : IsLines text entries
   pub before : List ℕ
   pub built : Builds (Some text) (Some before) (Some (before ++ archive)) (Ok 0)
 
--- `set` has found the key in this archive, and has written that one, behind what was there before
+-- `set` has found the key in this archive, and has written that one, after what was there before
 pub record IsSetIn (key value : ℕ) (archive made : List ℕ) : Type 0 where
   pub before : List ℕ
   pub set : Sets key value (Some archive) (Some before) (Some (before ++ made)) (Ok 0)
 
--- `build-strict` has written this archive, behind what was there before, for a text whose lines are these entries
+-- `build-strict` has written this archive, after what was there before, for a text whose lines are these entries
 pub record IsBuiltStrict (text : List ℕ) (entries : List (ℕ × ℕ)) (archive : List ℕ) : Type 0 where
   pub lines : IsLines text entries
   pub before : List ℕ
   pub built : BuildsStrict (Some text) (Some before) (Some (before ++ archive)) (Ok 0)
 
--- `migrate` has made that archive of this one, and has written it behind what was there before
+-- `migrate` has made that archive of this one, and has written it after what was there before
 pub record IsMigratedTo (archive made : List ℕ) : Type 0 where
   pub before : List ℕ
   pub migrated : Migrates (Some archive) (Some before) (Some (before ++ made)) (Ok 0)
@@ -42,7 +42,7 @@ Writes Are status old new (Err (NotBuilt (NoRoom error))) = new ≡ old
 Writes Are status old new (Err OutputFailed) = Unit {0}
 Writes Are status old new (Err _) = ⊥
 
--- what is known of a run: the output before and after it, and its answer
+-- what is known of a run: the output before and after it, and its result
 abbrev pub Runs : Type 1
 Runs = Option (List ℕ) → Option (List ℕ) → Result ℕ ProgramFault → Type 0
 

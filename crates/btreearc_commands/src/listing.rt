@@ -1,7 +1,7 @@
 //! The text of entries.
 ghost use Rattle.std.specs.Prelude.{◌≡◌, ◌++◌, List, ℕ, OnOk, ◌↔◌, string_bytes};
 ghost use Rattle.std.specs.Iterator.{IsFinite};
-ghost use Rattle.rkyv_btree.specs.View.{reads_both};
+ghost use Rattle.rkyv_btree.specs.View.{view_entry};
 ghost use Rattle.btreearc_lines.specs.Grammar.{AppendsLines, text_of, line, AreShort, IsLines, IsSpelled};
 
 use rkyv_btree::view::View;
@@ -30,7 +30,7 @@ pub fn write_entries<'a, I: Iterator<Item = (View<'a, ArchivedU32>, View<'a, Arc
 ) -> Result<(), AllocError>
     requires can { I.can_next entries }
     requires ends { IsFinite (I.remaining entries) }
-    ensures { OnOk result (AppendsLines I.next_gives reads_both entries out.old out.new) }
+    ensures { OnOk result (AppendsLines I.next_gives view_entry entries out.old out.new) }
 {
     while let Some((key, value)) = entries.next() {
         write_entry(out, key.to_native(), value.to_native())?;
@@ -43,7 +43,7 @@ pub fn read_back()
     ensures { (entries : List (ℕ × ℕ)) → AreShort entries → IsLines (text_of entries) entries }
 {}
 
-/// Lines are entries just where the bytes are those entries one behind the other.
+/// Lines are entries just where the bytes are those entries one after the other.
 pub fn one_behind_the_other()
     ensures { (bytes : List ℕ) (entries : List (ℕ × ℕ)) →
         IsLines bytes entries ↔ IsSpelled bytes entries }

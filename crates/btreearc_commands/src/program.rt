@@ -137,7 +137,7 @@ fn check<R: Read, W: Write>(
     Ok(0)
 }
 
-/// Writes the value of the entry whose key is this, and answers 1 where a search of the input's archive finds none.
+/// Writes the value of the entry whose key is this, and returns 1 where a search of the input's archive finds none.
 ///
 /// # Errors
 ///
@@ -165,7 +165,7 @@ fn get<R: Read, W: Write>(
 }
 
 /// Writes a line for each entry of the input's archive whose key is from `low` to `high`. Where the keys are out of
-/// order, these are some entries that stand one behind the other.
+/// order, these are some entries that stand one after the other.
 ///
 /// # Errors
 ///
@@ -193,7 +193,7 @@ fn range<R: Read, W: Write>(
     Ok(0)
 }
 
-/// Writes the input's archive with this value of the entry whose key is this, and answers 1 where a
+/// Writes the input's archive with this value of the entry whose key is this, and returns 1 where a
 /// search of the archive finds none. The value is written in place: the archive isn't copied.
 ///
 /// # Errors

@@ -101,7 +101,7 @@ pub out_of_range : (c : ℕ) → IsOutOfRange 48 57 c → IsDigit c → ⊥
 out_of_range c (inl h) d = omega (arith, d.0)
 out_of_range c (inr h) d = omega (arith, d.1)
 
--- a number by itself is at the front, with nothing behind it
+-- a number by itself is at the front, with nothing after it
 pub whole_first : (bytes : List ℕ) (n : ℕ) → IsNumber bytes n → NumberFirst bytes n []
 whole_first bytes n is = record { digits = bytes; spelled = sym (append-nil bytes); is = is; ends = tt }
 

@@ -9,14 +9,14 @@ abbrev pub NoDigitFirst : List ℕ → Type 0
 NoDigitFirst [] = Unit {0}
 NoDigitFirst (c ∷ cs) = IsDigit c → ⊥
 
--- all digits at the front are a number, and rest is behind them
+-- all digits at the front are a number, and rest is after them
 pub record NumberFirst (bytes : List ℕ) (n : ℕ) (rest : List ℕ) : Type 0 where
   pub digits : List ℕ
   pub spelled : bytes ≡ digits ++ rest
   pub is : IsNumber digits n
   pub ends : NoDigitFirst rest
 
--- the line at the front is an entry, and rest is behind it
+-- the line at the front is an entry, and rest is after it
 pub record EntryFirst (bytes : List ℕ) (x : ℕ × ℕ) (rest : List ℕ) : Type 0 where
   pub space : List ℕ
   pub after_space : List ℕ

@@ -6,7 +6,7 @@ ghost use Rattle.btreearc_lines.specs.Reading.{NumberFirst, EntryFirst, Refuses,
 use crate::fault::ProgramFault;
 use std::alloc::Global;
 
-/// The number of all digits at the front, and what is behind them.
+/// The number of all digits at the front, and what is after them.
 fn first_number(bytes: &[u8]) -> Option<(u32, &[u8])>
     ensures found { IfSome result (λ r. NumberFirst bytes.now r.0 r.1.now) }
     ensures none { IfNone result ((n : ℕ) (rest : List ℕ) → NumberFirst bytes.now n rest → ⊥) }
@@ -38,7 +38,7 @@ pub fn whole_number(word: &str) -> Option<u32>
     if rest.is_empty() { Some(number) } else { None }
 }
 
-/// What is behind a space.
+/// What is after a space.
 fn after_space(bytes: &[u8]) -> Option<&[u8]>
     ensures found { IfSome result (λ rest. bytes.now ≡ 32 ∷ rest.now) }
     ensures none { IfNone result ((rest : List ℕ) → bytes.now ≡ 32 ∷ rest → ⊥) }
@@ -47,7 +47,7 @@ fn after_space(bytes: &[u8]) -> Option<&[u8]>
     if *first == b' ' { Some(rest) } else { None }
 }
 
-/// What is behind a line's end.
+/// What is after a line's end.
 fn after_line(bytes: &[u8]) -> Option<&[u8]>
     ensures found { IfSome result (λ rest. LineEnds bytes.now rest.now) }
     ensures none { IfNone result ((rest : List ℕ) → LineEnds bytes.now rest → ⊥) }
@@ -58,7 +58,7 @@ fn after_line(bytes: &[u8]) -> Option<&[u8]>
     if *first == b'\n' { Some(rest) } else { None }
 }
 
-/// The entry on the first line, and what is behind that line.
+/// The entry on the first line, and what is after that line.
 fn first_entry(bytes: &[u8]) -> Option<((u32, u32), &[u8])>
     ensures found { IfSome result (λ r. EntryFirst bytes.now r.0 r.1.now) }
     ensures none { IfNone result ((x : ℕ × ℕ) (rest : List ℕ) → EntryFirst bytes.now x rest → ⊥) }

@@ -109,7 +109,7 @@ module _ (p : List ℕ) where
   all_past k [] less below = none _
   all_past k (e ∷ es) less below = more (λ e. at e ≡ Less) e es (past p k e.0 below.0 less) (all_past k es less below.1)
 
-  -- behind a key with the prefix no key is before it
+  -- after a key with the prefix no key is before it
   none_before : (k : List ℕ) (xs greater equal less : List Entry) → prefix_cmp p k ≡ Equal → Below k xs → xs ≡ greater ++ equal ++ less → All (λ e. at e ≡ Greater) greater → greater ≡ []
   none_before k xs [] equal less same below parts g = refl
   none_before k [] (z ∷ zs) equal less same below parts g = absurd (cc parts)

@@ -48,7 +48,7 @@ use Rattle.btreekv_commands.proofs.Fits.{texts_fit}
 abbrev Texts : Archival (String Global) ℕ
 Texts = text_archival string_bytes
 
--- The map behind a tree.
+-- The map after a tree.
 
 padded : (p : ℕ) (same : Bool) → nat_eq (round_up p 4) p ≡ same → length (appended (if same then [] else zeros_write (round_up p 4 - p) ∷ [])) + p ≡ round_up p 4
 padded p true e = grind (arith, nat_tests)
@@ -125,7 +125,7 @@ module _ (archived : IsArchived Texts) (causes : HasCauses Texts) (native : List
       list_unserialised 5 text_kind text_kind Texts Texts (itself text_kind) (itself text_kind) text_laws text_laws texts_fit (λ entries. entries) native from t (YieldsFirstBy pair rest) iter (length native) all_given archived archived causes causes begun refl (Err fault) none h in
       (native, refl, inl (t, subst (λ (w : Writing). IsUnserialised entries_archival native w fault t) start why))
 
-  -- the map isn't written behind it
+  -- the map isn't written after it
   pub rootless : (root : ℕ) (s t : Writing) (fault : Fault AllocError) → length native ≤ last_end → Serialised text_kind text_kind 5 Texts Texts (YieldsFirstBy pair rest) iter (length native) from root s → RootFault root (length native) s fault t → IsUnbuilt (map texts_of native) fault
   rootless root s t fault few built h =
       let result : Result ℕ (Fault AllocError) = Ok root in

@@ -1,7 +1,7 @@
 //! Texts and entries as JSON.
 ghost use Rattle.std.specs.Prelude.{◌≡◌, ◌++◌, ◌<◌, OnOk};
 ghost use Rattle.std.specs.Iterator.{IsFinite};
-ghost use Rattle.rkyv_btree.specs.View.{reads_both};
+ghost use Rattle.rkyv_btree.specs.View.{view_entry};
 ghost use Rattle.btreekv_commands.specs.Json.{AppendsObject, escaped, hex_digit, json_string, member, short_escape};
 
 use rkyv_btree::view::View;
@@ -94,7 +94,7 @@ pub fn push_object<'a, I: Iterator<Item = (View<'a, ArchivedText>, View<'a, Arch
     requires can { I.can_next entries }
     requires ends { IsFinite (I.remaining entries) }
     ensures { OnOk result
-        (AppendsObject I.next_gives reads_both entries out.old.items out.new.items) }
+        (AppendsObject I.next_gives view_entry entries out.old.items out.new.items) }
 {
     out.extend_from_slice(b"{")?;
     let mut separator: &[u8] = b"";

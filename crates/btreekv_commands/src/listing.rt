@@ -1,7 +1,7 @@
 //! The text of entries.
 ghost use Rattle.std.specs.Prelude.{◌≡◌, ◌++◌, OnOk, string_bytes};
 ghost use Rattle.std.specs.Iterator.{IsFinite};
-ghost use Rattle.rkyv_btree.specs.View.{reads_both};
+ghost use Rattle.rkyv_btree.specs.View.{view_entry};
 ghost use Rattle.btreekv_commands.specs.Lines.{AppendsLines, line_of};
 
 use rkyv_btree::view::View;
@@ -31,7 +31,7 @@ pub fn write_entries<'a, I: Iterator<Item = (View<'a, ArchivedText>, View<'a, Ar
 ) -> Result<(), AllocError>
     requires can { I.can_next entries }
     requires ends { IsFinite (I.remaining entries) }
-    ensures { OnOk result (AppendsLines I.next_gives reads_both entries out.old out.new) }
+    ensures { OnOk result (AppendsLines I.next_gives view_entry entries out.old out.new) }
 {
     while let Some((key, value)) = entries.next() {
         write_entry(out, key.as_str(), value.as_str())?;

@@ -3,7 +3,7 @@ ghost use Rattle.std.specs.Prelude.{◌≡◌};
 ghost use Rattle.std.specs.Iterator.{IsFinite};
 ghost use Rattle.rkyv_btree.specs.Items.{ShowsAll};
 ghost use Rattle.rkyv_btree.specs.Range.{range_left};
-ghost use Rattle.rkyv_btree.specs.View.{entries_of, reads_both};
+ghost use Rattle.rkyv_btree.specs.View.{entries_of, view_entry};
 ghost use Rattle.rkyv_btree_base.specs.Text.{text_kind};
 ghost use Rattle.btreekv_commands.specs.Prefixes.{HasPrefix, prefix_cmp};
 
@@ -30,7 +30,7 @@ fn compare_prefix(prefix: &str, key: &str) -> Ordering
 /// Returns an iterator over the entries whose keys begin with a text, in order. If the keys don't increase, its items are
 /// some contiguous run of entries.
 pub fn with_prefix<'a>(map: View<'a, Texts>, prefix: &str) -> Range<'a, Texts>
-    ensures yields { ShowsAll ⟦<Range<'a, Texts> as Iterator>⟧.next_gives reads_both result
+    ensures yields { ShowsAll ⟦<Range<'a, Texts> as Iterator>⟧.next_gives view_entry result
         (range_left result) }
     ensures ends { IsFinite (⟦<Range<'a, Texts> as Iterator>⟧.remaining result) }
     ensures has_prefix { HasPrefix prefix.now (entries_of text_kind text_kind 5 map.entry)

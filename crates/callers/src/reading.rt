@@ -37,6 +37,30 @@ pub fn price_unverified(bytes: &[u8], name: &str) -> Result<Option<u64>> {
     Ok(map.get_by(name)?.map(|price| price.to_native()))
 }
 
+/// Adds up all prices, modulo 2 to the power of 64. Each entry is validated when it is read.
+pub fn total_unverified(bytes: &[u8]) -> Result<u64> {
+    sizes_fit::<Prices>();
+    let map = Unverified::<Prices>::open(bytes)?;
+    let mut sum: u64 = 0;
+    for entry in map.iter() {
+        let (_, price) = entry?;
+        sum = sum.wrapping_add(price.to_native());
+    }
+    Ok(sum)
+}
+
+/// Adds up the prices of the names from `low` to `high`, modulo 2 to the power of 64. Each entry is validated when it is read.
+pub fn total_between_unverified(bytes: &[u8], low: &str, high: &str) -> Result<u64> {
+    sizes_fit::<Prices>();
+    let map = Unverified::<Prices>::open(bytes)?;
+    let mut sum: u64 = 0;
+    for entry in map.range_of(low..=high)? {
+        let (_, price) = entry?;
+        sum = sum.wrapping_add(price.to_native());
+    }
+    Ok(sum)
+}
+
 /// Returns the price of a name, by a comparison of the caller's own.
 pub fn price_with(map: View<'_, Prices>, name: &str) -> Option<u64> {
     let found = map.get_key_value_with(&name, |name: &&str, key: View<ArchivedText>| {

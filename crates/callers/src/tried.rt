@@ -4,7 +4,7 @@ use crate::building::archive_of;
 use crate::editing::{double_all, double_along, raise_price, set_price};
 use crate::reading::{
     Prices, count, first_above, first_longer, price_in, price_in_strict, price_unverified,
-    price_with, total, total_between,
+    price_with, total, total_between, total_between_unverified, total_unverified,
 };
 use rkyv_btree::prelude::*;
 use rkyv_btree::set::open_strict as open_strict_set;
@@ -51,6 +51,8 @@ fn prices_are_edited(rt: HostRuntime) -> Result<(), Fail> {
     assert_eq!(rt; price_in(bytes.as_slice(), "pear")?, Some(40));
     assert_eq!(rt; price_in_strict(bytes.as_slice(), "pear")?, Some(40));
     assert_eq!(rt; price_unverified(bytes.as_slice(), "pear")?, Some(40));
+    assert_eq!(rt; total_unverified(bytes.as_slice())?, 52);
+    assert_eq!(rt; total_between_unverified(bytes.as_slice(), "b", "q")?, 40);
     Ok(())
 }
 
@@ -87,6 +89,24 @@ fn sets_are_read(rt: HostRuntime) -> Result<(), Fail> {
     assert_eq!(rt; last, Some(7));
     assert_eq!(rt; set.len(), 3);
     assert_eq!(rt; strict.len(), 3);
+    Ok(())
+}
+
+#[test]
+fn sets_are_read_unverified(rt: HostRuntime) -> Result<(), Fail> {
+    let bytes = three(rt.alloc())?;
+    sizes_fit::<Numbers>();
+    let set = Unverified::<Numbers>::open(bytes.as_slice())?;
+    let mut sum = 0u32;
+    for number in set.iter() {
+        sum = sum.wrapping_add(number?.to_native());
+    }
+    assert_eq!(rt; sum, 12);
+    let mut within = 0u32;
+    for number in set.range_of(3..7)? {
+        within = within.wrapping_add(number?.to_native());
+    }
+    assert_eq!(rt; within, 3);
     Ok(())
 }
 

@@ -41,7 +41,7 @@ fn reads_nothing(rt: &impl Abort, alloc: Global, words: &[&str]) -> Result<(), F
     says(rt, alloc, result, USAGE)
 }
 
-/// The answer is a fault of this line.
+/// The result is a fault of this line.
 fn says(
     rt: &impl Abort,
     alloc: Global,

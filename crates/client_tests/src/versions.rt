@@ -35,7 +35,7 @@ fn releases() -> [(Version, u32); 3] {
     ]
 }
 
-/// Archives the years in which versions came out behind what the writer holds, and answers the map's position.
+/// Archives the years in which versions came out after what the writer holds, and returns the map's position.
 fn archive(
     rt: &impl Abort,
     alloc: Global,
@@ -107,7 +107,7 @@ fn versions_are_looked_up(rt: HostRuntime) -> Result<(), Fail> {
     Ok(())
 }
 
-/// Look-ups of a version, and of its numbers, find this year.
+/// Lookups of a version, and of its numbers, find this year.
 fn is_looked_up(rt: &impl Abort, map: &View<Releases>, wanted: Version, year: Option<u32>) {
     same(rt, map.get_by(wanted).map(number), year);
     let numbers = (wanted.major, wanted.minor, wanted.patch);
@@ -156,7 +156,7 @@ fn no_version_is_refused_when_it_is_read(rt: HostRuntime) {
     same(&rt, opened.err(), Some(Refusal::BadEntry { pos: 1 }));
 }
 
-/// What a hasher answers that was fed a value.
+/// What a hasher returns that was fed a value.
 fn hashed<T: Hash>(value: &T) -> u64 {
     let mut state = DefaultHasher::new();
     value.hash(&mut state);

@@ -12,7 +12,7 @@ use Rattle.rkyv_btree.specs.EntryPlaces.{entry_places}
 use Rattle.examples.specs.Editing.{IsNumbers, plus_ten}
 use Rattle.examples.proofs.Numbers.{numbers_read, numbered, number_put}
 
--- behind the first s entries, n entries have 10 more
+-- after the first s entries, n entries have 10 more
 abbrev pub added : ℕ → ℕ → List (ℕ × ℕ) → List (ℕ × ℕ)
 added zero zero m = m
 added zero (suc n) [] = []
@@ -63,7 +63,7 @@ module _ (b₀ : List ℕ) (pos : ℕ) (skipped later : List (ℕ × ℕ)) where
       start_list m h = rw (start_same (length skipped) m) h
 
   -- it was added to one more
-  pub adding_more : (b c : List ℕ) (old new : List (ℕ × ℕ)) (e : ℕ × ℕ) (v : ℕ) → Adding b old → old ≡ e ∷ new → v ≡ from_le (bytes_at b (value_place u32_kind u32_kind 5 e) 4) → PutsEntry u32_kind u32_kind 5 b pos e (u32_form.own ((v + 10) % 2 ^ 32)) c → Adding c new
+  pub adding_more : (b c : List ℕ) (old new : List (ℕ × ℕ)) (e : ℕ × ℕ) (v : ℕ) → Adding b old → old ≡ e ∷ new → v ≡ from_le (bytes_at b (value_place u32_kind u32_kind 5 e) 4) → PutsEntry u32_kind u32_kind 5 b pos e (u32_form.own_bytes ((v + 10) % 2 ^ 32)) c → Adding c new
   adding_more b c old new e v so_far first read puts =
       let s = length skipped in
       let n = length so_far.done in

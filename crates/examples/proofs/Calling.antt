@@ -20,7 +20,7 @@ use Rattle.examples.proofs.Numbers.{found_adds}
 
 -- 10 was added to the value that a seal covers
 abbrev pub AddsToSeal : {Y : Type 0} → MutBor (Seal Y) → MutBor (Seal Y) → Type 0
-AddsToSeal s t = t.now.buf.now ≡ put_bytes s.now.buf.now s.now.pos (u32_form.own ((from_le (bytes_at s.now.buf.now s.now.pos 4) + 10) % 2 ^ 32))
+AddsToSeal s t = t.now.buf.now ≡ put_bytes s.now.buf.now s.now.pos (u32_form.own_bytes ((from_le (bytes_at s.now.buf.now s.now.pos 4) + 10) % 2 ^ 32))
 
 take_twice : (n : ℕ) (xs : List ℕ) → take n (take n xs) ≡ take n xs
 take_twice zero xs = refl
@@ -32,15 +32,15 @@ put_whole : (b own : List ℕ) → length b ≤ length own → put_bytes b 0 own
 put_whole b own h = let start : 0 + length own ≡ length own = omega arith in rw start (ap (λ xs. own ++ xs) (drop_all (length own) b h) ∙ append-nil own)
 
 -- such a call at an entry puts 10 more there
-pub call_adds : {X Y R : Type 0} (call : LentKey X → MutBor (Seal Y) → R → MutBor (Seal Y) → Type 0) → ((k : LentKey X) (s t : MutBor (Seal Y)) (r : R) → call k s r t → AddsToSeal s t) → (b left : List ℕ) (pos : ℕ) (e : ℕ × ℕ) (r : R) → CallsEntry u32_kind u32_kind 5 b pos left call e r → PutsEntry u32_kind u32_kind 5 b pos e (u32_form.own ((from_le (bytes_at b (value_place u32_kind u32_kind 5 e) 4) + 10) % 2 ^ 32)) left
+pub call_adds : {X Y R : Type 0} (call : LentKey X → MutBor (Seal Y) → R → MutBor (Seal Y) → Type 0) → ((k : LentKey X) (s t : MutBor (Seal Y)) (r : R) → call k s r t → AddsToSeal s t) → (b left : List ℕ) (pos : ℕ) (e : ℕ × ℕ) (r : R) → CallsEntry u32_kind u32_kind 5 b pos left call e r → PutsEntry u32_kind u32_kind 5 b pos e (u32_form.own_bytes ((from_le (bytes_at b (value_place u32_kind u32_kind 5 e) 4) + 10) % 2 ^ 32)) left
 call_adds call adds b left pos e r calls =
     let s = calls.called.before in
     let t = calls.called.after in
     let holds = calls.called.holds in
     let value : from_le (bytes_at s.now.buf.now 0 4) ≡ from_le (bytes_at b (value_place u32_kind u32_kind 5 e) 4) = holds.means ∙ ap from_le (take_twice 4 (drop (value_place u32_kind u32_kind 5 e) b)) in
-    let wrote : t.now.buf.now ≡ put_bytes s.now.buf.now 0 (u32_form.own ((from_le (bytes_at s.now.buf.now 0 4) + 10) % 2 ^ 32)) = rw holds.start at (adds calls.called.lent s t r calls.called.called) in
-    let whole = put_whole s.now.buf.now (u32_form.own ((from_le (bytes_at s.now.buf.now 0 4) + 10) % 2 ^ 32)) (omega (arith, holds.exact)) in
-    subst (λ own. PutsEntry u32_kind u32_kind 5 b pos e own left) (wrote ∙ whole ∙ ap (λ n. u32_form.own ((n + 10) % 2 ^ 32)) value) calls.puts
+    let wrote : t.now.buf.now ≡ put_bytes s.now.buf.now 0 (u32_form.own_bytes ((from_le (bytes_at s.now.buf.now 0 4) + 10) % 2 ^ 32)) = rw holds.start at (adds calls.called.lent s t r calls.called.called) in
+    let whole = put_whole s.now.buf.now (u32_form.own_bytes ((from_le (bytes_at s.now.buf.now 0 4) + 10) % 2 ^ 32)) (omega (arith, holds.exact)) in
+    subst (λ own. PutsEntry u32_kind u32_kind 5 b pos e own left) (wrote ∙ whole ∙ ap (λ n. u32_form.own_bytes ((n + 10) % 2 ^ 32)) value) calls.puts
 
 -- a visit by such calls, which all go on, adds 10 to all
 pub visit_adds : {X Y T F : Type 0} (b₀ : List ℕ) (pos : ℕ) (step : F → LentKey X → MutBor (Seal Y) → ControlFlow T (Unit {0}) → MutBor (Seal Y) → F → Type 0)
@@ -56,9 +56,9 @@ visit_adds b₀ pos step adds goes_on (e ∷ es) f b c r last visits so_far =
     visit_adds b₀ pos step adds goes_on es g visits.1 c r last (rw on.1 at visits.4) (adding_more b₀ pos [] [] b visits.1 (e ∷ es) es e _ so_far refl refl puts)
 
 -- such a call at what a search has found adds 10 to the value of the key
-pub call_found_adds : {X Y R : Type 0} (call : LentKey X → MutBor (Seal Y) → R → MutBor (Seal Y) → Type 0) → ((k : LentKey X) (s t : MutBor (Seal Y)) (r : R) → call k s r t → AddsToSeal s t) → (b c : List ℕ) (pos key : ℕ) (result : Option R) (answer : Bool) (m : List (ℕ × ℕ)) → answer ≡ is_some result → IsNumbers b pos m → CallsFound u32_kind u32_kind 5 b pos (nat_cmp key) c call result → AddsTo b c pos m key answer
-call_found_adds call adds b c pos key result answer m told is calls = case calls.found calls.finds calls.calls
+pub call_found_adds : {X Y R : Type 0} (call : LentKey X → MutBor (Seal Y) → R → MutBor (Seal Y) → Type 0) → ((k : LentKey X) (s t : MutBor (Seal Y)) (r : R) → call k s r t → AddsToSeal s t) → (b c : List ℕ) (pos key : ℕ) (result : Option R) (comparison : Bool) (m : List (ℕ × ℕ)) → comparison ≡ is_some result → IsNumbers b pos m → CallsFound u32_kind u32_kind 5 b pos (nat_cmp key) c call result → AddsTo b c pos m key comparison
+call_found_adds call adds b c pos key result comparison m told is calls = case calls.found calls.finds calls.calls
   where
-    case : (found : Option (ℕ × ℕ)) → FindsPlace u32_kind u32_kind 5 b pos (nat_cmp key) found → MatchOption found ((result ≡ None) × (c ≡ b)) (λ e. (r : _) × (result ≡ Some r) × CallsEntry u32_kind u32_kind 5 b pos c call e r) → AddsTo b c pos m key answer
+    case : (found : Option (ℕ × ℕ)) → FindsPlace u32_kind u32_kind 5 b pos (nat_cmp key) found → MatchOption found ((result ≡ None) × (c ≡ b)) (λ e. (r : _) × (result ≡ Some r) × CallsEntry u32_kind u32_kind 5 b pos c call e r) → AddsTo b c pos m key comparison
     case None finds none = rw (told, none.0) none.1
     case (Some e) finds some = rw (told, some.1) (found_adds b c pos key m e is finds (call_adds call adds b c pos e some.0 some.2))

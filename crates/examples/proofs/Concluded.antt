@@ -25,7 +25,7 @@ use Rattle.rkyv_btree.specs.Map.{IsMap}
 use Rattle.rkyv_btree.specs.Places.{FindsPlace, PutsEntry}
 use Rattle.rkyv_btree.specs.Put.{value_place}
 use Rattle.rkyv_btree.specs.EntryPlaces.{entry_places}
-use Rattle.rkyv_btree.specs.Search.{Answers, OrderedBy, AnyHit, IsHit}
+use Rattle.rkyv_btree.specs.Search.{IsSearch, OrderedBy, AnyHit, IsHit}
 use Rattle.examples.specs.Headline.{IsSmallestOf, IsArchiveOfItems, IsArchiveOfKeys, IsLookedUp, IsSealed}
 
 -- what a writer from position 0 on holds, once a tree and its map were appended
@@ -61,34 +61,34 @@ module _ (K V : Kind) (E : ℕ) (k : IsLawful K) (v : IsLawful V) (b : List ℕ)
   pub list_read : read_map K V E b pos ≡ m
   list_read = sym ((map_laws K V E k v).is_read b 0 pos pos is.0 m is.1)
 
-  module _ (answer : K.Value → Ordering) where
-    -- what a search answers is what is looked up in the list
-    pub list_looked_up : (found : Option (K.Value × V.Value)) → Answers (λ e. answer e.0) (entry_at K V E b) (map_tree (layout_of K V E) b pos) found → IsLookedUp (λ e. answer e.0) m found
-    list_looked_up found answers = record { hit = rw list_read at answers.hit; complete = rw list_read at answers.complete }
+  module _ (comparison : K.Value → Ordering) where
+    -- what a search returns is what is looked up in the list
+    pub list_looked_up : (found : Option (K.Value × V.Value)) → IsSearch (λ e. comparison e.0) (entry_at K V E b) (map_tree (layout_of K V E) b pos) found → IsLookedUp (λ e. comparison e.0) m found
+    list_looked_up found search = record { hit = rw list_read at search.hit; complete = rw list_read at search.complete }
 
     -- and what a lookup returns
-    pub list_found : (found : Option (K.Value × V.Value)) → IfSome found (IsHit (λ e. answer e.0) (read_map K V E b pos))
-        → (OrderedBy (λ e. answer e.0) (read_map K V E b pos) → (IsSome found ↔ AnyHit (λ e. answer e.0) (read_map K V E b pos))) → IsLookedUp (λ e. answer e.0) m found
+    pub list_found : (found : Option (K.Value × V.Value)) → IfSome found (IsHit (λ e. comparison e.0) (read_map K V E b pos))
+        → (OrderedBy (λ e. comparison e.0) (read_map K V E b pos) → (IsSome found ↔ AnyHit (λ e. comparison e.0) (read_map K V E b pos))) → IsLookedUp (λ e. comparison e.0) m found
     list_found found hit complete = record { hit = rw list_read at hit; complete = rw list_read at complete }
 
     -- where a search finds no entry, none is equal
-    pub none_equal : FindsPlace K V E b pos answer None → OrderedBy (λ e. answer e.0) m → AnyHit (λ e. answer e.0) m → ⊥
-    none_equal finds ordered hit = cc (((list_looked_up None finds.answers).complete ordered).1 hit)
+    pub none_equal : FindsPlace K V E b pos comparison None → OrderedBy (λ e. comparison e.0) m → AnyHit (λ e. comparison e.0) m → ⊥
+    none_equal finds ordered hit = cc (((list_looked_up None finds.search).complete ordered).1 hit)
 
     -- own bytes that are put over the value that a search finds
-    pub one_sealed : (c own : List ℕ) (e : ℕ × ℕ) → FindsPlace K V E b pos answer (Some e) → PutsEntry K V E b pos e own c → IsSealed K V E b pos answer own m c true
+    pub one_sealed : (c own : List ℕ) (e : ℕ × ℕ) → FindsPlace K V E b pos comparison (Some e) → PutsEntry K V E b pos e own c → IsSealed K V E b pos comparison own m c true
     one_sealed c own e finds puts =
         let i = finds.entry.0 in
         let number = finds.entry.1 in
         let is_there : slice_get m i ≡ Some (entry_at K V E b e) = ap (λ (xs : List (K.Value × V.Value)). slice_get xs i) (sym list_read) ∙ slice_get-map (entry_at K V E b) (entry_places K V E b pos) i ∙ ap (option_map (entry_at K V E b)) number in
-        (i, value_place K V E e, entry_at K V E b e, is_there, finds.answers.hit.0, puts.bytes, (is.0, puts.accepted i 0 pos is.0 m number is.1))
+        (i, value_place K V E e, entry_at K V E b e, is_there, finds.search.hit.0, puts.bytes, (is.0, puts.accepted i 0 pos is.0 m number is.1))
 
 -- what a search finds among the keys of a list of entries is what is looked up in them
-module _ {A : Type 0} (answer : A → Ordering) (m : List (A × Unit {0})) where
-  key_hit : (e : A × Unit {0}) → IsHit (λ x. answer x.0) m e → IsHit answer (map (λ x. x.0) m) e.0
+module _ {A : Type 0} (comparison : A → Ordering) (m : List (A × Unit {0})) where
+  key_hit : (e : A × Unit {0}) → IsHit (λ x. comparison x.0) m e → IsHit comparison (map (λ x. x.0) m) e.0
   key_hit e h = (h.0, h.1, omega (arith, length-map m (λ (x : A × Unit {0}). x.0), h.2), λ d. rw (get_or-map (λ (x : A × Unit {0}). x.0) m h.1 (d, tt)) (ap (λ (x : A × Unit {0}). x.0) (h.3 (d, tt))))
 
-  pub found_key : (found : Option (A × Unit {0})) → IfSome found (IsHit (λ x. answer x.0) m) → IfSome (option_map (λ x. x.0) found) (IsHit answer (map (λ x. x.0) m))
+  pub found_key : (found : Option (A × Unit {0})) → IfSome found (IsHit (λ x. comparison x.0) m) → IfSome (option_map (λ x. x.0) found) (IsHit comparison (map (λ x. x.0) m))
   found_key None h = tt
   found_key (Some e) h = key_hit e h
 

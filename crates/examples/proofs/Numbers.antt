@@ -55,9 +55,9 @@ pub numbered : (b : List ℕ) (pos i : ℕ) (e : ℕ × ℕ) (m : List (ℕ × �
 numbered b pos i e m is at = ap (λ xs. slice_get xs i) (numbers_read b pos m is) ∙ slice_get-map (entry_at u32_kind u32_kind 5 b) (entry_places u32_kind u32_kind 5 b pos) i ∙ ap (option_map (entry_at u32_kind u32_kind 5 b)) at
 
 -- a number put in place of a value is put into the list
-pub number_put : (b c : List ℕ) (pos i n : ℕ) (e : ℕ × ℕ) (m : List (ℕ × ℕ)) → n < 2 ^ 32 → IsNumbers b pos m → IsNumber u32_kind u32_kind 5 b pos i e → PutsEntry u32_kind u32_kind 5 b pos e (u32_form.own n) c → IsNumbers c pos (put_value m i n)
+pub number_put : (b c : List ℕ) (pos i n : ℕ) (e : ℕ × ℕ) (m : List (ℕ × ℕ)) → n < 2 ^ 32 → IsNumbers b pos m → IsNumber u32_kind u32_kind 5 b pos i e → PutsEntry u32_kind u32_kind 5 b pos e (u32_form.own_bytes n) c → IsNumbers c pos (put_value m i n)
 number_put b c pos i n e m small is at puts =
-    let told : value_of u32_kind (u32_form.own n) ≡ n = u32_faithful.means n small in
+    let told : value_of u32_kind (u32_form.own_bytes n) ≡ n = u32_faithful.means n small in
     subst (λ (v : ℕ). IsNumbers c pos (put_value m i v)) told (is.0, puts.accepted i 0 pos is.0 m at is.1)
 
 equal_is : (n m : ℕ) → nat_cmp n m ≡ Equal → m ≡ n
@@ -74,31 +74,31 @@ pub absent_key : (b : List ℕ) (pos key : ℕ) (m : List (ℕ × ℕ)) → IsNu
 absent_key b pos key m is finds ordered i old at =
     let read = numbers_read b pos m is in
     let hit : AnyHit (λ e. nat_cmp key e.0) m = (i, slice_get_less m i (key, old) at, holds_at (λ (e : ℕ × ℕ). nat_cmp key e.0 ≡ Equal) m i (key, old) at (equal_self key)) in
-    cc ((finds.answers.complete (rw read at ordered)).1 (rw read at hit))
+    cc ((finds.search.complete (rw read at ordered)).1 (rw read at hit))
 
 -- what a search for a key has found has it, and what was written there is its value
-pub found_changed : (b c : List ℕ) (pos key value : ℕ) (m : List (ℕ × ℕ)) (e : ℕ × ℕ) → value < 2 ^ 32 → IsNumbers b pos m → FindsPlace u32_kind u32_kind 5 b pos (nat_cmp key) (Some e) → PutsEntry u32_kind u32_kind 5 b pos e (u32_form.own value) c → Changed b c pos m key value true
+pub found_changed : (b c : List ℕ) (pos key value : ℕ) (m : List (ℕ × ℕ)) (e : ℕ × ℕ) → value < 2 ^ 32 → IsNumbers b pos m → FindsPlace u32_kind u32_kind 5 b pos (nat_cmp key) (Some e) → PutsEntry u32_kind u32_kind 5 b pos e (u32_form.own_bytes value) c → Changed b c pos m key value true
 found_changed b c pos key value m e small is finds puts =
     let old = (entry_at u32_kind u32_kind 5 b e).1 in (
       finds.entry.0,
       old,
-      numbered b pos finds.entry.0 e m is finds.entry.1 ∙ ap Some (pair_is _ old key (equal_is key (entry_at u32_kind u32_kind 5 b e).0 finds.answers.hit.0)),
+      numbered b pos finds.entry.0 e m is finds.entry.1 ∙ ap Some (pair_is _ old key (equal_is key (entry_at u32_kind u32_kind 5 b e).0 finds.search.hit.0)),
       number_put b c pos finds.entry.0 value e m small is finds.entry.1 puts,
     )
 
-pub found_adds : (b c : List ℕ) (pos key : ℕ) (m : List (ℕ × ℕ)) (e : ℕ × ℕ) → IsNumbers b pos m → FindsPlace u32_kind u32_kind 5 b pos (nat_cmp key) (Some e) → PutsEntry u32_kind u32_kind 5 b pos e (u32_form.own (((entry_at u32_kind u32_kind 5 b e).1 + 10) % 2 ^ 32)) c → AddsTo b c pos m key true
+pub found_adds : (b c : List ℕ) (pos key : ℕ) (m : List (ℕ × ℕ)) (e : ℕ × ℕ) → IsNumbers b pos m → FindsPlace u32_kind u32_kind 5 b pos (nat_cmp key) (Some e) → PutsEntry u32_kind u32_kind 5 b pos e (u32_form.own_bytes (((entry_at u32_kind u32_kind 5 b e).1 + 10) % 2 ^ 32)) c → AddsTo b c pos m key true
 found_adds b c pos key m e is finds puts =
     let old = (entry_at u32_kind u32_kind 5 b e).1 in (
       finds.entry.0,
       old,
-      numbered b pos finds.entry.0 e m is finds.entry.1 ∙ ap Some (pair_is _ old key (equal_is key (entry_at u32_kind u32_kind 5 b e).0 finds.answers.hit.0)),
+      numbered b pos finds.entry.0 e m is finds.entry.1 ∙ ap Some (pair_is _ old key (equal_is key (entry_at u32_kind u32_kind 5 b e).0 finds.search.hit.0)),
       number_put b c pos finds.entry.0 ((old + 10) % 2 ^ 32) e m (omega arith) is finds.entry.1 puts,
     )
 
-pub sets_changed : (b c : List ℕ) (pos key value : ℕ) (result : Bool) (m : List (ℕ × ℕ)) → value < 2 ^ 32 → IsNumbers b pos m → SetsFound u32_kind u32_kind 5 b pos (nat_cmp key) (u32_form.own value) c result → Changed b c pos m key value result
+pub sets_changed : (b c : List ℕ) (pos key value : ℕ) (result : Bool) (m : List (ℕ × ℕ)) → value < 2 ^ 32 → IsNumbers b pos m → SetsFound u32_kind u32_kind 5 b pos (nat_cmp key) (u32_form.own_bytes value) c result → Changed b c pos m key value result
 sets_changed b c pos key value result m small is sets = case sets.found sets.finds sets.has_found sets.puts
   where
-    case : (found : Option (ℕ × ℕ)) → FindsPlace u32_kind u32_kind 5 b pos (nat_cmp key) found → result ≡ is_some found → MatchOption found (c ≡ b) (λ e. PutsEntry u32_kind u32_kind 5 b pos e (u32_form.own value) c) → Changed b c pos m key value result
+    case : (found : Option (ℕ × ℕ)) → FindsPlace u32_kind u32_kind 5 b pos (nat_cmp key) found → result ≡ is_some found → MatchOption found (c ≡ b) (λ e. PutsEntry u32_kind u32_kind 5 b pos e (u32_form.own_bytes value) c) → Changed b c pos m key value result
     case None finds told puts = rw told (puts, λ ordered i old at. absent_key b pos key m is finds ordered i old at)
     case (Some e) finds told puts = rw told (found_changed b c pos key value m e small is finds puts)
 

@@ -1,4 +1,4 @@
--- Native entries that are made one behind the other.
+-- Native entries that are made one after the other.
 use Rattle.std.proofs.Common.{◌≡◌, ℕ, List, [], ◌∷◌, ◌++◌, refl, sym, ap, ◌∙◌, append_assoc, append-nil}
 use Rattle.std.specs.Prelude.{Result, Ok, Err}
 use Rattle.std.specs.Result.{result_map_both}
@@ -8,7 +8,7 @@ use Rattle.rkyv_btree.specs.Deserializing.{IsByMeaning, both}
 use Rattle.rkyv_btree.specs.Maps.{model_both}
 use Rattle.examples.specs.Whole.{entries_given}
 
--- what is there, with what comes behind it, or a fault
+-- what is there, with what comes after it, or a fault
 abbrev pub behind : {X : Type 0} → List X → Result (List X) EntryFault → Result (List X) EntryFault
 behind done rest = result_map_both (λ xs. done ++ xs) (λ fault. fault) rest
 
@@ -30,7 +30,7 @@ module _ {K V : Kind} {A B : Type 0} {native_key : List ℕ → ℕ → Result A
       → left ≡ (K.read b p, V.read c q) ∷ more → both (native_key b p) (native_value c q) ≡ Ok (model_key e.0, model_value e.1)
       → behind (model_both model_key model_value (done ++ e ∷ [])) (entries_given key value more) ≡ behind (model_both model_key model_value done) (entries_given key value left)
   one_made model_key model_value done left more b c p q e next made =
-      let given : both (key.of_value (K.read b p)) (value.of_value (V.read c q)) ≡ Ok (model_key e.0, model_value e.1) = rw (← key.reads b p, ← value.reads c q) made in
+      let given : both (key.of_value (K.read b p)) (value.of_value (V.read c q)) ≡ Ok (model_key e.0, model_value e.1) = rw (← key.by_value b p, ← value.by_value c q) made in
       rw (model_more model_key model_value done e, next, given) (behind_one (model_both model_key model_value done) (model_key e.0, model_value e.1) (entries_given key value more))
 
   -- all are

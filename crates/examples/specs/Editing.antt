@@ -25,7 +25,7 @@ abbrev pub AddsTo : List ℕ → List ℕ → ℕ → List (ℕ × ℕ) → ℕ 
 AddsTo b c pos m key true = (i old : ℕ) × (slice_get m i ≡ Some (key, old)) × IsNumbers c pos (put_value m i ((old + 10) % 2 ^ 32))
 AddsTo b c pos m key false = c ≡ b
 
--- some entries that stand one behind the other have 10 more: where keys are in order, those between the bounds
+-- some entries that stand one after the other have 10 more: where keys are in order, those between the bounds
 pub record AddsWithin (low high : ℕ) (m n : List (ℕ × ℕ)) : Type 0 where
   pub before : List (ℕ × ℕ)
   pub within : List (ℕ × ℕ)

@@ -34,7 +34,7 @@ module _ {M N R S : Type 0} (K V : Kind) (E : ℕ) (KA : Archival M R) (VA : Arc
     pub count : length items ≡ claim
     pub smallest : IsSmallestOf (map now_of items) bytes pos
 
--- a fault stopped the building of the tree, or the writing of the map behind one that was built
+-- a fault stopped the building of the tree, or the writing of the map after one that was built
 abbrev pub HasCause : {X : Type 0} → (Fault X → Writing → Type 0) → (ℕ → Writing → Type 0) → ℕ → Fault X → Type 0
 HasCause stops builds len fault = (t : Writing) × (stops fault t ⊎ ((root : ℕ) × (mid : Writing) × builds root mid × RootFault root len mid fault t))
 
@@ -50,17 +50,17 @@ pub record IsArchiveOfKeys {M R P : Type 0} (K : Kind) (E : ℕ) (KA : Archival 
 abbrev pub IsNoMap : Kind → Kind → ℕ → List ℕ → ℕ → Type 0
 IsNoMap K V E b pos = (m : List (K.Value × V.Value)) → IsMap K V E b pos m → ⊥
 
--- What a look-up finds in a list, of entries or of keys, is one that gives Equal; and where the list is ordered for the
+-- What a lookup finds in a list, of entries or of keys, is one that gives Equal; and where the list is ordered for the
 -- query, one is found exactly if there is one.
-pub record IsLookedUp {X : Type 0} (answer : X → Ordering) (m : List X) (found : Option X) : Type 0 where
-  pub hit : IfSome found (IsHit answer m)
-  pub complete : OrderedBy answer m → (IsSome found ↔ AnyHit answer m)
+pub record IsLookedUp {X : Type 0} (comparison : X → Ordering) (m : List X) (found : Option X) : Type 0 where
+  pub hit : IfSome found (IsHit comparison m)
+  pub complete : OrderedBy comparison m → (IsSome found ↔ AnyHit comparison m)
 
 -- If a key was found, these own bytes stand for the value of an entry whose key gives Equal: no other byte is another, and
 -- the map has the list with what they mean there. Else no byte is another, and where the keys are ordered for the query
 -- none gives Equal.
 abbrev pub IsSealed : (K V : Kind) → ℕ → List ℕ → ℕ → (K.Value → Ordering) → List ℕ → List (K.Value × V.Value) → List ℕ → Bool → Type 0
-IsSealed K V E b pos answer own m c true =
-    (i : ℕ) × (at : ℕ) × (e : K.Value × V.Value) × (slice_get m i ≡ Some e) × (answer e.0 ≡ Equal) × (c ≡ put_bytes b at own)
+IsSealed K V E b pos comparison own m c true =
+    (i : ℕ) × (at : ℕ) × (e : K.Value × V.Value) × (slice_get m i ≡ Some e) × (comparison e.0 ≡ Equal) × (c ≡ put_bytes b at own)
     × IsMap K V E c pos (put_value m i (value_of V own))
-IsSealed K V E b pos answer own m c false = (c ≡ b) × (OrderedBy (λ e. answer e.0) m → AnyHit (λ e. answer e.0) m → ⊥)
+IsSealed K V E b pos comparison own m c false = (c ≡ b) × (OrderedBy (λ e. comparison e.0) m → AnyHit (λ e. comparison e.0) m → ⊥)

@@ -14,7 +14,7 @@ ghost use Rattle.rkyv_btree.specs.Bounds.{IsRun, IsWithin};
 ghost use Rattle.rkyv_btree.specs.Items.{ShowsAll};
 ghost use Rattle.rkyv_btree.specs.Map.{IsMap};
 ghost use Rattle.rkyv_btree.specs.Set.{AreKeysWithin};
-ghost use Rattle.rkyv_btree.specs.View.{reads, reads_both};
+ghost use Rattle.rkyv_btree.specs.View.{view_value, view_entry};
 ghost use Rattle.rkyv_btree.specs.Visit.{Visited, shown_both};
 ghost use Rattle.examples.specs.Headline.{HasCause, IsArchiveOfItems, IsArchiveOfKeys, IsNoMap, IsSmallestOf, IsLookedUp, IsSealed};
 
@@ -206,13 +206,13 @@ pub fn walks<'a, K: CheckBytes, V: CheckBytes, const E: usize>(
     ensures len { (m : _) → IsMap K.kind V.kind E buf.now pos m →
         IfOk result (λ walks. walks.len ≡ length m) }
     ensures entries { (m : _) → IsMap K.kind V.kind E buf.now pos m → IfOk result (λ walks.
-        ShowsAll ⟦<Iter<'a, ArchivedBTreeMap<K, V, E>> as Iterator>⟧.next_gives reads_both
+        ShowsAll ⟦<Iter<'a, ArchivedBTreeMap<K, V, E>> as Iterator>⟧.next_gives view_entry
         walks.entries m) }
     ensures keys { (m : _) → IsMap K.kind V.kind E buf.now pos m → IfOk result (λ walks.
-        ShowsAll ⟦<Keys<'a, ArchivedBTreeMap<K, V, E>> as Iterator>⟧.next_gives reads
+        ShowsAll ⟦<Keys<'a, ArchivedBTreeMap<K, V, E>> as Iterator>⟧.next_gives view_value
         walks.keys (map (λ e. e.0) m)) }
     ensures values { (m : _) → IsMap K.kind V.kind E buf.now pos m → IfOk result (λ walks.
-        ShowsAll ⟦<Values<'a, ArchivedBTreeMap<K, V, E>> as Iterator>⟧.next_gives reads
+        ShowsAll ⟦<Values<'a, ArchivedBTreeMap<K, V, E>> as Iterator>⟧.next_gives view_value
         walks.values (map (λ e. e.1) m)) }
     ensures ends { IfOk result (λ walks.
         IsFinite (⟦<Iter<'a, ArchivedBTreeMap<K, V, E>> as Iterator>⟧.remaining walks.entries)
@@ -239,7 +239,7 @@ pub fn walk_of_set<'a, K: CheckBytes, const E: usize>(
     ensures len { (m : _) → IsMap K.kind unit_kind E buf.now pos m →
         IfOk result (λ walk. walk.0 ≡ length m) }
     ensures keys { (m : _) → IsMap K.kind unit_kind E buf.now pos m → IfOk result (λ walk.
-        ShowsAll ⟦<SetIter<'a, K, E> as Iterator>⟧.next_gives reads walk.1 (map (λ e. e.0) m)) }
+        ShowsAll ⟦<SetIter<'a, K, E> as Iterator>⟧.next_gives view_value walk.1 (map (λ e. e.0) m)) }
     ensures ends { IfOk result (λ walk.
         IsFinite (⟦<SetIter<'a, K, E> as Iterator>⟧.remaining walk.1)) }
 {
@@ -247,7 +247,7 @@ pub fn walk_of_set<'a, K: CheckBytes, const E: usize>(
     Ok((set.len(), set.iter()))
 }
 
-/// So does a visit: it is called along that list up to the first break, whose value it answers.
+/// So does a visit: it is called along that list up to the first break, whose value it returns.
 pub fn visited<'a, K, V, M, W, X, T, F>(map: View<'a, M>, visit: F) -> Option<T>
 where
     K: Portable,
@@ -263,7 +263,7 @@ where
     map.visit(visit)
 }
 
-/// **A look-up is that list's, under an ordered comparison.**
+/// **A lookup is that list's, under an ordered comparison.**
 pub fn looked_up<'a, K: CheckBytes + ViewOrd, V: CheckBytes, const E: usize>(
     buf: &'a [u8],
     pos: u32,
@@ -271,7 +271,7 @@ pub fn looked_up<'a, K: CheckBytes + ViewOrd, V: CheckBytes, const E: usize>(
 ) -> Result<Option<(View<'a, K>, View<'a, V>)>, Refusal>
     requires { IsTrue (are_fitting K.kind V.kind E) }
     ensures found { (m : _) → IsMap K.kind V.kind E buf.now pos m → IfOk result (λ found.
-        IsLookedUp (λ e. K.kind.order (reads key.entry) e.0) m (option_map reads_both found)) }
+        IsLookedUp (λ e. K.kind.order (view_value key.entry) e.0) m (option_map view_entry found)) }
     ensures refused { IfErr result (λ refusal. IsNoMap K.kind V.kind E buf.now pos) }
 {
     let map = access::<K, V, E>(buf, pos)?;
@@ -286,7 +286,7 @@ pub fn looked_up_in_set<'a, K: CheckBytes + ViewOrd, const E: usize>(
 ) -> Result<Option<View<'a, K>>, Refusal>
     requires { IsTrue (are_fitting K.kind unit_kind E) }
     ensures found { (m : _) → IsMap K.kind unit_kind E buf.now pos m → IfOk result (λ found.
-        IsLookedUp (K.kind.order (reads key.entry)) (map (λ e. e.0) m) (option_map reads found)) }
+        IsLookedUp (K.kind.order (view_value key.entry)) (map (λ e. e.0) m) (option_map view_value found)) }
     ensures refused { IfErr result (λ refusal. IsNoMap K.kind unit_kind E buf.now pos) }
 {
     what_is_found_is_equal::<K, (), E>();
@@ -304,10 +304,10 @@ pub fn within<'a, K: CheckBytes + ViewOrd, V: CheckBytes, const E: usize>(
     requires { IsTrue (are_fitting K.kind V.kind E) }
     ensures within { (m : _) → IsMap K.kind V.kind E buf.now pos m → IfOk result (λ range.
         (given : List (K.kind.Value × V.kind.Value)) × IsRun given m
-        × ShowsAll ⟦<Range<'a, ArchivedBTreeMap<K, V, E>> as Iterator>⟧.next_gives reads_both range
+        × ShowsAll ⟦<Range<'a, ArchivedBTreeMap<K, V, E>> as Iterator>⟧.next_gives view_entry range
         given
-        × IsWithin (bound_map (λ q. K.kind.order (reads q)) low.entry)
-        (bound_map (λ q. K.kind.order (reads q)) high.entry) m given) }
+        × IsWithin (bound_map (λ q. K.kind.order (view_value q)) low.entry)
+        (bound_map (λ q. K.kind.order (view_value q)) high.entry) m given) }
     ensures ends { IfOk result (λ range.
         IsFinite (⟦<Range<'a, ArchivedBTreeMap<K, V, E>> as Iterator>⟧.remaining range)) }
     ensures refused { IfErr result (λ refusal. IsNoMap K.kind V.kind E buf.now pos) }
@@ -326,9 +326,9 @@ pub fn within_set<'a, K: CheckBytes + ViewOrd, const E: usize>(
     requires { IsTrue (are_fitting K.kind unit_kind E) }
     ensures within { (m : _) → IsMap K.kind unit_kind E buf.now pos m → IfOk result (λ range.
         (given : List K.kind.Value) × IsRun given (map (λ e. e.0) m)
-        × ShowsAll ⟦<SetRange<'a, K, E> as Iterator>⟧.next_gives reads range given
-        × AreKeysWithin (bound_map (λ q. K.kind.order (reads q)) low.entry)
-        (bound_map (λ q. K.kind.order (reads q)) high.entry) (map (λ e. e.0) m) given) }
+        × ShowsAll ⟦<SetRange<'a, K, E> as Iterator>⟧.next_gives view_value range given
+        × AreKeysWithin (bound_map (λ q. K.kind.order (view_value q)) low.entry)
+        (bound_map (λ q. K.kind.order (view_value q)) high.entry) (map (λ e. e.0) m) given) }
     ensures ends { IfOk result (λ range.
         IsFinite (⟦<SetRange<'a, K, E> as Iterator>⟧.remaining range)) }
     ensures refused { IfErr result (λ refusal. IsNoMap K.kind unit_kind E buf.now pos) }
@@ -346,7 +346,7 @@ pub fn sealed<K: CheckBytes + ViewOrd, V: InPlace, const E: usize>(
 ) -> Result<bool, Refusal>
     requires { IsTrue (are_fitting K.kind V.kind E) }
     ensures one { (m : _) → IsMap K.kind V.kind E buf.old pos m → IfOk result (λ found.
-        IsSealed K.kind V.kind E buf.old pos (K.kind.order (reads key.entry)) (V.in_place.own value)
+        IsSealed K.kind V.kind E buf.old pos (K.kind.order (view_value key.entry)) (V.in_place.own_bytes value)
         m buf.new found) }
     ensures refused { IfErr result (λ refusal. IsNoMap K.kind V.kind E buf.old pos) }
     ensures kept { OnErr result (buf.new ≡ buf.old) }

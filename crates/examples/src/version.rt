@@ -143,7 +143,7 @@ impl ToNative for ArchivedVersion {
         read(view.buf, view.pos)
     }
 
-    ghost reads = { as_itself version_kind };
+    ghost read_as = { as_itself version_kind };
 }
 
 impl DeserializeNative for ArchivedVersion {}

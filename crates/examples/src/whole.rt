@@ -22,7 +22,7 @@ use rkyv_btree::whole::open;
 use std::alloc::{AllocError, Global};
 use std::collections::BTreeMap;
 
-/// What a look-up finds in the archive of a map: what the map itself has for the key.
+/// What a lookup finds in the archive of a map: what the map itself has for the key.
 pub fn looked_up(
     alloc: Global,
     map: &BTreeMap<u32, u32>,

@@ -198,18 +198,14 @@ pub(crate) fn built_cases(alloc: Global) -> Result<Vec<Case>, AllocError> {
     let all: [(&'static str, &'static [u8], Content); 16] = [
         ("seventeen keys", b"", Content::Numbers(tens(alloc, 17)?)),
         ("two texts", b"", Content::Texts(two_texts(alloc)?)),
+        ("one entry after AA BB CC", &BEFORE, Content::Numbers(seven)),
         (
-            "one entry behind AA BB CC",
-            &BEFORE,
-            Content::Numbers(seven),
-        ),
-        (
-            "six keys behind AA BB CC",
+            "six keys after AA BB CC",
             &BEFORE,
             Content::Numbers(tens(alloc, 6)?),
         ),
         (
-            "no entries behind AA BB CC",
+            "no entries after AA BB CC",
             &BEFORE,
             Content::Numbers(Vec::new(alloc)),
         ),

@@ -195,7 +195,7 @@ fn migrate_named(alloc: Global, name: &str) -> anyhow::Result<(Answer, Answer)> 
     Ok((first, second))
 }
 
-/// Appends an answer.
+/// Appends a result.
 fn show_answer(answer: Answer, out: &mut String) -> Result<(), AllocError> {
     out.push_str(answer.outcome.name())?;
     match answer.left {
@@ -204,7 +204,7 @@ fn show_answer(answer: Answer, out: &mut String) -> Result<(), AllocError> {
     }
 }
 
-/// Makes a call twice, and appends both answers.
+/// Makes a call twice, and appends both results.
 pub(crate) fn show(alloc: Global, call: &str, name: &str, out: &mut String) -> anyhow::Result<()> {
     let (first, second) = match Call::named(call) {
         Some(call) => make_named(alloc, call, name)?,

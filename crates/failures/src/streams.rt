@@ -84,7 +84,7 @@ fn words_of(alloc: Global, words: &str) -> Result<Vec<String>, AllocError> {
     Ok(args)
 }
 
-/// Returns what an answer says.
+/// Returns what a result says.
 fn said(alloc: Global, answer: Result<u8, ProgramFault>) -> Result<String, AllocError> {
     match answer {
         Ok(status) => format!(in alloc; "status {status}"),

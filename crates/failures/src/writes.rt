@@ -106,7 +106,7 @@ fn show_from(
     show_rest(alloc, base, content, None, out)
 }
 
-/// Appends the answer of a content and what its writer holds then.
+/// Appends the result of a content and what its writer holds then.
 fn show_rest(
     alloc: Global,
     base: u32,

@@ -1,4 +1,4 @@
-//! Look-ups and ranges, and strict maps.
+//! Lookups and ranges, and strict maps.
 
 use crate::input::Input;
 use crate::opening::{opened, show_map};
@@ -91,7 +91,7 @@ pub(crate) fn range<K: CheckBytes + ViewOrd + Shown, V: CheckBytes + Shown, cons
     Ok(())
 }
 
-/// Whether each look-up of an entry's key finds that entry.
+/// Whether each lookup of an entry's key finds that entry.
 fn is_found<K: ViewOrd, V: Portable, const E: usize>(
     map: StrictView<'_, K, V, E>,
     key: View<'_, K>,

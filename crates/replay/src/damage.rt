@@ -142,13 +142,73 @@ fn is_cursor_along<
     Ok(!cursor.next() && met == map.len())
 }
 
+/// Whether two lookups find the same entry, or none, by the position of its key.
+fn is_found_alike<K: Portable, V: Portable>(
+    one: Option<(View<K>, View<V>)>,
+    other: Option<(View<K>, View<V>)>,
+) -> bool {
+    one.map(|entry| entry.0.pos) == other.map(|entry| entry.0.pos)
+}
+
+/// Whether an entry that a lookup found has the key of its query.
+fn has_key<K: ViewEq, V: Portable>(found: Option<(View<K>, View<V>)>, query: View<K>) -> bool {
+    match found {
+        Some((key, _)) => key == query,
+        None => true,
+    }
+}
+
+/// Whether a lookup of each key finds the same in a map and in its bytes without validation.
+fn is_looked_up<K: CheckBytes + ViewOrd, V: CheckBytes, const E: usize>(
+    map: &View<ArchivedBTreeMap<K, V, E>>,
+) -> bool {
+    let bytes = Unverified::<ArchivedBTreeMap<K, V, E>>::new(map.buf, map.pos);
+    let mut keys = map.keys();
+    while let Some(key) = keys.next() {
+        match bytes.get_key_value(key) {
+            Err(_) => return false,
+            Ok(found) => {
+                if !is_found_alike::<K, V>(found, map.get_key_value(key)) {
+                    return false;
+                }
+            }
+        }
+    }
+    true
+}
+
+/// Whether each lookup without validation that finds something in a buffer finds an equal key. The queries are the keys of
+/// the map before it was damaged.
+fn is_equal_found<K: CheckBytes + ViewOrd, V: CheckBytes, const E: usize>(
+    queries: &View<ArchivedBTreeMap<K, V, E>>,
+    buf: &[u8],
+    pos: u32,
+) -> bool {
+    let bytes = Unverified::<ArchivedBTreeMap<K, V, E>>::new(buf, pos);
+    let mut keys = queries.keys();
+    while let Some(key) = keys.next() {
+        if let Ok(found) = bytes.get_key_value(key) {
+            if !has_key::<K, V>(found, key) {
+                return false;
+            }
+        }
+    }
+    true
+}
+
 /// Opens a buffer, and counts its outcome: the map's entries, or the refusal.
 fn count_outcome<
-    K: CheckBytes + ViewEq + Shown,
+    K: CheckBytes + ViewOrd + Shown,
     VU: Drop,
     V: InPlace<Native = VU> + SameAs<VU> + Shown,
     const E: usize,
->(alloc: Global, buf: &[u8], pos: u32, tally: &mut Tally) -> anyhow::Result<()>
+>(
+    alloc: Global,
+    buf: &[u8],
+    pos: u32,
+    whole: Option<View<ArchivedBTreeMap<K, V, E>>>,
+    tally: &mut Tally,
+) -> anyhow::Result<()>
     requires { IsTrue (are_fitting K.kind V.kind E) }
 {
     let mut outcome = String::new(alloc);
@@ -164,10 +224,18 @@ fn count_outcome<
             if !is_cursor_along::<K, VU, V, E>(alloc, &map)? {
                 write!(&mut outcome, " CURSOR DIFFERS")?;
             }
+            if !is_looked_up::<K, V, E>(&map) {
+                write!(&mut outcome, " LOOKUP DIFFERS")?;
+            }
         }
         Err(refusal) => {
             tally.count_refusal(refusal);
             write!(&mut outcome, "refused: {refusal}")?;
+        }
+    }
+    if let Some(queries) = whole {
+        if !is_equal_found::<K, V, E>(&queries, buf, pos) {
+            write!(&mut outcome, " ANOTHER KEY FOUND")?;
         }
     }
     tally.add_outcome(&outcome);
@@ -176,34 +244,37 @@ fn count_outcome<
 
 /// Opens a buffer cut to each length.
 fn cut<
-    K: CheckBytes + ViewEq + Shown,
+    K: CheckBytes + ViewOrd + Shown,
     VU: Drop,
     V: InPlace<Native = VU> + SameAs<VU> + Shown,
     const E: usize,
 >(alloc: Global, buf: &[u8], pos: u32, tally: &mut Tally) -> anyhow::Result<()>
     requires { IsTrue (are_fitting K.kind V.kind E) }
 {
+    let whole = access::<K, V, E>(buf, pos).ok();
     for end in 0..buf.len() {
-        count_outcome::<K, VU, V, E>(alloc, &buf[..end], pos, tally)?;
+        count_outcome::<K, VU, V, E>(alloc, &buf[..end], pos, whole, tally)?;
     }
     Ok(())
 }
 
 /// Opens a buffer with each byte set to each other value.
 fn change<
-    K: CheckBytes + ViewEq + Shown,
+    K: CheckBytes + ViewOrd + Shown,
     VU: Drop,
     V: InPlace<Native = VU> + SameAs<VU> + Shown,
     const E: usize,
->(alloc: Global, bytes: &mut [u8], pos: u32, tally: &mut Tally) -> anyhow::Result<()>
+>(alloc: Global, buf: &[u8], pos: u32, tally: &mut Tally) -> anyhow::Result<()>
     requires { IsTrue (are_fitting K.kind V.kind E) }
 {
+    let whole = access::<K, V, E>(buf, pos).ok();
+    let mut bytes = buf.to_vec(alloc)?;
     for at in 0..bytes.len() {
         let own = bytes[at];
         for other in 0..=255 {
             if other != own {
                 bytes[at] = other;
-                count_outcome::<K, VU, V, E>(alloc, bytes, pos, tally)?;
+                count_outcome::<K, VU, V, E>(alloc, &bytes, pos, whole, tally)?;
             }
         }
         bytes[at] = own;
@@ -213,7 +284,7 @@ fn change<
 
 /// Damages the archive of a case in one of both ways, and counts the outcomes.
 pub(crate) fn damage<
-    K: CheckBytes + ViewEq + Shown,
+    K: CheckBytes + ViewOrd + Shown,
     VU: Drop,
     V: InPlace<Native = VU> + SameAs<VU> + Shown,
     const E: usize,
@@ -238,8 +309,7 @@ pub(crate) fn damage<
     if way == 0 {
         cut::<K, VU, V, E>(alloc, input.rest, pos, &mut tally)?;
     } else {
-        let mut bytes = input.rest.to_vec(alloc)?;
-        change::<K, VU, V, E>(alloc, &mut bytes, pos, &mut tally)?;
+        change::<K, VU, V, E>(alloc, input.rest, pos, &mut tally)?;
     }
     tally.show(out)
 }

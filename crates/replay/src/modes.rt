@@ -29,6 +29,7 @@ pub enum Mode {
     BuildStrict,
     Migrate,
     Lookup,
+    Iterate,
 }
 
 impl Mode {
@@ -52,6 +53,7 @@ impl Mode {
             "build-strict" => Some(Mode::BuildStrict),
             "migrate" => Some(Mode::Migrate),
             "lookup" => Some(Mode::Lookup),
+            "iterate" => Some(Mode::Iterate),
             _ => None,
         }
     }
@@ -76,6 +78,7 @@ pub fn built<
         Mode::BuildStrict => building::build_strict::<KU, VU, K, V, E>(alloc, case, out),
         Mode::Migrate => building::migrated::<KU, VU, K, V>(alloc, case, out),
         Mode::Lookup => unverified::lookup::<K, V, E>(case, out),
+        Mode::Iterate => unverified::iterate::<K, V, E>(alloc, case, out),
         _ => bail!("no such mode of this type"),
     }
 }

@@ -7,6 +7,7 @@ use anyhow::ensure;
 use rkyv_btree::prelude::*;
 use rkyv_btree_base::layout;
 use rkyv_btree_base::steps::StepCounter;
+use std::alloc::Global;
 
 /// What a lookup finds, by the position of its key.
 type Place = Result<Option<u32>, Refusal>;
@@ -79,4 +80,55 @@ pub(crate) fn lookup<K: CheckBytes + ViewOrd + Shown, V: CheckBytes + Shown, con
         }
     };
     show_others::<K, V, E>(map, query, place, out)
+}
+
+/// Appends an item of an iterator: the entry, or the refusal. Returns whether it is an entry.
+fn show_item<K: Shown, V: Shown>(
+    item: Result<(View<'_, K>, View<'_, V>), Refusal>,
+    out: &mut String,
+) -> anyhow::Result<bool> {
+    match item {
+        Ok((key, value)) => {
+            show_entry(key, value, out)?;
+            Ok(true)
+        }
+        Err(refusal) => {
+            write!(out, " refused: {refusal}")?;
+            Ok(false)
+        }
+    }
+}
+
+/// Goes along the entries of a case in bytes that aren't validated, up to their end or a refusal.
+pub(crate) fn iterate<K: CheckBytes + Shown, V: CheckBytes + Shown, const E: usize>(
+    alloc: Global,
+    case: &[u8],
+    out: &mut String,
+) -> anyhow::Result<()> {
+    let mut input = Input { rest: case };
+    let pos = input.number()?;
+    ensure!(layout::fits::<K, V, E>(), "the map doesn't fit");
+    let map = Unverified::<ArchivedBTreeMap<K, V, E>>::new(input.rest, pos);
+    let mut items = map.iter();
+    let mut shown = String::new(alloc);
+    let mut count = 0u32;
+    while let Some(item) = items.next() {
+        if show_item::<K, V>(item, &mut shown)? {
+            count = count.wrapping_add(1);
+        }
+    }
+    write!(out, "{count}:{shown}")?;
+    if items.next().is_some() {
+        write!(out, " GOES ON")?;
+    }
+    if let Ok(view) = access::<K, V, E>(map.buf, map.pos) {
+        let mut entries = String::new(alloc);
+        for (key, value) in view.iter() {
+            show_entry(key, value, &mut entries)?;
+        }
+        if entries.as_str() != shown.as_str() {
+            write!(out, " VIEW DIFFERS")?;
+        }
+    }
+    Ok(())
 }

@@ -119,6 +119,7 @@ pub mod source {
     pub use rkyv_btree_source::reader::Reader;
     pub use rkyv_btree_source::source::{ReadAt, SeekSource};
     pub use rkyv_btree_source::source_fault::SourceFault;
+    pub use rkyv_btree_source::source_laws::takes_cover_reads;
     pub use rkyv_btree_source::unverified_source::UnverifiedSource;
 }
 
@@ -137,6 +138,10 @@ pub mod strict {
 /// Lookups in bytes that nobody has validated.
 pub mod unverified {
     pub use rkyv_btree_unverified::unverified::Unverified;
+    pub use rkyv_btree_unverified::unverified_iter::UnverifiedIter;
+    pub use rkyv_btree_unverified::unverified_keys::UnverifiedKeys;
+    pub use rkyv_btree_unverified::unverified_range::UnverifiedRange;
+    pub use rkyv_btree_unverified::unverified_range_keys::UnverifiedRangeKeys;
 }
 
 /// Values in a buffer.

@@ -40,7 +40,7 @@ opening_starts (suc k) fs =
     ∙ (append_assoc (starts_of fs) (replicate k (length (waiting_of fs))) (length (waiting_of fs) ∷ [])
     ∙ ap (λ xs. starts_of fs ++ xs) (replicate_push k (length (waiting_of fs)))))
 
--- what is left for the last level behind a row
+-- what is left for the last level after a row
 left_closed : (E g first left0 left k : ℕ) → k ≡ E → left0 ≡ first - k * most E g → left ≡ left0 - most E g → left ≡ first - most E (suc g)
 left_closed E g first left0 left k is a b = go (most E g) (most E (suc g)) (full_up E g) a b
   where

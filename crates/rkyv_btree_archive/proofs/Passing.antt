@@ -46,10 +46,10 @@ module _ {M N R S : Type 0} (s : NodeLayout) (K : Archival M R) (V : Archival N 
   module _ {P : Type 0} (steps : P → Option (Bor M × Bor N) → P → Type 0) where
     -- none is
     abbrev pub row_started : (g first : ℕ) (iter : P) (from : Writing) → RowTaken s K V steps g first first iter from [] [] iter from
-    row_started g first iter from = record { items = []; pairs = []; taken = refl; filled = tt; entries = refl; own = refl; written = (refl, refl); left_is = omega arith }
+    row_started g first iter from = record { items = []; pairs = []; taken = refl; filled = tt; entries = refl; pair_entries = refl; written = (refl, refl); left_is = omega arith }
 
     pub row_count : (g first left : ℕ) (iter : P) (from : Writing) (xs : List (M × N)) (roots : List (Option ℕ)) (rest : P) (to : Writing) → (r : RowTaken s K V steps g first left iter from xs roots rest to) → length r.pairs ≡ length xs
-    row_count g first left iter from xs roots rest to r = sym (length-map r.pairs (λ p. p.1)) ∙ ap length r.own
+    row_count g first left iter from xs roots rest to r = sym (length-map r.pairs (λ p. p.1)) ∙ ap length r.pair_entries
 
     -- what a child of the row is, by what is left for the row
     here : (g first left : ℕ) (n : ℕ) (c : Child (M × N)) → n ≤ s.E → left ≡ first - n * most s.E g → IsNext s.E g left c → Filled s.E g (min (min first (most s.E (suc g)) - n * most s.E g) (most s.E g)) c
@@ -71,7 +71,7 @@ module _ {M N R S : Type 0} (s : NodeLayout) (K : Archival M R) (V : Archival N 
             taken = Yields-both steps iter r.items rest (w.items ++ item ∷ []) rest3 r.taken (Yields-both steps rest w.items rest2 (item ∷ []) rest3 w.taken (rest3, gave, refl));
             filled = pairs_push (Filled s.E g) (most s.E g) (min first (most s.E (suc g))) r.pairs w.tree (now_of item) r.filled (here g first left (length r.pairs) w.tree (omega arith) r.left_is w.is_next);
             entries = pairs_list_push r.pairs w.tree (now_of item) ∙ (ap (λ (zs : List (M × N)). zs ++ (child_list w.tree ++ now_of item ∷ [])) r.entries ∙ (ap (λ (zs : List (M × N)). map now_of r.items ++ (zs ++ now_of item ∷ [])) w.entries ∙ (ap (λ (zs : List (M × N)). map now_of r.items ++ zs) (sym (map-append now_of w.items (item ∷ []))) ∙ sym (map-append now_of r.items (w.items ++ item ∷ [])))));
-            own = map-append (λ p. p.1) r.pairs ((w.tree, now_of item) ∷ []) ∙ ap (λ (zs : List (M × N)). zs ++ now_of item ∷ []) r.own;
+            pair_entries = map-append (λ p. p.1) r.pairs ((w.tree, now_of item) ∷ []) ∙ ap (λ (zs : List (M × N)). zs ++ now_of item ∷ []) r.pair_entries;
             written = pairs_written_push from r.pairs roots to w.tree (now_of item) root to2 r.written w.written;
             left_is = rw more (omega (arith, r.left_is));
           },
@@ -89,7 +89,7 @@ module _ {M N R S : Type 0} (s : NodeLayout) (K : Archival M R) (V : Archival N 
     row_closed g first left iter from xs roots rest to at rest2 to2 root to3 all some high r w node =
         let n = row_count g first left iter from xs roots rest to r in
         let row = row_from r.pairs (last w.tree) in
-        let own : row_entries row ≡ xs = row_from_entries r.pairs (last w.tree) ∙ (append-nil (map (λ p. p.1) r.pairs) ∙ r.own) in
+        let own : row_entries row ≡ xs = row_from_entries r.pairs (last w.tree) ∙ (append-nil (map (λ p. p.1) r.pairs) ∙ r.pair_entries) in
         let filled = pairs_close (Filled s.E g) (most s.E g) (min first (most s.E (suc g))) r.pairs w.tree r.filled (all_fit first g (length r.pairs) (n ∙ all)) (here g first left (length r.pairs) w.tree (omega arith) r.left_is w.is_next) in (
           record {
             items = r.items ++ w.items;
@@ -248,7 +248,7 @@ module _ {M N R S : Type 0} (s : NodeLayout) (K : Archival M R) (V : Archival N 
       where
         go : (others : Row (M × N)) → length (row_entries others) ≡ 0 → Leads w.tree others → (rs : List (Option ℕ)) × (mid : Writing) × RowWritten s K V from (row_from r.pairs others) rs mid × NodeStopped s K V {E = X} (λ (n : ℕ) (owns : List OwnBytes). inner_image s n owns rs) (inner_size s) mid (row_entries (row_from r.pairs others)) fault to3
         go (last d) none e =
-            let own : row_entries (row_from r.pairs (last d)) ≡ xs = row_from_entries r.pairs (last d) ∙ (append-nil (map (λ p. p.1) r.pairs) ∙ r.own) in (
+            let own : row_entries (row_from r.pairs (last d)) ≡ xs = row_from_entries r.pairs (last d) ∙ (append-nil (map (λ p. p.1) r.pairs) ∙ r.pair_entries) in (
               roots ++ at ∷ [],
               to2,
               row_written from r.pairs roots to d at to2 r.written (subst (λ (z : Child (M × N)). ChildWritten s K V to z at to2) e w.written),

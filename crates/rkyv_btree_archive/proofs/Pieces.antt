@@ -16,7 +16,7 @@ use Rattle.rkyv_btree_writing_laws.proofs.Resolving.{paired, filled_columns, fil
 pub put_part : (xs own : List ℕ) (start count : ℕ) → count ≡ length own → take start xs ++ (own ++ drop count (drop start xs)) ≡ splice xs start (start + length own) own
 put_part xs own start count is = ap (λ z. take start xs ++ (own ++ z)) (drop-drop count start xs ∙ ap (λ n. drop (start + n) xs) is)
 
--- a piece behind one that was written
+-- a piece after one that was written
 pub splice_more : (xs : List ℕ) (a b c : ℕ) (done own : List ℕ) → b ≡ a + length done → c ≡ b + length own → c ≤ length xs → splice (splice xs a b done) b c own ≡ splice xs a c (done ++ own)
 splice_more xs a b c done own eb ec inside =
     let front = take a xs ++ done in
@@ -82,7 +82,7 @@ columns_length s kind k v full kowns vowns same ek ev some low high =
     let is : both ≡ entry_bytes s kind (paired kowns vowns) = filled_columns s kind k v kowns vowns [] (kind ∷ []) (filled (kind ∷ []) k) keys (filled keys v) both same ek ev refl refl refl refl refl refl in
     subst (λ z. length z ≤ full) is end
 
--- a leaf's length, written over zeros behind its entries
+-- a leaf's length, written over zeros after its entries
 pub leaf_put : (s : NodeLayout) (owns : List OwnBytes) (count start size : ℕ) (len b0 b1 : List ℕ) → count ≡ length owns → start ≡ len_at s → size ≡ leaf_size s → len ≡ to_le_bytes w32 count → length (entry_bytes s 0 owns) ≤ len_at s → start + length len ≤ size → b0 ≡ filled (entry_bytes s 0 owns) size → b1 ≡ splice b0 start (start + length len) len → b1 ≡ leaf_bytes s owns
 leaf_put s owns count start size len b0 b1 ec es ez el low high before after =
     let entries = entry_bytes s 0 owns in
@@ -95,7 +95,7 @@ nothing_put xs start =
     let same : start ≡ start + 0 = omega arith in
     sym (take-append-drop start xs) ∙ ap (λ n. splice xs start n []) same
 
--- pointers behind those that were written
+-- pointers after those that were written
 pub more_pointers_put : (first old new : List ℕ) (start at middle end n : ℕ) (ps qs : List (Option ℕ)) → middle ≡ start + 4 * length ps → end ≡ middle + 4 * length qs → n ≡ at + 4 * length ps → end ≤ length first → old ≡ splice first start middle (pointers at ps) → new ≡ splice old middle end (pointers n qs) → new ≡ splice first start end (pointers at (ps ++ qs))
 more_pointers_put first old new start at middle end n ps qs em ee en inside before after =
     let whole : splice (splice first start middle (pointers at ps)) middle end (pointers n qs) ≡ splice first start end (pointers at ps ++ pointers n qs) = splice_more first start middle end (pointers at ps) (pointers n qs) (omega (arith, length-pointers at ps)) (omega (arith, length-pointers n qs)) inside in
@@ -112,7 +112,7 @@ pointer_put first old new start at i n qs d q more is place room before after =
     more_pointers_put first old new start at (start + 4 * i) (start + 4 * i + 4) n (take i qs) (q ∷ []) (omega (arith, count)) (omega arith) (omega (arith, count)) (omega arith) before after
     ∙ (ap (λ k. splice first start k (pointers at (take i qs ++ q ∷ []))) end ∙ ap (λ z. splice first start (start + 4 * (i + 1)) (pointers at z)) list)
 
--- an inner node's pointers, written over zeros behind its entries
+-- an inner node's pointers, written over zeros after its entries
 pub inner_put : (s : NodeLayout) (owns : List OwnBytes) (pos start end size n : ℕ) (qs : List (Option ℕ)) (b0 b1 : List ℕ) → start ≡ len_at s → n ≡ pos + len_at s → size ≡ inner_size s → length (entry_bytes s 1 owns) ≤ len_at s → end ≡ start + 4 * length qs → end ≤ size → b0 ≡ filled (entry_bytes s 1 owns) size → b1 ≡ splice b0 start end (pointers n qs) → b1 ≡ inner_bytes s pos owns qs
 inner_put s owns pos start end size n qs b0 b1 es en ez low ee high before after =
     let entries = entry_bytes s 1 owns in

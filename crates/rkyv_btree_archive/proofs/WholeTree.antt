@@ -53,7 +53,7 @@ none_next X E g left n some (inl h) none = subst (λ k. IsNext {X = X} E k left 
     z full is = omega (arith, is, h.1, none)
 none_next X E g left n some (inr h) none = absurd (omega (arith, h.2, none, some))
 
--- what is left behind a leaf
+-- what is left after a leaf
 pub leaf_left : (E g left n left2 : ℕ) → IsLeafOf E g left n → left2 ≡ left - E → left2 ≡ left - most E g
 leaf_left E g left n left2 (inl h) is = let z : most E 0 ≡ E = rw pow-zero (omega arith) in subst (λ k. left2 ≡ left - most E k) (sym h.0) (omega (arith, z, is))
 leaf_left E g left n left2 (inr h) is = omega (arith, h.1, is)

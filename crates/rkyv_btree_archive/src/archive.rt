@@ -121,7 +121,7 @@ impl<T: Native> Archive for T {
 
     fn resolve(&self, _resolver: (), out: Place<'_, T::Plain>) -> Result<(), ResolveFault>
         requires { length out.bytes.now ≡ T.Plain.form.plain.size }
-        ensures ok { OnOk result (out.exit.1.0.now ≡ T.Plain.form.own self.now) }
+        ensures ok { OnOk result (out.exit.1.0.now ≡ T.Plain.form.own_bytes self.now) }
         ensures err { IfErr result
             (IsUnresolved (native_archival T.Plain.form) self.now tt out.entry.pos) }
     {

@@ -86,7 +86,7 @@ module _ {A B : Type 0} {order : A → A → Ordering} (total : IsTotalOrder ord
             | Greater ↦ λ past. rw (lookup_put m) (chosen_apart (is_at (order q) e.0) (is_at (order q) k) e.1 v (lookup (is_at (order q)) m) (untied e.0 past))
           ] refl
 
-      -- behind a key that is equal none is found
+      -- after a key that is equal none is found
       none_behind : is_at (order q) k ≡ true → (m : List (A × B)) → AllByRecursion (λ y. order k y ≡ Less) (keys_of m) → lookup_key (is_at (order q)) m ≡ None
       none_behind at [] below = refl
       none_behind at (e ∷ m) below =

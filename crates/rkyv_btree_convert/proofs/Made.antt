@@ -35,7 +35,7 @@ module _ (K V : Kind) (E : ℕ) {A B M : Type 0} {key : List ℕ → ℕ → Res
   module _ (b : List ℕ) (at : ℕ) (m : M) (rest : List (K.Value × V.Value)) (made : IsMade b at m rest) where
     gives_rest : made_of b at ≡ take_all step m (map gives rest)
     gives_rest =
-        ap (λ given. result_map_both (fold step none) (λ fault. fault) (all given)) (given_by_meaning K V E k.of_value v.of_value k.reads v.reads b (list (map_tree (layout_of K V E) b at)))
+        ap (λ given. result_map_both (fold step none) (λ fault. fault) (all given)) (given_by_meaning K V E k.of_value v.of_value k.by_value v.by_value b (list (map_tree (layout_of K V E) b at)))
         ∙ sym (all_taken step none (map gives (read_map K V E b at)))
         ∙ ap (λ xs. take_all step none (map gives xs)) (sym made.all)
         ∙ ap (λ start. take_all step start (map gives made.entries)) (sym made.empty)
@@ -49,7 +49,7 @@ module _ (K V : Kind) (E : ℕ) {A B M : Type 0} {key : List ℕ → ℕ → Res
         → IsRefused (made_of b at) fault
     next_refused c d p q more next (Memory error) refused = tt
     next_refused c d p q more next (Entry fault) refused =
-        let given : gives (K.read c p, V.read d q) ≡ Err fault = rw (← k.reads c p, ← v.reads d q) refused in
+        let given : gives (K.read c p, V.read d q) ≡ Err fault = rw (← k.by_value c p, ← v.by_value d q) refused in
         gives_rest
         ∙ ap (λ xs. take_all step m (map gives xs)) next
         ∙ ap (λ x. take_all step m (x ∷ map gives more)) given
@@ -58,7 +58,7 @@ module _ (K V : Kind) (E : ℕ) {A B M : Type 0} {key : List ℕ → ℕ → Res
     pub next_taken : (c d : List ℕ) (p q : ℕ) (more : List (K.Value × V.Value)) → rest ≡ (K.read c p, V.read d q) ∷ more → (e : A × B) → both (key c p) (value d q) ≡ Ok e → (n : M) → n ≡ step m e
         → take_all step n (map gives more) ≡ take_all step made.start (map gives made.entries)
     next_taken c d p q more next e given n taken =
-        let gave : gives (K.read c p, V.read d q) ≡ Ok e = rw (← k.reads c p, ← v.reads d q) given in
+        let gave : gives (K.read c p, V.read d q) ≡ Ok e = rw (← k.by_value c p, ← v.by_value d q) given in
         ap (λ n. take_all step n (map gives more)) taken
         ∙ sym (ap (λ x. take_all step m (x ∷ map gives more)) gave)
         ∙ sym (ap (λ xs. take_all step m (map gives xs)) next)

@@ -1,4 +1,4 @@
--- Entries that are taken in turn, up to the first fault, and put into a map or behind a list.
+-- Entries that are taken in turn, up to the first fault, and put into a map or after a list.
 use Rattle.std.proofs.Common.{◌≡◌, List, [], ◌∷◌, ◌++◌, refl, sym, ap, ◌∙◌}
 use Rattle.std.proofs.lemmas.List.{append-nil, append_assoc}
 use Rattle.std.specs.BTreeMap.{insert_entry}
@@ -29,14 +29,14 @@ module _ {A M F : Type 0} (step : M → A → M) where
   all_taken m (Ok x ∷ given) = all_taken (step m x) given ∙ first_taken x m (all given)
   all_taken m (Err fault ∷ given) = refl
 
--- an entry put into a map, and one put behind a list
+-- an entry put into a map, and one put after a list
 abbrev pub put : {A B : Type 0} → (A → A → Ordering) → List (A × B) → A × B → List (A × B)
 put order m e = insert_entry order m e.0 e.1
 
 abbrev pub push : {A : Type 0} → List A → A → List A
 push xs x = xs ++ x ∷ []
 
--- what is put behind a list in turn is its end
+-- what is put after a list in turn is its end
 pushed : {A : Type 0} (xs ys : List A) → fold push xs ys ≡ xs ++ ys
 pushed xs [] = sym (append-nil xs)
 pushed xs (y ∷ ys) = pushed (xs ++ y ∷ []) ys ∙ append_assoc xs (y ∷ []) ys
@@ -62,7 +62,7 @@ module _ {T U A B : Type 0} {cmp : T → T → Ordering} (order : A → A → Or
       chosen (cmp k e.0) (order (key k) (key e.0)) (ordered k e.0) ((k, v) ∷ e ∷ m) ((e.0, v) ∷ m) (e ∷ insert_entry cmp m k v)
       ∙ ap (λ rest. match_ordering (order (key k) (key e.0)) ((key k, value v) ∷ model_both key value (e ∷ m)) ((key e.0, value v) ∷ model_both key value m) ((key e.0, value e.1) ∷ rest)) (model_put m)
 
--- the model of a list behind which an entry was put
+-- the model of a list after which an entry was put
 pub model_pushed : {T U A B : Type 0} (key : T → A) (value : U → B) (es : List (T × U)) (e : T × U) → model_both key value (es ++ e ∷ []) ≡ model_both key value es ++ (key e.0, value e.1) ∷ []
 model_pushed key value [] e = refl
 model_pushed key value (d ∷ es) e = ap (λ rest. (key d.0, value d.1) ∷ rest) (model_pushed key value es e)

@@ -1,4 +1,4 @@
--- Entries whose keys ascend are put into a map one behind the other.
+-- Entries whose keys ascend are put into a map one after the other.
 use Rattle.std.proofs.Common.{◌≡◌, ℕ, ◌+◌, List, [], ◌∷◌, ◌++◌, map, refl, ap, sym, ◌∙◌, append-nil}
 use Rattle.std.proofs.lemmas.List.Elements.{All-head, All-map, All-tail}
 use Rattle.std.specs.BTreeMap.{insert_entry}

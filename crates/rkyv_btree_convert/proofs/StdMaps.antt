@@ -1,4 +1,4 @@
--- What a look-up finds in an archive is what std's map has.
+-- What a lookup finds in an archive is what std's map has.
 use Rattle.std.proofs.Common.{◌≡◌, zero, suc, ◌+◌, List, [], ◌∷◌, Option, Some, None, refl, sym, ap, ◌∙◌, arith}
 use Rattle.std.specs.BTreeMap.{is_at}
 use Rattle.std.specs.Cmp.Lexicographic.{pointwise}
@@ -14,15 +14,15 @@ use Rattle.rkyv_btree_convert.specs.RoundTrip.{both_mean}
 use Rattle.rkyv_btree_view.specs.Lookup.{Only}
 use Rattle.rkyv_btree_walk.specs.Search.{IsHit}
 
-module _ {A B : Type 0} (answer : A → Ordering) where
+module _ {A B : Type 0} (comparison : A → Ordering) where
   abbrev at : A × B → Ordering
-  at e = answer e.0
+  at e = comparison e.0
 
   -- of a list: it has no hit, or one with this value
   abbrev Looks : List (A × B) → Option B → Type 0
   Looks m r = MatchOption r ((e : A × B) → IsHit at m e → ⊥) (λ v. (e : A × B) × IsHit at m e × (e.1 ≡ v))
 
-  looks_behind : (x : A × B) (m : List (A × B)) → (answer x.0 ≡ Equal → ⊥) → (r : Option B) → Looks m r → Looks (x ∷ m) r
+  looks_behind : (x : A × B) (m : List (A × B)) → (comparison x.0 ≡ Equal → ⊥) → (r : Option B) → Looks m r → Looks (x ∷ m) r
   looks_behind x m unequal None none = no_hit
     where
       no_hit : (e : A × B) → IsHit at (x ∷ m) e → ⊥
@@ -30,18 +30,18 @@ module _ {A B : Type 0} (answer : A → Ordering) where
       no_hit e (is, suc n, l, i) = none e (is, n, omega arith, i)
   looks_behind x m unequal (Some v) (e, hit, is) = let l = hit.2 in (e, (hit.0, suc hit.1, omega arith, hit.3), is)
 
-  looks : (m : List (A × B)) → Looks m (lookup (is_at answer) m)
+  looks : (m : List (A × B)) → Looks m (lookup (is_at comparison) m)
   looks [] = λ e hit. absurd (let l = hit.2 in omega arith)
   looks (x ∷ m) =
-      elim (answer x.0) as (λ o. answer x.0 ≡ o → Looks (x ∷ m) (cond (is_eq o) (Some x.1) (lookup (is_at answer) m))) [
-        | Less ↦ λ e. looks_behind x m (λ g. cc) (lookup (is_at answer) m) (looks m)
+      elim (comparison x.0) as (λ o. comparison x.0 ≡ o → Looks (x ∷ m) (cond (is_eq o) (Some x.1) (lookup (is_at comparison) m))) [
+        | Less ↦ λ e. looks_behind x m (λ g. cc) (lookup (is_at comparison) m) (looks m)
         | Equal ↦ λ e. (x, (e, zero, omega arith, λ d. refl), refl)
-        | Greater ↦ λ e. looks_behind x m (λ g. cc) (lookup (is_at answer) m) (looks m)
+        | Greater ↦ λ e. looks_behind x m (λ g. cc) (lookup (is_at comparison) m) (looks m)
       ] refl
 
   -- the only entry that gives Equal has the value that is looked up
-  pub only_looked_up : (m : List (A × B)) (found : Option (A × B)) → Only at m found → option_map (λ e. e.1) found ≡ lookup (is_at answer) m
-  only_looked_up m found only = case (lookup (is_at answer) m) (looks m)
+  pub only_looked_up : (m : List (A × B)) (found : Option (A × B)) → Only at m found → option_map (λ e. e.1) found ≡ lookup (is_at comparison) m
+  only_looked_up m found only = case (lookup (is_at comparison) m) (looks m)
     where
       not_found : (f : Option (A × B)) → IfSome f (IsHit at m) → ((e : A × B) → IsHit at m e → ⊥) → option_map (λ e. e.1) f ≡ None
       not_found None hit none = refl
@@ -52,11 +52,11 @@ module _ {A B : Type 0} (answer : A → Ordering) where
       case (Some v) (e, hit, is) = ap (option_map (λ e. e.1)) (only.alone e hit) ∙ ap Some is
 
 -- what is looked up by a meaning is what is looked up by a key, where the keys are compared alike
-pub lookup_meant : {T A U B : Type 0} (answer : A → Ordering) (compared : T → Ordering) (key : T → A) (value : U → B) → ((t : T) → compared t ≡ answer (key t)) → (m : List (T × U)) → lookup (is_at answer) (both_mean key value m) ≡ option_map value (lookup (is_at compared) m)
-lookup_meant answer compared key value alike [] = refl
-lookup_meant {U = U} answer compared key value alike (e ∷ m) = rw (alike e.0) (case (is_eq (answer (key e.0))) (lookup_meant answer compared key value alike m))
+pub lookup_meant : {T A U B : Type 0} (comparison : A → Ordering) (compared : T → Ordering) (key : T → A) (value : U → B) → ((t : T) → compared t ≡ comparison (key t)) → (m : List (T × U)) → lookup (is_at comparison) (both_mean key value m) ≡ option_map value (lookup (is_at compared) m)
+lookup_meant comparison compared key value alike [] = refl
+lookup_meant {U = U} comparison compared key value alike (e ∷ m) = rw (alike e.0) (case (is_eq (comparison (key e.0))) (lookup_meant comparison compared key value alike m))
   where
-    case : (z : Bool) → lookup (is_at answer) (both_mean key value m) ≡ option_map value (lookup (is_at compared) m) → cond z (Some (value e.1)) (lookup (is_at answer) (both_mean key value m)) ≡ option_map value (cond z (Some e.1) (lookup (is_at compared) m))
+    case : (z : Bool) → lookup (is_at comparison) (both_mean key value m) ≡ option_map value (lookup (is_at compared) m) → cond z (Some (value e.1)) (lookup (is_at comparison) (both_mean key value m)) ≡ option_map value (cond z (Some e.1) (lookup (is_at compared) m))
     case true rest = refl
     case false rest = rest
 

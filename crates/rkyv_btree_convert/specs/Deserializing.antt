@@ -8,8 +8,8 @@ use Rattle.rkyv_btree_convert.specs.declared.deserialize.DeserializeFault.TheVar
 
 -- why no native value is made: the entry refuses itself, or a growth was refused, of which nothing says when
 abbrev pub IsRefused : {H : Type 0} → Result H EntryFault → DeserializeFault → Type 0
-IsRefused answer (Entry fault) = answer ≡ Err fault
-IsRefused answer (Memory error) = Unit {0}
+IsRefused comparison (Entry fault) = comparison ≡ Err fault
+IsRefused comparison (Memory error) = Unit {0}
 
 -- what it says
 abbrev pub deserialize_text : DeserializeFault → List ℕ
@@ -19,7 +19,7 @@ deserialize_text (Memory error) = codes "out of memory"
 -- what the bytes at a position of a buffer give is what the value that is read there gives
 pub record IsByMeaning {G : Type 0} (kind : Kind) (native : List ℕ → ℕ → G) : Type 0 where
   pub of_value : kind.Value → G
-  pub reads : (b : List ℕ) (at : ℕ) → native b at ≡ of_value (kind.read b at)
+  pub by_value : (b : List ℕ) (at : ℕ) → native b at ≡ of_value (kind.read b at)
 
 -- what both parts of a pair give, or a fault: the first's before the second's
 abbrev pub both : {A B F : Type 0} → Result A F → Result B F → Result (A × B) F

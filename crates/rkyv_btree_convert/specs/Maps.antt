@@ -29,7 +29,7 @@ model_both key value entries = map (λ e. (key e.0, value e.1)) entries
 abbrev pub Puts : {T U A B : Type 0} → (A → A → Ordering) → (T → A) → (U → B) → Result (A × B) EntryFault → List (T × U) → List (T × U) → Type 0
 Puts {A} {B} order key value given old new = (e : A × B) × (given ≡ Ok e) × (model_both key value new ≡ insert_entry order (model_both key value old) e.0 e.1)
 
--- an entry is given, and put behind the one list to give the other, by the models of them
+-- an entry is given, and put after the one list to give the other, by the models of them
 abbrev pub Pushes : {T U A B : Type 0} → (T → A) → (U → B) → Result (A × B) EntryFault → List (T × U) → List (T × U) → Type 0
 Pushes {A} {B} key value given old new = (e : A × B) × (given ≡ Ok e) × (model_both key value new ≡ model_both key value old ++ e ∷ [])
 

@@ -17,7 +17,7 @@ abbrev pub OrdersAlike : {T A : Type 0} → (T → T → Ordering) → (A → A 
 OrdersAlike {T} cmp order key = (x y : T) → cmp x y ≡ order (key x) (key y)
 
 module _ (K V : Kind) (E : ℕ) {T U : Type 0} (key : T → K.Value) (value : U → V.Value) where
-  -- a look-up finds the value that std's map has for the key
+  -- a lookup finds the value that std's map has for the key
   abbrev pub FindsAsStd : (T → T → Ordering) → Type 0
   FindsAsStd cmp =
       (b : List ℕ) (at : ℕ) (m : List (T × U)) (q : T) → read_map K V E b at ≡ both_mean key value m → IsStrictlySortedBy cmp (keys_of m)

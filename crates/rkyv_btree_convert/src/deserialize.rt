@@ -92,8 +92,8 @@ impl<T: DeserializeNative> Deserialize<T::Native> for T {
     }
 
     ghost by_meaning = { record {
-      of_value = λ x. Ok (T.reads.native x);
-      reads = λ b at. ap Ok (T.reads.reads b at);
+      of_value = λ x. Ok (T.read_as.native x);
+      by_value = λ b at. ap Ok (T.read_as.by_value b at);
     } };
 
     ghost model_whole = { λ x y same.
@@ -121,7 +121,7 @@ impl Deserialize<NonZeroU32> for ArchivedNonZeroU32 {
         Ok(view.to_native())
     }
 
-    ghost by_meaning = { record { of_value = λ number. Ok number; reads = λ b at. refl } };
+    ghost by_meaning = { record { of_value = λ number. Ok number; by_value = λ b at. refl } };
 
     ghost model_whole = { λ x y same. Prim.search (rules, common_steps) };
 }
@@ -146,7 +146,7 @@ impl Deserialize<String> for ArchivedText {
         }
     }
 
-    ghost by_meaning = { record { of_value = λ text. Ok text; reads = λ b at. refl } };
+    ghost by_meaning = { record { of_value = λ text. Ok text; by_value = λ b at. refl } };
 
     ghost model_whole = { λ x y same. Prim.search (rules, common_steps) };
 }

@@ -4,7 +4,7 @@ ghost use Rattle.rkyv_btree_base.specs.Refusal.{Refusal};
 ghost use Rattle.rkyv_btree_base.specs.Whole.{IsArchiveOf, own_at};
 ghost use Rattle.rkyv_btree_convert.specs.Whole.{IsUnopened, IsUnmade, archive_text};
 ghost use Rattle.rkyv_btree_convert.specs.declared.from_archive.FromArchiveFault.TheVariants.{Refused, NotMade};
-ghost use Rattle.rkyv_btree_view.specs.View.{reads};
+ghost use Rattle.rkyv_btree_view.specs.View.{view_value};
 
 use crate::deserialize::{Deserialize, DeserializeFault};
 use rkyv_btree_base::archive::Archive;
@@ -73,7 +73,7 @@ pub fn open<'a, A: CheckBytes>(bytes: &'a [u8]) -> Result<View<'a, A>, Refusal>
     ensures position { IfOk result (λ view. view.pos ≡ own_at A.kind bytes.now) }
     // The result is a view exactly for an archive of a value, and the view reads that value.
     ensures accepts { IsOk result ↔ ((v : A.kind.Value) × IsArchiveOf A.kind bytes.now v) }
-    ensures value { IfOk result (λ view. IsArchiveOf A.kind bytes.now (reads view)) }
+    ensures value { IfOk result (λ view. IsArchiveOf A.kind bytes.now (view_value view)) }
     // The result is an error exactly for bytes with that error.
     ensures refuses { (e : Refusal) →
         (result ≡ Err e) ↔ IsUnopened A.kind A.Refuses bytes.now e }

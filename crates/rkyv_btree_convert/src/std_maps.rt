@@ -1,10 +1,10 @@
-//! What look-ups in the archive of a std map find, and that it is the same as the map.
+//! What lookups in the archive of a std map find, and that it is the same as the map.
 ghost use Rattle.rkyv_btree_convert.specs.StdMaps.{OrdersAlike, FindsAsStd, IsSameAsStd};
 
 use rkyv_btree_base::check::Portable;
 use rkyv_btree_view::compare::ViewOrd;
 
-/// If keys are ordered as what they mean, a look-up in the archive of a std map finds the value that the map itself has for
+/// If keys are ordered as what they mean, a lookup in the archive of a std map finds the value that the map itself has for
 /// the key.
 pub fn look_ups_find_as_std<T: Ord, U, K: ViewOrd, V: Portable, const E: usize>()
     ensures { (key : T → K.kind.Value) (value : U → V.kind.Value) →

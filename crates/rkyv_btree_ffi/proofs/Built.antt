@@ -38,6 +38,7 @@ use Rattle.rkyv_btree_base.specs.Writing.{Writing, Wrote, position, last_end}
 use Rattle.rkyv_btree_base.proofs.Accepting.{archive_length}
 use Rattle.rkyv_btree_base.proofs.TreeSerialised.{list_unserialised}
 use Rattle.rkyv_btree_ffi.specs.Building.{IsFirstBad, IsBuiltOf, IsUnbuiltOf, StopsWith, IsBuilt, IsUnbuilt, Archives}
+use Rattle.rkyv_btree_ffi.specs.Items.{ItemType, IsOfType, Native, IsNative, archival_of}
 use Rattle.rkyv_btree_ffi.specs.declared.building.BuildFault.{BuildFault}
 use Rattle.rkyv_btree_ffi.specs.declared.building.BuildFault.TheVariants.{BadItem, Unbuilt}
 use Rattle.rkyv_btree_ffi.specs.declared.order.Order.{Order}
@@ -297,6 +298,13 @@ module _ {M N : Type 0} (IsKey IsValue : List ℕ → BtreeItem → Type 0) (Giv
       unbuilt_of (Ok bytes) h = tt
       unbuilt_of (Err fault) h = why fault h
 
-pub archives : (t : MapType) (order : Order) (texts : List ℕ) (entries : List BtreeEntry) (r : Result (Vec ℕ Global) BuildFault) → IfOk r (λ x. IsBuilt t order texts entries x.items) → IfErr r (IsUnbuilt t order texts entries) → Archives t order texts entries r
-archives t order texts entries (Ok x) h g = h
-archives t order texts entries (Err fault) h g = g
+-- at the types of keys and values of a map's type, by what these are there
+pub archives : (t : MapType) (i j : ItemType) (order : Order) (texts : List ℕ) (entries : List BtreeEntry) (cmp : Native i → Native i → Ordering) (meant : BtreeEntry → (archival_of i).kind.Value × (archival_of j).kind.Value)
+    (means : (e : BtreeEntry) (x : Native i × Native j) → GivesBoth (IsOfType i) (IsOfType j) (IsNative i) (IsNative j) texts e x → native_meaning (archival_of i) (archival_of j) x ≡ meant e)
+    (same : (x y : Native i) → cmp x y ≡ (archival_of i).kind.order ((archival_of i).meaning x) ((archival_of i).meaning y)) (no_key : (x : Native i) (at : ℕ) (f : EntryFault) → (archival_of i).Refuses x at f → ⊥) (no_value : (x : Native j) (at : ℕ) (f : EntryFault) → (archival_of j).Refuses x at f → ⊥)
+    → ((bytes : List ℕ) → IsBuiltOf (IsOfBoth (IsOfType i) (IsOfType j) texts) meant (archival_of i).kind.order order entries (IsArchiveOf (map_kind (archival_of i).kind (archival_of j).kind 5) bytes) → IsBuilt t order texts entries bytes)
+    → ((fault : BuildFault) → IsUnbuiltOf (IsOfBoth (IsOfType i) (IsOfType j) texts) meant (archival_of i).kind.order order entries (NativesStop (archival_of i) (archival_of j)) fault → IsUnbuilt t order texts entries fault)
+    → (r : Result (Vec ℕ Global) BuildFault) → IfOk r (λ x. BuiltGiven (IsOfType i) (IsOfType j) (IsNative i) (IsNative j) texts order entries (archival_of i).kind (archival_of j).kind (archival_of i) (archival_of j) cmp x.items)
+    → IfErr r (UnbuiltGiven (IsOfType i) (IsOfType j) (IsNative i) (IsNative j) texts order entries (archival_of i) (archival_of j) cmp) → Archives t order texts entries r
+archives t i j order texts entries cmp meant means same no_key no_value ok err (Ok x) h g = ok x.items (built_of (IsOfType i) (IsOfType j) (IsNative i) (IsNative j) texts (archival_of i) (archival_of j) cmp order entries meant means same no_key no_value (Ok x) h)
+archives t i j order texts entries cmp meant means same no_key no_value ok err (Err fault) h g = err fault (unbuilt_of (IsOfType i) (IsOfType j) (IsNative i) (IsNative j) texts (archival_of i) (archival_of j) cmp order entries meant means same no_key no_value (Err fault) g)

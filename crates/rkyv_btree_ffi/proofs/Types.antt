@@ -1,33 +1,21 @@
 -- What is known of calls at the types of a map, as C has it.
-use Rattle.std.proofs.Common.{◌≡◌, ℕ, ◌≤◌, ◌<◌, IsTrue, IfSome, IfOk, IfErr, List, [], ◌∷◌, ◌++◌, length, take, map, Option, Some, None, Bor, refl, rules, ap}
-use Rattle.std.specs.Prelude.{Result, Ok, Err, IsOk}
+use Rattle.std.proofs.Common.{◌≡◌, ℕ, ◌≤◌, ◌<◌, IfSome, List, [], ◌∷◌, ◌++◌, length, take, map, Option, Some, None, Bor, refl, ap}
 use Rattle.std.proofs.lemmas.Bool.{lt-ltb}
 use Rattle.std.specs.Int.{w32, to_le_bytes}
 use Rattle.std.specs.Option.{option_map}
-use Rattle.rkyv_btree_base.specs.Increasing.{Increasing}
 use Rattle.rkyv_btree_base.specs.Read.{entry_at}
-use Rattle.rkyv_btree_base.specs.Refusal.{Refusal}
-use Rattle.rkyv_btree_base.specs.Refusals.{RefusesMap}
-use Rattle.rkyv_btree_base.specs.Views.{stands}
-use Rattle.rkyv_btree_base.specs.Whole.{IsArchiveOf, own_at}
-use Rattle.rkyv_btree.specs.Strict.{RefusesStrict}
-use Rattle.rkyv_btree.specs.Whole.{IsUnopened}
 use Rattle.rkyv_btree_ffi.specs.Batches.{AreShown, IsEither as IsEitherPlace}
 use Rattle.rkyv_btree_ffi.specs.Editing.{narrow}
-use Rattle.rkyv_btree_ffi.specs.Entries.{answer, by_number, by_text, IsKey, IsValue, AreEntries, IsEither, IsBatch}
-use Rattle.rkyv_btree_ffi.specs.MapTypes.{key_kind, value_kind, kind_of, entries_at}
-use Rattle.rkyv_btree_ffi.specs.Opening.{Opens, OpensStrict}
+use Rattle.rkyv_btree_ffi.specs.Entries.{comparison_with, by_number, by_text, IsKey, IsValue, AreEntries, IsEither, IsBatch}
+use Rattle.rkyv_btree_ffi.specs.MapTypes.{key_kind, value_kind}
 use Rattle.rkyv_btree_ffi.specs.declared.item.BtreeItem.{BtreeItem}
 use Rattle.rkyv_btree_ffi.specs.declared.item.BtreeEntry.{BtreeEntry}
 use Rattle.rkyv_btree_ffi.specs.declared.map_type.MapType.{MapType}
 use Rattle.rkyv_btree_ffi.specs.declared.map_type.MapType.TheVariants.{U32ToU32, U32ToU64, U32ToText, U64ToU32, U64ToU64, U64ToText, TextToU32, TextToU64, TextToText}
 use Rattle.rkyv_btree_ffi.specs.declared.query.Query.TheVariants.{Number, Text}
 
-no_ok : (e : Refusal) → IsOk {T = ℕ} {E = Refusal} (Err e) → ⊥
-no_ok e h = absurd (search (rules, h))
-
 -- what comparing a number gives, and a text
-pub number_is : (t : MapType) (n : ℕ) → answer t (Number n) ≡ by_number t n
+pub number_is : (t : MapType) (n : ℕ) → comparison_with t (Number n) ≡ by_number t n
 number_is U32ToU32 n = refl
 number_is U32ToU64 n = refl
 number_is U32ToText n = refl
@@ -38,7 +26,7 @@ number_is TextToU32 n = refl
 number_is TextToU64 n = refl
 number_is TextToText n = refl
 
-pub text_is : (t : MapType) (text : Bor (List ℕ)) → answer t (Text text) ≡ by_text t text.now
+pub text_is : (t : MapType) (text : Bor (List ℕ)) → comparison_with t (Text text) ≡ by_text t text.now
 text_is U32ToU32 text = refl
 text_is U32ToU64 text = refl
 text_is U32ToText text = refl
@@ -54,19 +42,6 @@ pub narrow_is : (value : ℕ) → value < 4294967296 → narrow value ≡ Some (
 narrow_is value low = rw (lt-ltb value 4294967296 low) refl
 
 module _ (t : MapType) (b : List ℕ) where
-  pub opens : (r : Result ℕ Refusal) → IfOk r (λ at. at ≡ own_at (kind_of t) b) → IfOk r (λ at. IsTrue (stands (kind_of t) b at))
-      → IfOk r (λ at. IsArchiveOf (kind_of t) b (entries_at t b at)) → ((m : (kind_of t).Value) → IsArchiveOf (kind_of t) b m → IsOk r)
-      → IfErr r (IsUnopened (kind_of t) (RefusesMap (key_kind t) (value_kind t) 5) b) → Opens t b r
-  opens (Ok at) position stood archive all refused = record { position = position; stands = stood; archive = archive }
-  opens (Err e) position stood archive all refused = (refused, λ m is. no_ok e (all m is))
-
-  pub opens_strict : (r : Result ℕ Refusal) → IfOk r (λ at. at ≡ own_at (kind_of t) b) → IfOk r (λ at. IsTrue (stands (kind_of t) b at))
-      → IfOk r (λ at. IsArchiveOf (kind_of t) b (entries_at t b at)) → IfOk r (λ at. Increasing (key_kind t).order (entries_at t b at))
-      → ((m : (kind_of t).Value) → IsArchiveOf (kind_of t) b m → Increasing (key_kind t).order m → IsOk r)
-      → IfErr r (IsUnopened (kind_of t) (RefusesStrict (key_kind t) (value_kind t) 5) b) → OpensStrict t b r
-  opens_strict (Ok at) position stood archive increasing all refused = (record { position = position; stands = stood; archive = archive }, increasing)
-  opens_strict (Err e) position stood archive increasing all refused = (refused, λ m is up. no_ok e (all m is up))
-
   -- what a key and a value at a position are
   abbrev key_at_place : List ℕ → ℕ → BtreeItem → Type 0
   key_at_place c at item = IsKey c t ((key_kind t).read c at) item

@@ -29,4 +29,4 @@ module _ (K V : Kind) (ShowsKey ShowsValue : List ℕ → ℕ → BtreeItem → 
   IsEither (Some p) (Some e) = IsShown p e
 
   abbrev pub IsFoundAt : ℕ → (K.Value → Ordering) → Option BtreeEntry → Type 0
-  IsFoundAt at answer found = IsEither (probe (λ e. answer (entry_at K V 5 b e).0) (map_tree (layout_of K V 5) b at)) found
+  IsFoundAt at comparison found = IsEither (probe (λ e. comparison (entry_at K V 5 b e).0) (map_tree (layout_of K V 5) b at)) found

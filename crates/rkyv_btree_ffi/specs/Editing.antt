@@ -28,8 +28,8 @@ own_of TextToText value = None
 -- the value of the entry that a lookup finds is overwritten by these own bytes, and no other byte; or the code is that there is no
 -- such entry, or that there are no such bytes
 abbrev pub SetsOwn : (K V : Kind) → List ℕ → ℕ → (K.Value → Ordering) → Option (List ℕ) → List ℕ → ℕ → Type 0
-SetsOwn K V b at asked own c code =
-    MatchOption own ((code ≡ 20) × (c ≡ b)) (λ bytes. (found : Bool) × SetsFound K V 5 b at asked bytes c found × (code ≡ (if found then 0 else 18)))
+SetsOwn K V b at comparison own c code =
+    MatchOption own ((code ≡ 20) × (c ≡ b)) (λ bytes. (found : Bool) × SetsFound K V 5 b at comparison bytes c found × (code ≡ (if found then 0 else 18)))
 
 abbrev pub SetsValue : (t : MapType) → List ℕ → ℕ → ((key_kind t).Value → Ordering) → ℕ → List ℕ → ℕ → Type 0
-SetsValue t b at asked value c code = SetsOwn (key_kind t) (value_kind t) b at asked (own_of t value) c code
+SetsValue t b at comparison value c code = SetsOwn (key_kind t) (value_kind t) b at comparison (own_of t value) c code

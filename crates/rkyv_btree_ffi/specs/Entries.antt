@@ -9,7 +9,7 @@ use Rattle.rkyv_btree.specs.Bounds.{IsRun, IsWithin}
 use Rattle.rkyv_btree.specs.Lookup.{found_at}
 use Rattle.rkyv_btree_ffi.specs.Items.{IsNumberItem, IsTextItem}
 use Rattle.rkyv_btree_ffi.specs.MapTypes.{key_kind, value_kind, entries_at}
-use Rattle.rkyv_btree_ffi.specs.Queries.{number_answer, text_answer}
+use Rattle.rkyv_btree_ffi.specs.Queries.{number_comparison, text_comparison}
 use Rattle.rkyv_btree_ffi.specs.declared.item.BtreeItem.{BtreeItem}
 use Rattle.rkyv_btree_ffi.specs.declared.item.BtreeEntry.{BtreeEntry}
 use Rattle.rkyv_btree_ffi.specs.declared.query.Query.{Query}
@@ -18,16 +18,16 @@ use Rattle.rkyv_btree_ffi.specs.declared.map_type.MapType.TheVariants.{U32ToU32,
 use Rattle.rkyv_btree_ffi.specs.declared.map_type.MapType.TheVariants.{TextToU32, TextToU64, TextToText}
 
 -- what comparing a query with a key gives
-abbrev pub answer : (t : MapType) → Query → (key_kind t).Value → Ordering
-answer U32ToU32 = number_answer
-answer U32ToU64 = number_answer
-answer U32ToText = number_answer
-answer U64ToU32 = number_answer
-answer U64ToU64 = number_answer
-answer U64ToText = number_answer
-answer TextToU32 = text_answer
-answer TextToU64 = text_answer
-answer TextToText = text_answer
+abbrev pub comparison_with : (t : MapType) → Query → (key_kind t).Value → Ordering
+comparison_with U32ToU32 = number_comparison
+comparison_with U32ToU64 = number_comparison
+comparison_with U32ToText = number_comparison
+comparison_with U64ToU32 = number_comparison
+comparison_with U64ToU64 = number_comparison
+comparison_with U64ToText = number_comparison
+comparison_with TextToU32 = text_comparison
+comparison_with TextToU64 = text_comparison
+comparison_with TextToText = text_comparison
 
 -- what comparing a number with a key gives; it is before every text
 abbrev pub by_number : (t : MapType) → ℕ → (key_kind t).Value → Ordering
@@ -99,7 +99,7 @@ module _ (t : MapType) (b : List ℕ) where
   IsEither (Some e) (Some entry) = IsEntry e entry
 
   abbrev pub FindsEntry : ℕ → ((key_kind t).Value → Ordering) → Option BtreeEntry → Type 0
-  FindsEntry at asked found = IsEither (found_at (key_kind t) (value_kind t) 5 b at asked) found
+  FindsEntry at comparison found = IsEither (found_at (key_kind t) (value_kind t) 5 b at comparison) found
 
   -- C has the entry that was found, or the code that there is none
   abbrev pub Gives : Option ((key_kind t).Value × (value_kind t).Value) → ℕ → BtreeEntry → Type 0
@@ -108,7 +108,7 @@ module _ (t : MapType) (b : List ℕ) where
 
   -- of the map at a position, that is the entry that a lookup finds
   abbrev pub LooksUp : ℕ → ((key_kind t).Value → Ordering) → ℕ → BtreeEntry → Type 0
-  LooksUp at asked code entry = Gives (found_at (key_kind t) (value_kind t) 5 b at asked) code entry
+  LooksUp at comparison code entry = Gives (found_at (key_kind t) (value_kind t) 5 b at comparison) code entry
 
   -- the first entries of a list were written, and the others are left: none if there was more room
   pub record IsBatch (old new : List ((key_kind t).Value × (value_kind t).Value)) (out : List BtreeEntry) (written : ℕ) : Type 0 where
@@ -119,6 +119,6 @@ module _ (t : MapType) (b : List ℕ) where
     pub last : written < length out → new ≡ []
 
   -- these entries of the map at a position are left from a query on: contiguous ones; if the keys are sorted for it, all from it on
-  pub record IsFrom (at : ℕ) (asked : (key_kind t).Value → Ordering) (left : List ((key_kind t).Value × (value_kind t).Value)) : Type 0 where
+  pub record IsFrom (at : ℕ) (comparison : (key_kind t).Value → Ordering) (left : List ((key_kind t).Value × (value_kind t).Value)) : Type 0 where
     pub run : IsRun left (entries_at t b at)
-    pub within : IsWithin (Included asked) Unbounded (entries_at t b at) left
+    pub within : IsWithin (Included comparison) Unbounded (entries_at t b at) left

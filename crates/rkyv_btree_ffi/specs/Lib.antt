@@ -3,6 +3,7 @@ pub mod Building
 pub mod Codes
 pub mod Editing
 pub mod Entries
+pub mod Finding
 pub mod Items
 pub mod MapTypes
 pub mod Messages

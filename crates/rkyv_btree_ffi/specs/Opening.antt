@@ -1,6 +1,9 @@
 -- What opening a whole archive for C gives.
 use Rattle.std.specs.Prelude.{◌≡◌, ℕ, IsTrue, List, Result, Ok, Err, Some}
 use Rattle.rkyv_btree_base.specs.Increasing.{Increasing as AreIncreasing}
+use Rattle.rkyv_btree_base.specs.Kind.{Kind}
+use Rattle.rkyv_btree_base.specs.Map.{map_kind}
+use Rattle.rkyv_btree_base.specs.Read.{read_map}
 use Rattle.rkyv_btree_base.specs.Refusal.{Refusal}
 use Rattle.rkyv_btree_base.specs.Refusals.{RefusesMap}
 use Rattle.rkyv_btree_base.specs.Views.{stands}
@@ -8,7 +11,7 @@ use Rattle.rkyv_btree_base.specs.Whole.{IsArchiveOf, own_at}
 use Rattle.rkyv_btree.specs.Strict.{RefusesStrict}
 use Rattle.rkyv_btree.specs.Whole.{IsUnopened}
 use Rattle.rkyv_btree_ffi.specs.Codes.{refusal_for}
-use Rattle.rkyv_btree_ffi.specs.MapTypes.{key_kind, value_kind, kind_of, entries_at, type_of}
+use Rattle.rkyv_btree_ffi.specs.MapTypes.{key_kind, value_kind, type_of}
 use Rattle.rkyv_btree_ffi.specs.declared.codes.BtreeRefusal.{BtreeRefusal}
 use Rattle.rkyv_btree_ffi.specs.declared.map_type.MapType.{MapType}
 use Rattle.rkyv_btree_ffi.specs.declared.order.Order.{Order}
@@ -16,24 +19,32 @@ use Rattle.rkyv_btree_ffi.specs.declared.order.Order.TheVariants.{Any, Increasin
 use Rattle.rkyv_btree_ffi.specs.declared.handle.BtreeMap.{BtreeMap}
 use Rattle.rkyv_btree_ffi.specs.declared.handle.BtreeEdit.{BtreeEdit}
 
-module _ (t : MapType) (b : List ℕ) where
-  -- a map of the type was found at the position of the last eight bytes
+module _ (K V : Kind) (b : List ℕ) where
+  -- a map of these keys and values was found at the position of the last eight bytes
   pub record IsFoundMap (at : ℕ) : Type 0 where
-    pub position : at ≡ own_at (kind_of t) b
-    pub stands : IsTrue (stands (kind_of t) b at)
-    pub archive : IsArchiveOf (kind_of t) b (entries_at t b at)
+    pub position : at ≡ own_at (map_kind K V 5) b
+    pub stands : IsTrue (stands (map_kind K V 5) b at)
+    pub archive : IsArchiveOf (map_kind K V 5) b (read_map K V 5 b at)
 
-  -- the bytes are opened exactly if they are an archive of a map of the type, or refused for a cause
-  abbrev pub Opens : Result ℕ Refusal → Type 0
-  Opens (Ok at) = IsFoundMap at
-  Opens (Err e) = IsUnopened (kind_of t) (RefusesMap (key_kind t) (value_kind t) 5) b e
-      × ((m : (kind_of t).Value) → IsArchiveOf (kind_of t) b m → ⊥)
+  -- the bytes are opened exactly if they are an archive of such a map, or refused for a cause
+  abbrev pub OpensMap : Result ℕ Refusal → Type 0
+  OpensMap (Ok at) = IsFoundMap at
+  OpensMap (Err e) = IsUnopened (map_kind K V 5) (RefusesMap K V 5) b e
+      × ((m : List (K.Value × V.Value)) → IsArchiveOf (map_kind K V 5) b m → ⊥)
 
   -- the same, and its keys increase
+  abbrev pub OpensStrictMap : Result ℕ Refusal → Type 0
+  OpensStrictMap (Ok at) = IsFoundMap at × AreIncreasing K.order (read_map K V 5 b at)
+  OpensStrictMap (Err e) = IsUnopened (map_kind K V 5) (RefusesStrict K V 5) b e
+      × ((m : List (K.Value × V.Value)) → IsArchiveOf (map_kind K V 5) b m → AreIncreasing K.order m → ⊥)
+
+module _ (t : MapType) (b : List ℕ) where
+  -- the same of maps of a type
+  abbrev pub Opens : Result ℕ Refusal → Type 0
+  Opens found = OpensMap (key_kind t) (value_kind t) b found
+
   abbrev pub OpensStrict : Result ℕ Refusal → Type 0
-  OpensStrict (Ok at) = IsFoundMap at × AreIncreasing (key_kind t).order (entries_at t b at)
-  OpensStrict (Err e) = IsUnopened (kind_of t) (RefusesStrict (key_kind t) (value_kind t) 5) b e
-      × ((m : (kind_of t).Value) → IsArchiveOf (kind_of t) b m → AreIncreasing (key_kind t).order m → ⊥)
+  OpensStrict found = OpensStrictMap (key_kind t) (value_kind t) b found
 
   -- the same of keys in an order
   abbrev pub OpensAs : Order → Result ℕ Refusal → Type 0

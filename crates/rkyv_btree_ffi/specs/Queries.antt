@@ -7,10 +7,10 @@ use Rattle.std.specs.declared.cmp.Ordering.TheVariants.{Less}
 use Rattle.rkyv_btree_ffi.specs.declared.query.Query.{Query}
 use Rattle.rkyv_btree_ffi.specs.declared.query.Query.TheVariants.{Number, Text}
 
-abbrev pub number_answer : Query → ℕ → Ordering
-number_answer (Number n) key = nat_cmp n key
-number_answer (Text text) key = Less
+abbrev pub number_comparison : Query → ℕ → Ordering
+number_comparison (Number n) key = nat_cmp n key
+number_comparison (Text text) key = Less
 
-abbrev pub text_answer : Query → List ℕ → Ordering
-text_answer (Number n) key = Less
-text_answer (Text text) key = slice_cmp nat_cmp text.now key
+abbrev pub text_comparison : Query → List ℕ → Ordering
+text_comparison (Number n) key = Less
+text_comparison (Text text) key = slice_cmp nat_cmp text.now key

@@ -127,7 +127,8 @@ fn write_tree<K: Given, V: Given>(
     ensures increasing { order ≡ Increasing → OnOk result (AreIncreasing K.Native.cmp natives.now) }
     ensures went { OnOk result (OnlyAppended writer.old writer.new) }
     ensures err { IfErr result (λ fault.
-        TreeFault K.Native.archival V.Native.archival K.Native.cmp order natives.now writer.old fault writer.new) }
+        TreeFault K.Native.archival V.Native.archival K.Native.cmp order natives.now
+        writer.old fault writer.new) }
 {
     let items = Pairs { rest: natives };
     match order {

@@ -136,7 +136,8 @@ fn child_node<K: Portable, V: Portable>(buf: &[u8], _pos: u32, node: u32, index:
 fn leaf_count<K: Portable, V: Portable>(buf: &[u8], pos: u32, node: u32) -> Option<u32>
     requires stands { IsTrue (stands (map_kind K.kind V.kind 5) buf.now pos) }
     requires below { IsInMap (layout_of K.kind V.kind 5) buf.now (root_place buf.now pos) node }
-    ensures count { IfSome result (λ count. count ≡ entry_count (layout_of K.kind V.kind 5) buf.now node) }
+    ensures count { IfSome result (λ count.
+        count ≡ entry_count (layout_of K.kind V.kind 5) buf.now node) }
     ensures leaf { IfSome result (λ _. is_leaf_at (layout_of K.kind V.kind 5) buf.now node ≡ true) }
     ensures inner { result ≡ None → is_leaf_at (layout_of K.kind V.kind 5) buf.now node ≡ false }
 {
@@ -169,7 +170,8 @@ fn leads_to<K: Portable, V: Portable>(
     requires stands { IsTrue (stands (map_kind K.kind V.kind 5) buf.now pos) }
     requires below { IsInMap (layout_of K.kind V.kind 5) buf.now (root_place buf.now pos) from }
     ensures leads { result ≡ true → Leads (layout_of K.kind V.kind 5) buf.now pointers from node }
-    ensures none { result ≡ false → Leads (layout_of K.kind V.kind 5) buf.now pointers from node → ⊥ }
+    ensures none { result ≡ false →
+        Leads (layout_of K.kind V.kind 5) buf.now pointers from node → ⊥ }
 {
     if pointers == 0 {
         return from == node;
@@ -265,7 +267,8 @@ fn is_step<K: Portable, V: Portable>(
     ensures step { result ≡ true →
         IsStep (layout_of K.kind V.kind 5) buf.now (root_place buf.now pos) level (step_of step) }
     ensures none { result ≡ false →
-        IsStep (layout_of K.kind V.kind 5) buf.now (root_place buf.now pos) level (step_of step) → ⊥ }
+        IsStep (layout_of K.kind V.kind 5) buf.now (root_place buf.now pos) level (step_of step) →
+        ⊥ }
 {
     if step.index > 5 || !is_on_level::<K, V>(buf, pos, level, step.node, led) {
         return false;
@@ -316,9 +319,11 @@ fn is_run<K: Portable, V: Portable>(buf: &[u8], pos: u32, part: &Part, led: Opti
     requires led { IfSome led
         (IsInMap (layout_of K.kind V.kind 5) buf.now (root_place buf.now pos)) }
     ensures run { result ≡ true →
-        RunBelow (layout_of K.kind V.kind 5) buf.now (root_place buf.now pos) part.now.node part.now.next part.now.end }
+        RunBelow (layout_of K.kind V.kind 5) buf.now (root_place buf.now pos)
+        part.now.node part.now.next part.now.end }
     ensures none { result ≡ false →
-        RunBelow (layout_of K.kind V.kind 5) buf.now (root_place buf.now pos) part.now.node part.now.next part.now.end → ⊥ }
+        RunBelow (layout_of K.kind V.kind 5) buf.now (root_place buf.now pos)
+        part.now.node part.now.next part.now.end → ⊥ }
 {
     if part.next >= part.end {
         return true;

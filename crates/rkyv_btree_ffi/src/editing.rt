@@ -7,7 +7,7 @@ ghost use Rattle.rkyv_btree_base.specs.Views.{stands};
 ghost use Rattle.rkyv_btree.specs.Lookup.{ByNative};
 ghost use Rattle.rkyv_btree.specs.Places.{SetsFound};
 ghost use Rattle.rkyv_btree_ffi.specs.Editing.{narrow, SetsOwn, SetsValue};
-ghost use Rattle.rkyv_btree_ffi.specs.Entries.{answer, by_number, by_text};
+ghost use Rattle.rkyv_btree_ffi.specs.Entries.{comparison_with, by_number, by_text};
 ghost use Rattle.rkyv_btree_ffi.specs.MapTypes.{type_of, kind_of, IfType};
 ghost use Rattle.rkyv_btree_ffi.specs.Opening.{Opens, IsOpenedEdit};
 
@@ -64,11 +64,12 @@ pub extern "C" fn rkyv_btree_open_edit(
 /// Overwrites the value of the entry that a search for a query finds in the map at `pos`, and returns whether it finds one.
 fn set<K: Shown, V: InPlace>(buf: &mut [u8], pos: u32, query: &Query<'_>, value: V::Native) -> bool
     requires { IsTrue (stands (map_kind K.kind V.kind 5) buf.old pos) }
-    ensures sets { ByNative K.kind K.answered_at query.now (λ answer.
-        SetsFound K.kind V.kind 5 buf.old pos answer (V.in_place.own value) buf.new result) }
+    ensures sets { ByNative K.kind K.query_compared_at query.now (λ comparison.
+        SetsFound K.kind V.kind 5 buf.old pos comparison (V.in_place.own_bytes value)
+        buf.new result) }
     ensures stands { IsTrue (stands (map_kind K.kind V.kind 5) buf.new pos) }
 {
-    let compare = |query: &Query<'_>, key: View<K>| K::answer(query, &key);
+    let compare = |query: &Query<'_>, key: View<K>| K::compare_query(query, &key);
     let mut map = MapSeal::<ArchivedBTreeMap<K, V, 5>>::at(buf, pos);
     match map.find_with(query, compare) {
         None => false,
@@ -89,8 +90,8 @@ fn written(found: bool) -> u32
 /// Overwrites a value of 32 bits, if the number is one.
 fn set_narrow<K: Shown>(buf: &mut [u8], pos: u32, query: &Query<'_>, value: u64) -> u32
     requires { IsTrue (stands (map_kind K.kind u32_kind 5) buf.old pos) }
-    ensures sets { ByNative K.kind K.answered_at query.now (λ answer.
-        SetsOwn K.kind u32_kind buf.old pos answer (narrow value) buf.new result) }
+    ensures sets { ByNative K.kind K.query_compared_at query.now (λ comparison.
+        SetsOwn K.kind u32_kind buf.old pos comparison (narrow value) buf.new result) }
     ensures stands { IsTrue (stands (map_kind K.kind u32_kind 5) buf.new pos) }
 {
     match u32::try_from(value) {
@@ -102,8 +103,9 @@ fn set_narrow<K: Shown>(buf: &mut [u8], pos: u32, query: &Query<'_>, value: u64)
 /// Overwrites a value of 64 bits.
 fn set_wide<K: Shown>(buf: &mut [u8], pos: u32, query: &Query<'_>, value: u64) -> u32
     requires { IsTrue (stands (map_kind K.kind u64_kind 5) buf.old pos) }
-    ensures sets { ByNative K.kind K.answered_at query.now (λ answer.
-        SetsOwn K.kind u64_kind buf.old pos answer (Some (to_le_bytes w64 value)) buf.new result) }
+    ensures sets { ByNative K.kind K.query_compared_at query.now (λ comparison.
+        SetsOwn K.kind u64_kind buf.old pos comparison (Some (to_le_bytes w64 value))
+        buf.new result) }
     ensures stands { IsTrue (stands (map_kind K.kind u64_kind 5) buf.new pos) }
 {
     written(set::<K, ArchivedU64>(buf, pos, query, value))
@@ -112,7 +114,8 @@ fn set_wide<K: Shown>(buf: &mut [u8], pos: u32, query: &Query<'_>, value: u64) -
 /// Overwrites a value of the map of a type.
 fn set_at(map_type: MapType, buf: &mut [u8], pos: u32, query: &Query<'_>, value: u64) -> u32
     requires { IsTrue (stands (kind_of map_type) buf.old pos) }
-    ensures sets { SetsValue map_type buf.old pos (answer map_type query.now) value buf.new result }
+    ensures sets { SetsValue map_type buf.old pos (comparison_with map_type query.now) value
+        buf.new result }
     ensures stands { IsTrue (stands (kind_of map_type) buf.new pos) }
 {
     match map_type {
@@ -129,8 +132,8 @@ fn set_at(map_type: MapType, buf: &mut [u8], pos: u32, query: &Query<'_>, value:
 /// Overwrites a value of an open map.
 fn set_value(edit: &mut BtreeEdit<'_>, query: &Query<'_>, value: u64) -> u32
     ensures sets { IfType edit.old.map_type (λ t.
-        SetsValue t edit.old.buf.now edit.old.pos (answer t query.now) value edit.new.buf.now
-        result) }
+        SetsValue t edit.old.buf.now edit.old.pos (comparison_with t query.now) value
+        edit.new.buf.now result) }
     ensures closed { type_of edit.old.map_type ≡ None →
         (result ≡ 16) × (edit.new.buf.now ≡ edit.old.buf.now) }
 {

@@ -94,7 +94,8 @@ pub(crate) fn native<K: Given, V: Given>(
     texts: &[u8],
     entry: &BtreeEntry,
 ) -> Result<(K::Native, V::Native), ItemFault>
-    ensures entry { OnOk result (K.IsItem texts.now entry.now.key × V.IsItem texts.now entry.now.value) }
+    ensures entry { OnOk result
+        (K.IsItem texts.now entry.now.key × V.IsItem texts.now entry.now.value) }
     ensures key { IfOk result (λ pair. K.Gives texts.now entry.now.key pair.0) }
     ensures value { IfOk result (λ pair. V.Gives texts.now entry.now.value pair.1) }
     ensures none { IsErrOf result ItemFault.NotOfType →

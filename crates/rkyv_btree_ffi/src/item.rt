@@ -1,10 +1,10 @@
 //! Keys and values as C has them.
 ghost use Rattle.std.specs.Prelude.{◌≡◌, ℕ, List};
-ghost use Rattle.std.specs.declared.cmp.Ordering.{Ordering as Answer};
+ghost use Rattle.std.specs.declared.cmp.Ordering.{Ordering as Comparison};
 ghost use Rattle.rkyv_btree_base.specs.Scalars.{u32_kind, u64_kind};
 ghost use Rattle.rkyv_btree_base.specs.Text.{text_kind};
 ghost use Rattle.rkyv_btree_ffi.specs.Items.{IsNumberItem, IsTextItem};
-ghost use Rattle.rkyv_btree_ffi.specs.Queries.{number_answer, text_answer};
+ghost use Rattle.rkyv_btree_ffi.specs.Queries.{number_comparison, text_comparison};
 ghost use Rattle.rkyv_btree_ffi.specs.declared.item.BtreeItem.{BtreeItem};
 ghost use Rattle.rkyv_btree_ffi.specs.declared.query.Query.{Query};
 
@@ -44,21 +44,21 @@ pub trait Shown: CheckBytes + ViewOrd {
     ghost ShowsAt: { List ℕ → ℕ → BtreeItem → Type 0 };
 
     /// What comparing a query with what is stored at a position of a buffer gives.
-    ghost answered_at: { Query → List ℕ → ℕ → Answer };
+    ghost query_compared_at: { Query → List ℕ → ℕ → Comparison };
 
     /// Returns the item of a view.
     fn item(view: &View<'_, Self>) -> BtreeItem
         ensures { ShowsAt view.now.buf.now view.now.pos result };
 
     /// Compares a query with a view.
-    fn answer(query: &Query<'_>, view: &View<'_, Self>) -> Ordering
-        ensures { result ≡ answered_at query.now view.now.buf.now view.now.pos };
+    fn compare_query(query: &Query<'_>, view: &View<'_, Self>) -> Ordering
+        ensures { result ≡ query_compared_at query.now view.now.buf.now view.now.pos };
 }
 
 impl Shown for ArchivedU32 {
     ghost ShowsAt = { λ b at item. IsNumberItem (u32_kind.read b at) item };
 
-    ghost answered_at = { λ query b at. number_answer query (u32_kind.read b at) };
+    ghost query_compared_at = { λ query b at. number_comparison query (u32_kind.read b at) };
 
     fn item(view: &View<'_, ArchivedU32>) -> BtreeItem {
         BtreeItem {
@@ -68,7 +68,7 @@ impl Shown for ArchivedU32 {
         }
     }
 
-    fn answer(query: &Query<'_>, view: &View<'_, ArchivedU32>) -> Ordering {
+    fn compare_query(query: &Query<'_>, view: &View<'_, ArchivedU32>) -> Ordering {
         match query {
             Query::Number(number) => (*number).cmp(&u64::from(view.to_native())),
             Query::Text(_) => Ordering::Less,
@@ -79,7 +79,7 @@ impl Shown for ArchivedU32 {
 impl Shown for ArchivedU64 {
     ghost ShowsAt = { λ b at item. IsNumberItem (u64_kind.read b at) item };
 
-    ghost answered_at = { λ query b at. number_answer query (u64_kind.read b at) };
+    ghost query_compared_at = { λ query b at. number_comparison query (u64_kind.read b at) };
 
     fn item(view: &View<'_, ArchivedU64>) -> BtreeItem {
         BtreeItem {
@@ -89,7 +89,7 @@ impl Shown for ArchivedU64 {
         }
     }
 
-    fn answer(query: &Query<'_>, view: &View<'_, ArchivedU64>) -> Ordering {
+    fn compare_query(query: &Query<'_>, view: &View<'_, ArchivedU64>) -> Ordering {
         match query {
             Query::Number(number) => (*number).cmp(&view.to_native()),
             Query::Text(_) => Ordering::Less,
@@ -100,7 +100,7 @@ impl Shown for ArchivedU64 {
 impl Shown for ArchivedText {
     ghost ShowsAt = { λ b at item. IsTextItem b (text_kind.read b at) item };
 
-    ghost answered_at = { λ query b at. text_answer query (text_kind.read b at) };
+    ghost query_compared_at = { λ query b at. text_comparison query (text_kind.read b at) };
 
     fn item(view: &View<'_, ArchivedText>) -> BtreeItem {
         // A view stands on a text whose bytes lie before it.
@@ -111,7 +111,7 @@ impl Shown for ArchivedText {
         }
     }
 
-    fn answer(query: &Query<'_>, view: &View<'_, ArchivedText>) -> Ordering {
+    fn compare_query(query: &Query<'_>, view: &View<'_, ArchivedText>) -> Ordering {
         match query {
             Query::Number(_) => Ordering::Less,
             Query::Text(text) => (*text).cmp(view.as_str().as_bytes()),

@@ -6,6 +6,7 @@ pub mod building;
 pub mod codes;
 pub mod cursor;
 pub mod editing;
+pub mod finding;
 pub mod given;
 pub mod handle;
 pub mod item;

@@ -1,17 +1,12 @@
 //! Maps that C opens.
-ghost use Rattle.std.specs.Prelude.{◌≡◌, ◌<◌, ℕ, IsTrue, IfOk, IfErr, IsOk, None, Some, length};
-ghost use Rattle.rkyv_btree_base.specs.Increasing.{Increasing};
+ghost use Rattle.std.specs.Prelude.{◌≡◌, ◌<◌, IsTrue, IfOk, None, length};
 ghost use Rattle.rkyv_btree_base.specs.Layout.{are_fitting};
 ghost use Rattle.rkyv_btree_base.specs.Map.{map_kind};
 ghost use Rattle.rkyv_btree_base.specs.Read.{read_map};
-ghost use Rattle.rkyv_btree_base.specs.Refusals.{RefusesMap};
 ghost use Rattle.rkyv_btree_base.specs.Views.{stands};
-ghost use Rattle.rkyv_btree_base.specs.Whole.{IsArchiveOf, own_at};
-ghost use Rattle.rkyv_btree.specs.Strict.{RefusesStrict};
-ghost use Rattle.rkyv_btree.specs.Whole.{IsUnopened};
-ghost use Rattle.rkyv_btree_ffi.specs.Codes.{refusal_for};
-ghost use Rattle.rkyv_btree_ffi.specs.MapTypes.{type_of, kind_of, key_kind, value_kind, entries_at, IfType};
+ghost use Rattle.rkyv_btree_ffi.specs.MapTypes.{type_of, kind_of, entries_at, IfType};
 ghost use Rattle.rkyv_btree_ffi.specs.Opening.{IsOpened, Opens, OpensAs, OpensStrict};
+ghost use Rattle.rkyv_btree_ffi.specs.Opening.{OpensMap, OpensStrictMap};
 
 use crate::at_type;
 use crate::codes::{BAD_TYPE, BtreeRefusal, NOT_OPEN, OK, refusal_of};
@@ -32,14 +27,7 @@ use std::marker::PhantomData;
 /// Returns the position of the map of a whole archive.
 fn opened<K: CheckBytes, V: CheckBytes>(bytes: &[u8]) -> Result<u32, Refusal>
     requires { IsTrue (are_fitting K.kind V.kind 5) }
-    ensures position { IfOk result (λ pos. pos ≡ own_at (map_kind K.kind V.kind 5) bytes.now) }
-    ensures stands { IfOk result (λ pos. IsTrue (stands (map_kind K.kind V.kind 5) bytes.now pos)) }
-    ensures archive { IfOk result (λ pos. IsArchiveOf (map_kind K.kind V.kind 5) bytes.now
-        (read_map K.kind V.kind 5 bytes.now pos)) }
-    ensures all_archives { (m : _) → IsArchiveOf (map_kind K.kind V.kind 5) bytes.now m →
-        IsOk result }
-    ensures refused { IfErr result (IsUnopened (map_kind K.kind V.kind 5)
-        (RefusesMap K.kind V.kind 5) bytes.now) }
+    ensures { OpensMap K.kind V.kind bytes.now result }
 {
     match open::<ArchivedBTreeMap<K, V, 5>>(bytes) {
         Ok(map) => Ok(map.pos),
@@ -50,16 +38,7 @@ fn opened<K: CheckBytes, V: CheckBytes>(bytes: &[u8]) -> Result<u32, Refusal>
 /// Returns the position of the map of a whole archive, if its keys increase.
 fn opened_strict<K: CheckBytes + ViewOrd, V: CheckBytes>(bytes: &[u8]) -> Result<u32, Refusal>
     requires { IsTrue (are_fitting K.kind V.kind 5) }
-    ensures position { IfOk result (λ pos. pos ≡ own_at (map_kind K.kind V.kind 5) bytes.now) }
-    ensures stands { IfOk result (λ pos. IsTrue (stands (map_kind K.kind V.kind 5) bytes.now pos)) }
-    ensures archive { IfOk result (λ pos. IsArchiveOf (map_kind K.kind V.kind 5) bytes.now
-        (read_map K.kind V.kind 5 bytes.now pos)) }
-    ensures increasing { IfOk result (λ pos. Increasing K.kind.order
-        (read_map K.kind V.kind 5 bytes.now pos)) }
-    ensures all_archives { (m : _) → IsArchiveOf (map_kind K.kind V.kind 5) bytes.now m →
-        Increasing K.kind.order m → IsOk result }
-    ensures refused { IfErr result (IsUnopened (map_kind K.kind V.kind 5)
-        (RefusesStrict K.kind V.kind 5) bytes.now) }
+    ensures { OpensStrictMap K.kind V.kind bytes.now result }
 {
     match open_strict::<K, V, 5>(bytes) {
         Ok(map) => Ok(map.view.pos),

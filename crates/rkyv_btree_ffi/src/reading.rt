@@ -12,7 +12,7 @@ ghost use Rattle.rkyv_btree_base.specs.Read.{read_map};
 ghost use Rattle.std.specs.Prelude.{◌⊎◌};
 ghost use Rattle.std.specs.declared.ops.Bound.TheVariants.{Included, Unbounded};
 ghost use Rattle.rkyv_btree_ffi.specs.Batches.{AreShown, IsFoundAt};
-ghost use Rattle.rkyv_btree_ffi.specs.Entries.{answer, by_number, by_text, FindsEntry, LooksUp, IsBatch, IsFrom};
+ghost use Rattle.rkyv_btree_ffi.specs.Entries.{comparison_with, by_number, by_text, FindsEntry, LooksUp, IsBatch, IsFrom};
 ghost use Rattle.rkyv_btree_ffi.specs.MapTypes.{type_of, kind_of, entries_at, IfType};
 ghost use Rattle.rkyv_btree_ffi.specs.mirror.Left.{cursor_places, cursor_entries, entries_left};
 ghost use Rattle.rkyv_btree_ffi.specs.mirror.Places.{IsGood, IsPlace};
@@ -75,10 +75,10 @@ pub(crate) fn found<K: Shown, V: Shown>(
     query: &Query<'_>,
 ) -> Option<BtreeEntry>
     requires { IsTrue (stands (map_kind K.kind V.kind 5) buf.now pos) }
-    ensures { ByNative K.kind K.answered_at query.now (λ answer.
-        IsFoundAt K.kind V.kind K.ShowsAt V.ShowsAt buf.now pos answer result) }
+    ensures { ByNative K.kind K.query_compared_at query.now (λ comparison.
+        IsFoundAt K.kind V.kind K.ShowsAt V.ShowsAt buf.now pos comparison result) }
 {
-    let compare = |query: &Query<'_>, key: View<K>| Compared::of(K::answer(query, &key));
+    let compare = |query: &Query<'_>, key: View<K>| Compared::of(K::compare_query(query, &key));
     let (found, _) = search::<_, K, V, ArchivedBTreeMap<K, V, 5>, _, _>(buf, pos, query, &compare);
     match found {
         None => None,
@@ -100,7 +100,8 @@ pub(crate) fn fill<K: Shown, V: Shown>(
     ensures shown { AreShown K.kind V.kind K.ShowsAt V.ShowsAt buf.now
         (range_left (layout_of K.kind V.kind 5) buf.now walk.old) (take result out.new)
         (range_left (layout_of K.kind V.kind 5) buf.now walk.new) }
-    ensures all { result < length out.old → range_left (layout_of K.kind V.kind 5) buf.now walk.new ≡ [] }
+    ensures all { result < length out.old →
+        range_left (layout_of K.kind V.kind 5) buf.now walk.new ≡ [] }
 {
     let mut written = 0;
     'entries: while written < out.len() {
@@ -118,7 +119,7 @@ pub(crate) fn fill<K: Shown, V: Shown>(
 /// Returns the entry that a search for the query finds in the map of a type at `pos`.
 fn found_at(map_type: MapType, buf: &[u8], pos: u32, query: &Query<'_>) -> Option<BtreeEntry>
     requires { IsTrue (stands (kind_of map_type) buf.now pos) }
-    ensures { FindsEntry map_type buf.now pos (answer map_type query.now) result }
+    ensures { FindsEntry map_type buf.now pos (comparison_with map_type query.now) result }
 {
     at_type!(map_type, found(buf, pos, query))
 }
@@ -126,7 +127,7 @@ fn found_at(map_type: MapType, buf: &[u8], pos: u32, query: &Query<'_>) -> Optio
 /// Writes the entry that a search for a query finds in an open map.
 fn get(map: &BtreeMap<'_>, query: &Query<'_>, entry: &mut BtreeEntry) -> u32
     ensures found { IfType map.now.map_type (λ t.
-        LooksUp t map.now.buf.now map.now.pos (answer t query.now) result entry.new) }
+        LooksUp t map.now.buf.now map.now.pos (comparison_with t query.now) result entry.new) }
     ensures kept { 0 < result → entry.new ≡ entry.old }
     ensures closed { type_of map.now.map_type ≡ None → result ≡ 16 }
 {
@@ -168,9 +169,10 @@ pub extern "C" fn rkyv_btree_get_text(map: &BtreeMap<'_>, key: &[u8], entry: &mu
 fn first<K: Shown, V: Shown>(buf: &[u8], pos: u32) -> BtreeCursor
     requires { IsTrue (stands (map_kind K.kind V.kind 5) buf.now pos) }
     ensures place { IsGood K.kind V.kind buf.now pos result }
-    ensures all { cursor_entries K.kind V.kind buf.now result ≡ read_map K.kind V.kind 5 buf.now pos }
+    ensures all { cursor_entries K.kind V.kind buf.now result
+        ≡ read_map K.kind V.kind 5 buf.now pos }
 {
-    let compare = |query: &Query<'_>, key: View<K>| K::answer(query, &key);
+    let compare = |query: &Query<'_>, key: View<K>| K::compare_query(query, &key);
     let walk = start_between::<_, K, V, ArchivedBTreeMap<K, V, 5>, _, _>(
         buf,
         pos,
@@ -187,11 +189,11 @@ fn sought<K: Shown, V: Shown>(buf: &[u8], pos: u32, query: &Query<'_>) -> BtreeC
     ensures place { IsGood K.kind V.kind buf.now pos result }
     ensures run { IsRun (cursor_entries K.kind V.kind buf.now result)
         (read_map K.kind V.kind 5 buf.now pos) }
-    ensures within { ByNative K.kind K.answered_at query.now (λ answer.
-        IsWithin (Included answer) Unbounded (read_map K.kind V.kind 5 buf.now pos)
+    ensures within { ByNative K.kind K.query_compared_at query.now (λ comparison.
+        IsWithin (Included comparison) Unbounded (read_map K.kind V.kind 5 buf.now pos)
         (cursor_entries K.kind V.kind buf.now result)) }
 {
-    let compare = |query: &Query<'_>, key: View<K>| K::answer(query, &key);
+    let compare = |query: &Query<'_>, key: View<K>| K::compare_query(query, &key);
     let walk = start_between::<_, K, V, ArchivedBTreeMap<K, V, 5>, _, _>(
         buf,
         pos,
@@ -215,7 +217,7 @@ fn first_at(map_type: MapType, buf: &[u8], pos: u32) -> BtreeCursor
 fn sought_at(map_type: MapType, buf: &[u8], pos: u32, query: &Query<'_>) -> BtreeCursor
     requires { IsTrue (stands (kind_of map_type) buf.now pos) }
     ensures place { IsPlace map_type buf.now pos result }
-    ensures from { IsFrom map_type buf.now pos (answer map_type query.now)
+    ensures from { IsFrom map_type buf.now pos (comparison_with map_type query.now)
         (entries_left map_type buf.now result) }
 {
     at_type!(map_type, sought(buf, pos, query))
@@ -243,7 +245,7 @@ fn seek(map: &BtreeMap<'_>, query: &Query<'_>, cursor: &mut BtreeCursor) -> u32
     ensures place { IfType map.now.map_type (λ t.
         IsPlace t map.now.buf.now map.now.pos cursor.new) }
     ensures from { IfType map.now.map_type (λ t. (result ≡ 0)
-        × IsFrom t map.now.buf.now map.now.pos (answer t query.now)
+        × IsFrom t map.now.buf.now map.now.pos (comparison_with t query.now)
         (entries_left t map.now.buf.now cursor.new)) }
     ensures kept { 0 < result → cursor.new ≡ cursor.old }
     ensures closed { type_of map.now.map_type ≡ None → result ≡ 16 }
@@ -326,7 +328,8 @@ fn batch_at(
     out: &mut [BtreeEntry],
 ) -> Option<usize>
     requires { IsTrue (stands (kind_of map_type) buf.now pos) }
-    ensures batch { IfSome result (IsBatch map_type buf.now (entries_left map_type buf.now cursor.old)
+    ensures batch { IfSome result (IsBatch map_type buf.now
+        (entries_left map_type buf.now cursor.old)
         (entries_left map_type buf.now cursor.new) out.new) }
     ensures place { IfSome result (λ _. IsPlace map_type buf.now pos cursor.old
         × IsPlace map_type buf.now pos cursor.new) }

@@ -1,5 +1,5 @@
 -- Which tree the bytes of a buffer spell, and which list a map's eight bytes mean with it. Each key, value and child lies
--- in a window of the bytes before its node: it takes a beginning of the window, and leaves the rest to what comes behind
+-- in a window of the bytes before its node: it takes a beginning of the window, and leaves the rest to what comes after
 -- it. So no two parts of a tree share a byte, and all that a node leads to stands before it.
 use Rattle.std.specs.Prelude.{◌≡◌, ◌≢◌, ℕ, ◌+◌, ◌%◌, ◌≤◌, ◌⊎◌, List, [], ◌∷◌, length, Some, None, pos, slice_index}
 use Rattle.std.proofs.Common.{inl, inr}

@@ -11,7 +11,7 @@ use rkyv_btree_portable::rounding::round_up;
 /// overflows 64 bits: so many keys, and as many values, of less than `2 ^ 32` bytes each take less than `2 ^ 63 - 2 ^ 33`.
 const MOST_ENTRIES: usize = (1 << 30) - 1;
 
-/// Where the keys begin, behind the kind.
+/// Where the keys begin, after the kind.
 #[tactic(auto, unfolding(crate::specs::Layout::keys_at))]
 fn keys_at<K: Portable>() -> u64
     ensures value { result ≡ round_up 1 K.kind.align }
@@ -20,7 +20,7 @@ fn keys_at<K: Portable>() -> u64
     round_up(1, K::align())
 }
 
-/// Where the values begin, behind the keys.
+/// Where the values begin, after the keys.
 #[tactic(auto, unfolding(crate::specs::Layout::values_at, crate::specs::Layout::keys_at))]
 fn values_at<K: Portable, V: Portable, const E: usize>() -> u64
     requires key { IsTrue K.kind.is_fitting }

@@ -40,4 +40,4 @@ plain_of {X} same order hash_input layout = record {
 
 abbrev pub plain_form : {X : Type 0} → (X → X → Bool) → (X → X → Ordering) → (X → List (List ℕ)) → PlainLayout X → NativeForm X
 plain_form same order hash_input layout =
-    record { plain = plain_of same order hash_input layout; own = layout.bytes; IsIn = layout.IsIn; meaning = λ x. x }
+    record { plain = plain_of same order hash_input layout; own_bytes = layout.bytes; IsIn = layout.IsIn; meaning = λ x. x }

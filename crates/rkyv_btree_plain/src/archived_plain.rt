@@ -104,7 +104,7 @@ impl<N: PlainValue> ToNative for ArchivedPlain<N> {
         N::from_bytes(&view.buf[at..at + N::size_and_align().0 as usize])
     }
 
-    ghost reads = { as_itself (plain_kind (plain_of N.eq N.cmp N.hash_input N.layout)) };
+    ghost read_as = { as_itself (plain_kind (plain_of N.eq N.cmp N.hash_input N.layout)) };
 }
 
 impl<N: PlainValue> DeserializeNative for ArchivedPlain<N> {}

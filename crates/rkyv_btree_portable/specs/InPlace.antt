@@ -20,7 +20,7 @@ pub record IsOwn (kind : Kind) (own : List ℕ) : Type 0 where
 -- mean where the value is one of the native type
 pub record NativeForm (X : Type 0) : Type 1 where
   pub plain : Plain
-  pub own : X → List ℕ
+  pub own_bytes : X → List ℕ
   pub IsIn : X → Type 0
   pub meaning : X → plain.Value
 
@@ -28,39 +28,39 @@ pub record NativeForm (X : Type 0) : Type 1 where
 -- means determines them
 pub record IsFaithful {X : Type 0} (form : NativeForm X) : Type 0 where
   pub lawful : IsLawful (plain_kind form.plain)
-  pub is_own : (x : X) → IsOwn (plain_kind form.plain) (form.own x)
-  pub means : (x : X) → form.IsIn x → value_of (plain_kind form.plain) (form.own x) ≡ form.meaning x
-  pub one_own : (x y : X) → form.meaning x ≡ form.meaning y → form.own x ≡ form.own y
+  pub is_own : (x : X) → IsOwn (plain_kind form.plain) (form.own_bytes x)
+  pub means : (x : X) → form.IsIn x → value_of (plain_kind form.plain) (form.own_bytes x) ≡ form.meaning x
+  pub one_own : (x y : X) → form.meaning x ≡ form.meaning y → form.own_bytes x ≡ form.own_bytes y
 
 -- values that lie in their own bytes alone: these leave the window as it was, and mean the value wherever they stand
 pub record LiesAlone (kind : Kind) : Type 0 where
   pub unmoved : (b : List ℕ) (lo hi at left : ℕ) (v : kind.Value) → kind.Means b lo hi at left v → left ≡ lo
-  pub own : (b : List ℕ) (lo hi at left : ℕ) (v : kind.Value) → kind.Means b lo hi at left v → IsOwn kind (bytes_at b at kind.size)
+  pub is_own : (b : List ℕ) (lo hi at left : ℕ) (v : kind.Value) → kind.Means b lo hi at left v → IsOwn kind (bytes_at b at kind.size)
 
 -- how native values are written in place: their own bytes, the model of a value, and the model that own bytes have
 pub record InPlaceForm (X : Type 0) : Type 1 where
   pub Model : Type 0
   pub model : X → Model
-  pub own : X → List ℕ
+  pub own_bytes : X → List ℕ
   pub model_of_bytes : List ℕ → Model
 
 -- what such a form owes: the values lie in their own bytes alone, the own bytes of each native value mean one, and
 -- the models of own bytes agree exactly where their meanings do
 pub record IsInPlace (kind : Kind) {X : Type 0} (form : InPlaceForm X) : Type 0 where
   pub alone : LiesAlone kind
-  pub written : (x : X) → IsOwn kind (form.own x)
+  pub written : (x : X) → IsOwn kind (form.own_bytes x)
   pub same_model : IsTrue kind.is_fitting → (b c : List ℕ) → IsOwn kind b → IsOwn kind c → form.model_of_bytes b ≡ form.model_of_bytes c ↔ (value_of kind b ≡ value_of kind c)
 
 -- the form of a native type
 abbrev pub scalar_form : {X : Type 0} → NativeForm X → InPlaceForm X
-scalar_form form = record { Model = form.plain.Value; model = form.meaning; own = form.own; model_of_bytes = form.plain.value }
+scalar_form form = record { Model = form.plain.Value; model = form.meaning; own_bytes = form.own_bytes; model_of_bytes = form.plain.value }
 
 -- that of pairs, as entries: the key, then the value at its place, and zeros wherever nothing stands
 abbrev pub pair_form : {X Y : Type 0} → Kind → Kind → InPlaceForm X → InPlaceForm Y → InPlaceForm (X × Y)
 pair_form K V key value = record {
   Model = key.Model × value.Model;
   model = λ x. (key.model x.0, value.model x.1);
-  own = λ x. filled (filled (key.own x.0) (value_offset K V) ++ value.own x.1) (entry_size K V);
+  own_bytes = λ x. filled (filled (key.own_bytes x.0) (value_offset K V) ++ value.own_bytes x.1) (entry_size K V);
   model_of_bytes = λ b. (key.model_of_bytes (bytes_at b 0 K.size), value.model_of_bytes (bytes_at b (value_offset K V) V.size));
 }
 

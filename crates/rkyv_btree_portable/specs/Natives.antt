@@ -27,11 +27,11 @@ own_non_zero n = to_le_bytes w32 (if nat_lt (non_zero_u32_get n) (2 ^ 32) then n
 -- a number without a sign
 abbrev pub unsigned_form : Width → (ℕ → List (List ℕ)) → NativeForm ℕ
 unsigned_form width hash_input =
-    record { plain = number (byte_len width) hash_input; own = to_le_bytes width; IsIn = λ n. n < 2 ^ (8 * byte_len width); meaning = λ n. n }
+    record { plain = number (byte_len width) hash_input; own_bytes = to_le_bytes width; IsIn = λ n. n < 2 ^ (8 * byte_len width); meaning = λ n. n }
 
 -- a number with a sign
 abbrev pub signed_form : Width → (ℤ → List (List ℕ)) → NativeForm ℤ
-signed_form width hash_input = record { plain = signed width hash_input; own = own_signed width; IsIn = FitsSigned width; meaning = λ n. n }
+signed_form width hash_input = record { plain = signed width hash_input; own_bytes = own_signed width; IsIn = FitsSigned width; meaning = λ n. n }
 
 abbrev pub u8_form : NativeForm ℕ
 u8_form = unsigned_form w8 fed.u8
@@ -58,13 +58,13 @@ abbrev pub i64_form : NativeForm ℤ
 i64_form = signed_form w64 fed.i64
 
 abbrev pub bool_form : NativeForm Bool
-bool_form = record { plain = boolean; own = own_bool; IsIn = λ b. Unit {0}; meaning = λ b. b }
+bool_form = record { plain = boolean; own_bytes = own_bool; IsIn = λ b. Unit {0}; meaning = λ b. b }
 
 abbrev pub unit_form : NativeForm (Unit {0})
-unit_form = record { plain = nothing; own = λ u. []; IsIn = λ u. Unit {0}; meaning = λ u. u }
+unit_form = record { plain = nothing; own_bytes = λ u. []; IsIn = λ u. Unit {0}; meaning = λ u. u }
 
 abbrev pub char_form : NativeForm ℕ
-char_form = record { plain = character; own = own_char; IsIn = λ c. IsTrue (scalar c); meaning = λ c. c }
+char_form = record { plain = character; own_bytes = own_char; IsIn = λ c. IsTrue (scalar c); meaning = λ c. c }
 
 abbrev pub non_zero_form : NativeForm NonZeroU32
-non_zero_form = record { plain = non_zero; own = own_non_zero; IsIn = λ n. non_zero_u32_get n < 2 ^ 32; meaning = non_zero_u32_get }
+non_zero_form = record { plain = non_zero; own_bytes = own_non_zero; IsIn = λ n. non_zero_u32_get n < 2 ^ 32; meaning = non_zero_u32_get }

@@ -18,7 +18,7 @@ pub record IsTextRange (buf : List ℕ) (at start end : ℕ) : Type 0 where
   pub leads : place_at buf at ≡ pos start
   pub ends : end ≡ start + text_len buf at
 
--- they lie in the window, which goes on behind them, and are UTF-8
+-- they lie in the window, which goes on after them, and are UTF-8
 pub record MeansText (buf : List ℕ) (lo hi at left : ℕ) (text : List ℕ) : Type 0 where
   pub lies : Lies buf 8 4 lo hi at left
   pub start : ℕ
@@ -27,7 +27,7 @@ pub record MeansText (buf : List ℕ) (lo hi at left : ℕ) (text : List ℕ) : 
   pub bytes : text ≡ bytes_at buf start (text_len buf at)
   pub utf8 : IsUtf8 text
 
--- where the window goes on behind so many bytes from a place on, if they lie in it and are UTF-8
+-- where the window goes on after so many bytes from a place on, if they lie in it and are UTF-8
 abbrev pub behind_text : List ℕ → ℕ → ℕ → ℕ → ℤ → Option ℕ
 behind_text buf count lo hi (negsuc n) = None
 behind_text buf count lo hi (pos start) =

@@ -64,8 +64,8 @@ pub trait Scalar {
     /// Writes the own bytes of a value. What they mean is the value.
     fn write(value: Self::Native, bytes: &mut [u8])
         requires { length bytes.old ≡ form.plain.size }
-        ensures bytes { bytes.new ≡ form.own value }
-        ensures means { form.plain.value (form.own value) ≡ form.meaning value };
+        ensures bytes { bytes.new ≡ form.own_bytes value }
+        ensures means { form.plain.value (form.own_bytes value) ≡ form.meaning value };
 
     /// The test that the own bytes at position `pos` are a value.
     fn is_value(buf: &[u8], pos: u32) -> bool
@@ -78,7 +78,7 @@ pub trait CheckBytes: Portable {
     /// Which refusal a value gets that is asked by itself.
     ghost Refuses: { List ℕ → ℕ → ℕ → ℕ → Refusal → Type 0 };
 
-    /// The check of the value at position `pos`, whose outlying bytes may lie in `window`. It answers the window that is
+    /// The check of the value at position `pos`, whose outlying bytes may lie in `window`. It returns the window that is
     /// left: its `lo` is moved past the bytes that the value takes from it.
     fn check(buf: &[u8], pos: u32, window: Window) -> Result<Window, Refusal>
         requires fitting { IsTrue Self.kind.is_fitting }

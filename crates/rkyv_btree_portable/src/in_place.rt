@@ -19,15 +19,15 @@ pub trait InPlace: CheckBytes {
     /// The value that own bytes mean.
     fn read(bytes: &[u8]) -> Self::Native
         requires fitting { IsTrue Self.kind.is_fitting }
-        requires own { IsOwn Self.kind bytes.now }
+        requires is_own { IsOwn Self.kind bytes.now }
         ensures { in_place.model result ≡ in_place.model_of_bytes bytes.now };
 
     /// Writes the own bytes of a value. What is read of them is the value again.
     fn write(value: Self::Native, bytes: &mut [u8])
         requires fitting { IsTrue Self.kind.is_fitting }
         requires size { length bytes.old ≡ Self.kind.size }
-        ensures bytes { bytes.new ≡ in_place.own value }
-        ensures model { in_place.model_of_bytes (in_place.own value) ≡ in_place.model value };
+        ensures bytes { bytes.new ≡ in_place.own_bytes value }
+        ensures model { in_place.model_of_bytes (in_place.own_bytes value) ≡ in_place.model value };
 
     ghost is_in_place: { IsInPlace Self.kind in_place };
 }
@@ -64,7 +64,7 @@ impl<K: InPlace, V: InPlace> InPlace for Entry<K, V> {
         (key, value)
     }
 
-    /// Writes the key, and then the value. The bytes between and behind them become zero.
+    /// Writes the key, and then the value. The bytes between and after them become zero.
     fn write(value: (K::Native, V::Native), bytes: &mut [u8]) {
         bytes.fill(0);
         let (front, back) = bytes.split_at_mut(value_offset::<K, V>() as usize);

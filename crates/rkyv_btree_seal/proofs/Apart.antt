@@ -49,7 +49,7 @@ module _ (K V : Kind) (E : ℕ) (b : List ℕ) where
   below_in : (lo hi lo2 hi2 : ℕ) → lo2 ≤ lo → hi ≤ hi2 → (e : ℕ × ℕ) → StandsIn lo hi e → StandsIn lo2 hi2 e
   below_in lo hi lo2 hi2 before after e h = let first = h.first in let past = h.past in record { first = omega arith; past = omega arith; few = h.few }
 
-  -- the entry number n of a node before what stands behind it, and an entry below it before that
+  -- the entry number n of a node before what stands after it, and an entry below it before that
   own_others : (p n lo mid : ℕ) → mid ≤ p → (f : ℕ × ℕ) → StandsIn lo mid f ⊎ StandsAt p (n + 1) f → Others (p, n) f
   own_others p n lo mid before f (inl h) = let past = h.past in inr (inr (omega arith))
   own_others p n lo mid before f (inr h) = inl (sym h.0, omega (arith, h.1))
@@ -73,7 +73,7 @@ module _ (K V : Kind) (E : ℕ) (b : List ℕ) where
   inner_list : (levels p count : ℕ) → slice_index b p ≡ 1 → count ≡ E → list (tree_at (layout_of K V E) b (suc levels) p) ≡ row_list (row_at (layout_of K V E) b (tree_at (layout_of K V E) b levels) p count 0)
   inner_list levels p count kind full = rw (ne_eqb (slice_index b p) 0 (omega (arith, kind)), full) refl
 
-  -- the entries of a child, entry number n of the node, and what stands behind it
+  -- the entries of a child, entry number n of the node, and what stands after it
   stands_joined : (p n lo next mid : ℕ) (below rest : List (ℕ × ℕ)) → lo ≤ next → next ≤ p → next ≤ mid → mid ≤ p → n < E → Stands (StandsIn lo next) below → Stands (λ e. StandsIn next mid e ⊎ StandsAt p (n + 1) e) rest → Stands (λ e. StandsIn lo mid e ⊎ StandsAt p n e) (below ++ (p, n) ∷ rest)
   stands_joined p n lo next mid below rest before inside after end index one others =
       record {

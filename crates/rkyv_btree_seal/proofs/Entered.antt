@@ -47,7 +47,7 @@ module _ (K V : Kind) (E : ℕ) (k : IsLawful K) (v : IsLawful V) (alone : LiesA
         near = run.1;
         key = run.0.key;
         key_first = omega (arith, first);
-        value = record { fitting = room.value; inside = written.within; own = written.is_own };
+        value = record { fitting = room.value; inside = written.within; is_own = written.is_own };
       }
 
   -- it means its key and its value

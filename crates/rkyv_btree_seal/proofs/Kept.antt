@@ -48,7 +48,7 @@ module _ (K V : Kind) (E : ℕ) (b c : List ℕ) (k : IsLawful K) (v : IsLawful 
   value_put : (p lo mid : ℕ) (x : V.Value) → V.Means b lo p q mid x → V.Means c lo p q mid (own_value V c q) × IsOwn V (bytes_at b q V.size)
   value_put p lo mid x h =
       let lies = v.lies b lo p q mid x h in
-      let old = alone.own b lo p q mid x h in
+      let old = alone.is_own b lo p q mid x h in
       let long = made.long in
       let means = (new old).means c lo p q short (omega (arith, lies.forward, lies.kept)) lies.before lies.aligned (omega (arith, lies.inside)) refl in
       (subst (λ (n : ℕ). V.Means c lo p q n (own_value V c q)) (sym (alone.unmoved b lo p q mid x h)) means, old)

@@ -29,20 +29,20 @@ shows_front kind laws b key value lent here before room buf pos =
     let n = laws.local fits b (take value b) 0 key key m.left (kind.read b key) (omega (arith, length-take-le value b room, lies.short)) (same_front b value 0 m.left room (omega (arith, lies.kept))) (same_front b value key (key + kind.size) room before) m.means in
     record {
       stands = subst (λ (bytes : List ℕ). IsTrue (stands kind bytes lent.pos)) (sym buf) (subst (λ (at : ℕ). IsTrue (stands kind (take value b) at)) (sym pos) (stands_of laws fits (take value b) 0 key key m.left (kind.read b key) n));
-      reads = ap (λ (bytes : List ℕ). kind.read bytes lent.pos) buf ∙ (ap (kind.read (take value b)) pos ∙ sym (laws.is_read _ _ _ _ _ _ n));
+      value = ap (λ (bytes : List ℕ). kind.read bytes lent.pos) buf ∙ (ap (kind.read (take value b)) pos ∙ sym (laws.is_read _ _ _ _ _ _ n));
     }
 
 -- own bytes alone stand
 pub stands_alone : (kind : Kind) (own : List ℕ) → IsTrue kind.is_fitting → IsOwn kind own → StandsAlone kind own 0
-stands_alone kind own fits is = record { fitting = fits; inside = omega (arith, is.size); own = subst (IsOwn kind) (sym (take_all kind.size own (omega (arith, is.size)))) is }
+stands_alone kind own fits is = record { fitting = fits; inside = omega (arith, is.size); is_own = subst (IsOwn kind) (sym (take_all kind.size own (omega (arith, is.size)))) is }
 
 -- a seal over the own bytes of a value holds it
 pub holds_own : {X : Type 0} (kind : Kind) (b : List ℕ) (value : ℕ) (seal : Seal X) → StandsAlone kind b value → seal.buf.now ≡ bytes_at b value kind.size → seal.pos ≡ 0 → HoldsValue kind seal (value_of kind (bytes_at b value kind.size))
 holds_own kind b value seal h buf pos =
-    let own : IsOwn kind seal.buf.now = subst (IsOwn kind) (sym buf) h.own in
+    let own : IsOwn kind seal.buf.now = subst (IsOwn kind) (sym buf) h.is_own in
     record { start = pos; exact = own.size; stands = subst (StandsAlone kind seal.buf.now) (sym pos) (stands_alone kind seal.buf.now h.fitting own); means = ap (value_of kind) buf }
 
--- what stands before, what was written, and what stands behind
+-- what stands before, what was written, and what stands after
 pub joined : (b : List ℕ) (value size : ℕ) (front own behind after : List ℕ) → front ≡ take value b → behind ≡ drop size (drop value b) → own ≡ after → length after ≡ size → front ++ (own ++ behind) ≡ put_bytes b value after
 joined b value size front own behind after first last left long = rw (first, last, left, drop-drop size value b, ← long) refl
 

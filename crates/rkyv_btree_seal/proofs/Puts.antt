@@ -65,7 +65,7 @@ module _ (b : List ℕ) (q : ℕ) (w : List ℕ) (size : ℕ) (long : length w �
   pub wrote_own : bytes_at (put_bytes b q w) q size ≡ w
   wrote_own = ap (take size) (drop_at (take q b) (w ++ drop (q + length w) b) q front) ∙ take_at w (drop (q + length w) b) size long
 
--- the bytes before a write, and those behind it
+-- the bytes before a write, and those after it
 module _ {b c : List ℕ} {q size : ℕ} (made : Wrote b c q size) where
   pub earlier : (from to : ℕ) → to ≤ q → to ≤ length b → SameBytes b c from to
   earlier from to h room = let long = made.long in record { covers = omega arith; same = λ k x y. made.before k (omega arith) }

@@ -134,7 +134,7 @@ module _ (K V : Kind) (E : ℕ) (b c : List ℕ) (k : IsLawful K) (v : IsLawful 
       let is : n + 1 + w.0 ≡ n + suc w.0 = omega arith in
       inr (suc w.0, omega (arith, w.1), w.2 ∙ ap (λ (j : ℕ). p + value_at (layout_of K V E) j) is, ap (λ r. y ∷ r) w.3)
 
-  -- a write behind a row's first child
+  -- a write after a row's first child
   rest_put : (x : Child (K.Value × V.Value)) (y : K.Value × V.Value) (row : Row (K.Value × V.Value)) (levels p n lo mid i j : ℕ) → row_height (step x y row) ≤ levels → lo ≤ p → n + length (row_entries (step x y row)) ≤ E → p + inner_size (layout_of K V E) ≤ length b → SpellsRow K V E b p n lo mid (step x y row) → i ≡ length (child_list x) + j
       → slice_get ((p, n) ∷ row_list (row_at (layout_of K V E) b (tree_at (layout_of K V E) b levels) p (length (row_entries row)) (n + 1))) j ≡ Some e
       → ((next j2 : ℕ) → next ≤ p → SpellsRow K V E b p (n + 1) next mid row → slice_get (row_list (row_at (layout_of K V E) b (tree_at (layout_of K V E) b levels) p (length (row_entries row)) (n + 1))) j2 ≡ Some e → RowPut levels p (n + 1) next mid j2 row)

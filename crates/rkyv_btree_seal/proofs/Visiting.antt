@@ -61,12 +61,12 @@ module _ {X Y T F : Type 0} (K V : Kind) (E : ℕ) (at : ℕ) (step : F → Lent
         let same : slice_get (read_map K V E b at) (length s.done) ≡ slice_get (read_map K V E b₀ at) (length s.done) = sym (get_drop (read_map K V E b at) (length s.done)) ∙ ap (λ xs. slice_get xs 0) s.rest ∙ get_drop (read_map K V E b₀ at) (length s.done) in
         may f (length s.done) (K.read b (key_place K V E e), value_of V (bytes_at b (value_place K V E e) V.size)) (sym same ∙ means)
 
-    module _ (c : List ℕ) (answer : ControlFlow T (Unit {0})) (g : F) (calls : CallsEntry K V E b at c (λ k s a t. step f k s a t g) e answer) where
-      visited : (d : List ℕ) (r : Option T) (last : F) → Goes answer r ((d ≡ c) × (last ≡ g)) (Visits K V E at step es g c d r last) → Visits K V E at step (entry_places K V E b₀ at) f₀ b₀ d r last
-      visited d r last goes = s.back d r last (rw first (answer, c, g, calls, goes))
+    module _ (c : List ℕ) (outcome : ControlFlow T (Unit {0})) (g : F) (calls : CallsEntry K V E b at c (λ k s a t. step f k s a t g) e outcome) where
+      visited : (d : List ℕ) (r : Option T) (last : F) → Goes outcome r ((d ≡ c) × (last ≡ g)) (Visits K V E at step es g c d r last) → Visits K V E at step (entry_places K V E b₀ at) f₀ b₀ d r last
+      visited d r last goes = s.back d r last (rw first (outcome, c, g, calls, goes))
 
-      -- after an answer that goes on, one entry more was visited
-      pub so_far_more : (u : Unit {0}) → answer ≡ Continue u → SoFar es c g
+      -- after a result that goes on, one entry more was visited
+      pub so_far_more : (u : Unit {0}) → outcome ≡ Continue u → SoFar es c g
       so_far_more u is =
           let put = calls.puts.list (length s.done) next_number in
           let n : length (s.done ++ e ∷ []) ≡ suc (length s.done) = omega (arith, length_push s.done e) in
@@ -79,5 +79,5 @@ module _ {X Y T F : Type 0} (K V : Kind) (E : ℕ) (at : ℕ) (step : F → Lent
           }
 
       -- a break ends the visit
-      pub so_far_break : (t : T) → answer ≡ Break t → Visits K V E at step (entry_places K V E b₀ at) f₀ b₀ c (Some t) g
+      pub so_far_break : (t : T) → outcome ≡ Break t → Visits K V E at step (entry_places K V E b₀ at) f₀ b₀ c (Some t) g
       so_far_break t is = visited c (Some t) g (rw is (refl, (refl, refl)))

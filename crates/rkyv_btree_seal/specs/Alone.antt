@@ -8,4 +8,4 @@ use Rattle.rkyv_btree_base.specs.Kind.{Kind}
 pub record StandsAlone (kind : Kind) (b : List ℕ) (pos : ℕ) : Type 0 where
   pub fitting : IsTrue kind.is_fitting
   pub inside : pos + kind.size ≤ length b
-  pub own : IsOwn kind (bytes_at b pos kind.size)
+  pub is_own : IsOwn kind (bytes_at b pos kind.size)

@@ -22,14 +22,14 @@ module _ {X Y R : Type 0} (K V : Kind) (E : ℕ) (b : List ℕ) (at : ℕ) where
   abbrev pub MayCallEach : (LentKey X → MutBor (Seal Y) → Type 0) → (LentKey X → MutBor (Seal Y) → R → MutBor (Seal Y) → Type 0) → Type 0
   MayCallEach pre call = (i : ℕ) (x : K.Value × V.Value) → slice_get (read_map K V E b at) i ≡ Some x → MayCall K V x.0 x.1 pre call
 
-  -- it was called at an entry and has answered r, and what its seal was left with is put into the map
+  -- it was called at an entry and has returned r, and what its seal was left with is put into the map
   pub record CallsEntry (c : List ℕ) (call : LentKey X → MutBor (Seal Y) → R → MutBor (Seal Y) → Type 0) (e : ℕ × ℕ) (r : R) : Type 0 where
     pub called : CallsAt K V b (key_place K V E e) (value_place K V E e) c call r
     pub puts : PutsEntry K V E b at e called.after.now.buf.now c
 
   -- a search for an entry, and such a call there, if it is there
-  pub record CallsFound (answer : K.Value → Ordering) (c : List ℕ)
+  pub record CallsFound (comparison : K.Value → Ordering) (c : List ℕ)
       (call : LentKey X → MutBor (Seal Y) → R → MutBor (Seal Y) → Type 0) (result : Option R) : Type 0 where
     pub found : Option (ℕ × ℕ)
-    pub finds : FindsPlace K V E b at answer found
+    pub finds : FindsPlace K V E b at comparison found
     pub calls : MatchOption found ((result ≡ None) × (c ≡ b)) (λ e. (r : R) × (result ≡ Some r) × CallsEntry c call e r)

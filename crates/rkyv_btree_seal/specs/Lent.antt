@@ -13,7 +13,7 @@ use Rattle.rkyv_btree_seal.specs.declared.seal.Seal.{Seal}
 -- a lent key is this value
 pub record ShowsKey {X : Type 0} (kind : Kind) (key : LentKey X) (a : kind.Value) : Type 0 where
   pub stands : IsTrue (stands kind key.buf.now key.pos)
-  pub reads : kind.read key.buf.now key.pos ≡ a
+  pub value : kind.read key.buf.now key.pos ≡ a
 
 -- a seal covers own bytes and no others, which mean this value
 pub record HoldsValue {X : Type 0} (kind : Kind) (seal : Seal X) (x : kind.Value) : Type 0 where
@@ -25,9 +25,9 @@ pub record HoldsValue {X : Type 0} (kind : Kind) (seal : Seal X) (x : kind.Value
 -- a call has left some value in the seal that it was lent
 pub record KeepsSeal {X : Type 0} (kind : Kind) (before after : Seal X) : Type 0 where
   pub same_reference : after.buf.ghost_name ≡ before.buf.ghost_name
-  pub own : IsOwn kind after.buf.now
+  pub is_own : IsOwn kind after.buf.now
 
--- a call of a closure at a key and a value has answered r, and left c of the buffer: the value's own bytes alone are written
+-- a call of a closure at a key and a value has returned r, and left c of the buffer: the value's own bytes alone are written
 pub record CallsAt {X Y R : Type 0} (K V : Kind) (b : List ℕ) (key value : ℕ) (c : List ℕ)
     (call : LentKey X → MutBor (Seal Y) → R → MutBor (Seal Y) → Type 0) (r : R) : Type 0 where
   pub lent : LentKey X

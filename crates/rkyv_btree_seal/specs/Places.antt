@@ -12,7 +12,7 @@ use Rattle.rkyv_btree_base.specs.Spells.{Accepted}
 use Rattle.rkyv_btree_seal.specs.Put.{put_bytes, put_value, key_place, value_place}
 use Rattle.rkyv_btree_walk.specs.EntryPlaces.{entry_places}
 use Rattle.rkyv_btree_walk.specs.declared.entry_place.EntryPlace.{EntryPlace}
-use Rattle.rkyv_btree_walk.specs.Search.{Answers, probe}
+use Rattle.rkyv_btree_walk.specs.Search.{IsSearch, probe}
 
 module _ (K V : Kind) (E : ℕ) (b : List ℕ) (at : ℕ) where
   -- it is entry i of the map
@@ -31,10 +31,10 @@ module _ (K V : Kind) (E : ℕ) (b : List ℕ) (at : ℕ) where
 
   -- a search has found the entry that it asks and finds equal: an entry of the map that is equal, and under an ordered
   -- comparison one if there is one
-  pub record FindsPlace (answer : K.Value → Ordering) (found : Option (ℕ × ℕ)) : Type 0 where
-    pub probed : found ≡ probe (λ e. answer (entry_at K V E b e).0) (map_tree (layout_of K V E) b at)
+  pub record FindsPlace (comparison : K.Value → Ordering) (found : Option (ℕ × ℕ)) : Type 0 where
+    pub probed : found ≡ probe (λ e. comparison (entry_at K V E b e).0) (map_tree (layout_of K V E) b at)
     pub entry : IfSome found IsEntry
-    pub answers : Answers (λ e. answer e.0) (entry_at K V E b) (map_tree (layout_of K V E) b at) (option_map (entry_at K V E b) found)
+    pub search : IsSearch (λ e. comparison e.0) (entry_at K V E b) (map_tree (layout_of K V E) b at) (option_map (entry_at K V E b) found)
 
   -- c is the buffer with these own bytes as the value of an entry: no other byte is another, and the map is accepted as
   -- it was, of the list with what they mean there put in, its entries where they were
@@ -48,13 +48,13 @@ module _ (K V : Kind) (E : ℕ) (b : List ℕ) (at : ℕ) where
 
   -- in the list, the value of one entry with a key that gives Equal is another one
   abbrev pub ReplacesAtEqual : (K.Value → Ordering) → V.Value → List (K.Value × V.Value) → Type 0
-  ReplacesAtEqual answer value new =
-      (i : ℕ) × (e : K.Value × V.Value) × (slice_get (read_map K V E b at) i ≡ Some e) × (answer e.0 ≡ Equal)
+  ReplacesAtEqual comparison value new =
+      (i : ℕ) × (e : K.Value × V.Value) × (slice_get (read_map K V E b at) i ≡ Some e) × (comparison e.0 ≡ Equal)
       × (new ≡ put_value (read_map K V E b at) i value)
 
   -- a search for an entry, and such a write over its value, if it is there
-  pub record SetsFound (answer : K.Value → Ordering) (own : List ℕ) (c : List ℕ) (result : Bool) : Type 0 where
+  pub record SetsFound (comparison : K.Value → Ordering) (own : List ℕ) (c : List ℕ) (result : Bool) : Type 0 where
     pub found : Option (ℕ × ℕ)
-    pub finds : FindsPlace answer found
+    pub finds : FindsPlace comparison found
     pub has_found : result ≡ is_some found
     pub puts : MatchOption found (c ≡ b) (λ e. PutsEntry e own c)

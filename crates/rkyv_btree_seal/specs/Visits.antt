@@ -20,9 +20,9 @@ module _ {X Y T F : Type 0} (K V : Kind) (E : ℕ) (at : ℕ)
   abbrev pub Visits : List (ℕ × ℕ) → F → List ℕ → List ℕ → Option T → F → Type 0
   Visits [] f b c r last = (c ≡ b) × (r ≡ None) × (last ≡ f)
   Visits (e ∷ es) f b c r last =
-      (answer : ControlFlow T (Unit {0})) × (left : List ℕ) × (g : F)
-      × CallsEntry K V E b at left (λ k s a t. step f k s a t g) e answer
-      × Goes answer r ((c ≡ left) × (last ≡ g)) (Visits es g left c r last)
+      (outcome : ControlFlow T (Unit {0})) × (left : List ℕ) × (g : F)
+      × CallsEntry K V E b at left (λ k s a t. step f k s a t g) e outcome
+      × Goes outcome r ((c ≡ left) × (last ≡ g)) (Visits es g left c r last)
 
   -- at each entry of the map f may be called in any state, and leaves some value in the seal
   abbrev pub MayVisit : (F → LentKey X → MutBor (Seal Y) → Type 0) → List ℕ → Type 0

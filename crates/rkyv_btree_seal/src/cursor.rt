@@ -126,7 +126,7 @@ impl<'a, K: Portable, V: InPlace, M: ArchivedMap<Key = K, Mapped = V>> IterSeal<
         ensures current { current_place self.new ≡ current_place self.old }
         ensures remaining { remaining_places self.new ≡ remaining_places self.old }
         ensures puts { IfSome (current_place self.old) (λ e.
-            PutsEntry K.kind V.kind M.E self.old.buf.now self.old.pos e (V.in_place.own value)
+            PutsEntry K.kind V.kind M.E self.old.buf.now self.old.pos e (V.in_place.own_bytes value)
             self.new.buf.now) }
     {
         let place = self.lent.unwrap();

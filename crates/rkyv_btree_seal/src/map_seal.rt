@@ -17,8 +17,8 @@ ghost use Rattle.rkyv_btree_walk.specs.EntryPlaces.{place_of};
 ghost use Rattle.rkyv_btree_seal.specs.Put.{put_bytes, value_place};
 ghost use Rattle.rkyv_btree_view.specs.Lookup.{ByComparison, ByNative, found_at};
 ghost use Rattle.rkyv_btree_view.specs.Map.{IsMap};
-ghost use Rattle.rkyv_btree_view.specs.View.{reads};
-ghost use Rattle.rkyv_btree_walk.specs.Search.{shown};
+ghost use Rattle.rkyv_btree_view.specs.View.{view_value};
+ghost use Rattle.rkyv_btree_walk.specs.Search.{shown_value};
 
 use crate::closures::call_entry;
 use crate::lent_key::LentKey;
@@ -157,8 +157,8 @@ impl<'a, K: Portable, V: InPlace, M: ArchivedMap<Key = K, Mapped = V>> MapSeal<'
         requires { C.IsAlwaysCallable cmp }
         ensures entry { IfSome result (λ place.
             IsEntry K.kind V.kind M.E self.now.buf.now self.now.pos (place_of place)) }
-        ensures finds { ByComparison (C.post cmp) (shown K.kind W.Shows) key.now (λ answer.
-            FindsPlace K.kind V.kind M.E self.now.buf.now self.now.pos answer
+        ensures finds { ByComparison (C.post cmp) (shown_value K.kind W.Shows) key.now (λ comparison.
+            FindsPlace K.kind V.kind M.E self.now.buf.now self.now.pos comparison
             (option_map place_of result)) }
     {
         let compare = |query: &Q, key: W| Compared::of(cmp(query, key));
@@ -173,7 +173,7 @@ impl<'a, K: Portable, V: InPlace, M: ArchivedMap<Key = K, Mapped = V>> MapSeal<'
         ensures same_reference { self.new.buf.ghost_name ≡ self.old.buf.ghost_name }
         ensures position { self.new.pos ≡ self.old.pos }
         ensures puts { PutsEntry K.kind V.kind M.E self.old.buf.now self.old.pos (place_of place)
-            (V.in_place.own value) self.new.buf.now }
+            (V.in_place.own_bytes value) self.new.buf.now }
     {
         let pos = self.pos;
         put_at::<K, V, M>(&mut *self.buf, pos, place, value);
@@ -204,8 +204,8 @@ impl<'a, K: Portable, V: InPlace, M: ArchivedMap<Key = K, Mapped = V>> MapSeal<'
         K: CompareWith<T>,
         ensures entry { IfSome result (λ place.
             IsEntry K.kind V.kind M.E self.now.buf.now self.now.pos (place_of place)) }
-        ensures finds { ByNative K.kind K.compared_at key (λ answer.
-            FindsPlace K.kind V.kind M.E self.now.buf.now self.now.pos answer
+        ensures finds { ByNative K.kind K.compared_at key (λ comparison.
+            FindsPlace K.kind V.kind M.E self.now.buf.now self.now.pos comparison
             (option_map place_of result)) }
     {
         let compare = |query: &T, key: View<K>| K::compared(query, &key);
@@ -228,24 +228,24 @@ impl<'a, K: Portable, V: InPlace, M: ArchivedMap<Key = K, Mapped = V>> MapSeal<'
         ensures same_reference { self.new.buf.ghost_name ≡ self.old.buf.ghost_name }
         ensures position { self.new.pos ≡ self.old.pos }
         // If the keys increase, it is whether std's map has a value for the key.
-        ensures sorted { ByNative K.kind K.compared_at key (λ answer.
+        ensures sorted { ByNative K.kind K.compared_at key (λ comparison.
             Increasing K.kind.order (read_map K.kind V.kind M.E self.old.buf.now self.old.pos) →
-            result ≡ is_some (lookup (is_at answer)
+            result ≡ is_some (lookup (is_at comparison)
             (read_map K.kind V.kind M.E self.old.buf.now self.old.pos))) }
         // On each map it is whether a lookup finds an entry.
-        ensures found { ByNative K.kind K.compared_at key (λ answer. IsTrue result
-            ↔ IsSome (found_at K.kind V.kind M.E self.old.buf.now self.old.pos answer)) }
+        ensures found { ByNative K.kind K.compared_at key (λ comparison. IsTrue result
+            ↔ IsSome (found_at K.kind V.kind M.E self.old.buf.now self.old.pos comparison)) }
         // If there is none, no byte is written.
         ensures absent { result ≡ false → self.new.buf.now ≡ self.old.buf.now }
         // Otherwise one value in the list is the new one: that of an entry whose key is equal.
-        ensures writes { ByNative K.kind K.compared_at key (λ answer. IsTrue result →
-            ReplacesAtEqual K.kind V.kind M.E self.old.buf.now self.old.pos answer
-            (value_of V.kind (V.in_place.own value))
+        ensures writes { ByNative K.kind K.compared_at key (λ comparison. IsTrue result →
+            ReplacesAtEqual K.kind V.kind M.E self.old.buf.now self.old.pos comparison
+            (value_of V.kind (V.in_place.own_bytes value))
             (read_map K.kind V.kind M.E self.new.buf.now self.new.pos)) }
         // Which bytes are written.
-        ensures sets { ByNative K.kind K.compared_at key (λ answer.
-            SetsFound K.kind V.kind M.E self.old.buf.now self.old.pos answer
-            (V.in_place.own value) self.new.buf.now result) }
+        ensures sets { ByNative K.kind K.compared_at key (λ comparison.
+            SetsFound K.kind V.kind M.E self.old.buf.now self.old.pos comparison
+            (V.in_place.own_bytes value) self.new.buf.now result) }
     {
         match self.find_by(key) {
             None => false,
@@ -282,8 +282,8 @@ impl<'a, K: Portable, V: InPlace, M: ArchivedMap<Key = K, Mapped = V>> MapSeal<'
             (λ k s. F.pre f k s) (λ k s r t. F.post f k s r t) }
         ensures same_reference { self.new.buf.ghost_name ≡ self.old.buf.ghost_name }
         ensures position { self.new.pos ≡ self.old.pos }
-        ensures calls { ByNative K.kind K.compared_at key (λ answer.
-            CallsFound K.kind V.kind M.E self.old.buf.now self.old.pos answer
+        ensures calls { ByNative K.kind K.compared_at key (λ comparison.
+            CallsFound K.kind V.kind M.E self.old.buf.now self.old.pos comparison
             self.new.buf.now (λ k s r t. F.post f k s r t) result) }
     {
         let place = self.find_by(key)?;
@@ -297,7 +297,7 @@ impl<'a, K: ViewOrd, V: InPlace, M: ArchivedMap<Key = K, Mapped = V>> MapSeal<'a
         ensures entry { IfSome result (λ place.
             IsEntry K.kind V.kind M.E self.now.buf.now self.now.pos (place_of place)) }
         ensures finds { FindsPlace K.kind V.kind M.E self.now.buf.now self.now.pos
-            (K.kind.order (reads key.entry)) (option_map place_of result) }
+            (K.kind.order (view_value key.entry)) (option_map place_of result) }
     {
         let compare = |query: &View<'_, K>, key: View<K>| Compared::of(K::compare(query, &key));
         let (found, _) = search::<_, K, V, M, _, _>(self.buf, self.pos, &key, &compare);
@@ -312,23 +312,23 @@ impl<'a, K: ViewOrd, V: InPlace, M: ArchivedMap<Key = K, Mapped = V>> MapSeal<'a
         // If the keys increase, it is whether std's map has a value for the key.
         ensures sorted { Increasing K.kind.order
             (read_map K.kind V.kind M.E self.old.buf.now self.old.pos) →
-            result ≡ is_some (lookup (is_at (K.kind.order (reads key.entry)))
+            result ≡ is_some (lookup (is_at (K.kind.order (view_value key.entry)))
             (read_map K.kind V.kind M.E self.old.buf.now self.old.pos)) }
         // On each map it is whether a lookup finds an entry.
         ensures found { IsTrue result
             ↔ IsSome (found_at K.kind V.kind M.E self.old.buf.now self.old.pos
-            (K.kind.order (reads key.entry))) }
+            (K.kind.order (view_value key.entry))) }
         // If there is none, no byte is written.
         ensures absent { result ≡ false → self.new.buf.now ≡ self.old.buf.now }
         // Otherwise one value in the list is the new one: that of an entry whose key is equal.
         ensures writes { IsTrue result →
             ReplacesAtEqual K.kind V.kind M.E self.old.buf.now self.old.pos
-            (K.kind.order (reads key.entry))
-            (value_of V.kind (V.in_place.own value))
+            (K.kind.order (view_value key.entry))
+            (value_of V.kind (V.in_place.own_bytes value))
             (read_map K.kind V.kind M.E self.new.buf.now self.new.pos) }
         // Which bytes are written.
         ensures sets { SetsFound K.kind V.kind M.E self.old.buf.now self.old.pos
-            (K.kind.order (reads key.entry)) (V.in_place.own value) self.new.buf.now result }
+            (K.kind.order (view_value key.entry)) (V.in_place.own_bytes value) self.new.buf.now result }
     {
         match self.find(key) {
             None => false,
@@ -351,7 +351,7 @@ impl<'a, K: ViewOrd, V: InPlace, M: ArchivedMap<Key = K, Mapped = V>> MapSeal<'a
         ensures same_reference { self.new.buf.ghost_name ≡ self.old.buf.ghost_name }
         ensures position { self.new.pos ≡ self.old.pos }
         ensures calls { CallsFound K.kind V.kind M.E self.old.buf.now self.old.pos
-            (K.kind.order (reads key.entry)) self.new.buf.now (λ k s r t. F.post f k s r t) result }
+            (K.kind.order (view_value key.entry)) self.new.buf.now (λ k s r t. F.post f k s r t) result }
     {
         let place = self.find(key)?;
         Some(self.with_seal_at(place, f))

@@ -15,9 +15,9 @@ ghost use Rattle.rkyv_btree_walk.specs.EntryPlaces.{place_of};
 ghost use Rattle.rkyv_btree_seal.specs.Put.{key_place, value_place};
 ghost use Rattle.rkyv_btree_walk.specs.EntryPlaces.{entry_places};
 ghost use Rattle.rkyv_btree_view.specs.Range.{ByNativeBounds};
-ghost use Rattle.rkyv_btree_view.specs.View.{reads};
+ghost use Rattle.rkyv_btree_view.specs.View.{view_value};
 ghost use Rattle.rkyv_btree_walk.specs.Bounds.{IsRun, OrderedFor, entries_within, ByBounds};
-ghost use Rattle.rkyv_btree_walk.specs.Search.{shown};
+ghost use Rattle.rkyv_btree_walk.specs.Search.{shown_value};
 
 use crate::map_seal::MapSeal;
 use crate::value_place::{key_at, put_at, read_at};
@@ -182,7 +182,7 @@ impl<'a, K: Portable, V: InPlace, M: ArchivedMap<Key = K, Mapped = V>> RangeSeal
         ensures current { range_current_place self.new ≡ range_current_place self.old }
         ensures remaining { range_remaining_places self.new ≡ range_remaining_places self.old }
         ensures puts { IfSome (range_current_place self.old) (λ e.
-            PutsEntry K.kind V.kind M.E self.old.buf.now self.old.pos e (V.in_place.own value)
+            PutsEntry K.kind V.kind M.E self.old.buf.now self.old.pos e (V.in_place.own_bytes value)
             self.new.buf.now) }
     {
         let place = self.lent.unwrap();
@@ -222,17 +222,17 @@ impl<'a, K: ViewOrd, V: InPlace, M: ArchivedMap<Key = K, Mapped = V>> RangeSeal<
         // If the keys increase, these are all entries within the bounds.
         ensures sorted { Increasing K.kind.order (read_map K.kind V.kind M.E buf.entry.now pos) →
             range_remaining_entries result
-            ≡ entries_within (bound_map (λ q. K.kind.order (reads q)) low.now)
-            (bound_map (λ q. K.kind.order (reads q)) high.now)
+            ≡ entries_within (bound_map (λ q. K.kind.order (view_value q)) low.now)
+            (bound_map (λ q. K.kind.order (view_value q)) high.now)
             (read_map K.kind V.kind M.E buf.entry.now pos) }
         // So they are if the entries are ordered for both bounds.
-        ensures within { OrderedFor (bound_map (λ q. K.kind.order (reads q)) low.now)
+        ensures within { OrderedFor (bound_map (λ q. K.kind.order (view_value q)) low.now)
             (read_map K.kind V.kind M.E buf.entry.now pos) →
-            OrderedFor (bound_map (λ q. K.kind.order (reads q)) high.now)
+            OrderedFor (bound_map (λ q. K.kind.order (view_value q)) high.now)
             (read_map K.kind V.kind M.E buf.entry.now pos) →
             range_remaining_entries result
-            ≡ entries_within (bound_map (λ q. K.kind.order (reads q)) low.now)
-            (bound_map (λ q. K.kind.order (reads q)) high.now)
+            ≡ entries_within (bound_map (λ q. K.kind.order (view_value q)) low.now)
+            (bound_map (λ q. K.kind.order (view_value q)) high.now)
             (read_map K.kind V.kind M.E buf.entry.now pos) }
     {
         let compare = |query: &View<'_, K>, key: View<K>| K::compare(query, &key);
@@ -269,7 +269,7 @@ impl<'a, K: Portable, V: InPlace, M: ArchivedMap<Key = K, Mapped = V>> MapSeal<'
             → map (entry_at K.kind V.kind M.E self.now.buf.now)
             (range_left (layout_of K.kind V.kind M.E) self.now.buf.now result)
             ≡ read_map K.kind V.kind M.E self.now.buf.now self.now.pos }
-        ensures within { ByBounds (C.post cmp) (shown K.kind W.Shows) low.entry high.entry (λ lo hi.
+        ensures within { ByBounds (C.post cmp) (shown_value K.kind W.Shows) low.entry high.entry (λ lo hi.
             OrderedFor lo (read_map K.kind V.kind M.E self.now.buf.now self.now.pos) →
             OrderedFor hi (read_map K.kind V.kind M.E self.now.buf.now self.now.pos) →
             map (entry_at K.kind V.kind M.E self.now.buf.now)
@@ -326,17 +326,17 @@ impl<'a, K: ViewOrd, V: InPlace, M: ArchivedMap<Key = K, Mapped = V>> MapSeal<'a
         ensures sorted { Increasing K.kind.order (read_map K.kind V.kind M.E self.entry.buf.now
             self.entry.pos) →
             range_remaining_entries result
-            ≡ entries_within (bound_map (λ q. K.kind.order (reads q)) low.now)
-            (bound_map (λ q. K.kind.order (reads q)) high.now)
+            ≡ entries_within (bound_map (λ q. K.kind.order (view_value q)) low.now)
+            (bound_map (λ q. K.kind.order (view_value q)) high.now)
             (read_map K.kind V.kind M.E self.entry.buf.now self.entry.pos) }
         // So they are if the entries are ordered for both bounds.
-        ensures within { OrderedFor (bound_map (λ q. K.kind.order (reads q)) low.now)
+        ensures within { OrderedFor (bound_map (λ q. K.kind.order (view_value q)) low.now)
             (read_map K.kind V.kind M.E self.entry.buf.now self.entry.pos) →
-            OrderedFor (bound_map (λ q. K.kind.order (reads q)) high.now)
+            OrderedFor (bound_map (λ q. K.kind.order (view_value q)) high.now)
             (read_map K.kind V.kind M.E self.entry.buf.now self.entry.pos) →
             range_remaining_entries result
-            ≡ entries_within (bound_map (λ q. K.kind.order (reads q)) low.now)
-            (bound_map (λ q. K.kind.order (reads q)) high.now)
+            ≡ entries_within (bound_map (λ q. K.kind.order (view_value q)) low.now)
+            (bound_map (λ q. K.kind.order (view_value q)) high.now)
             (read_map K.kind V.kind M.E self.entry.buf.now self.entry.pos) }
     {
         RangeSeal::at(self.buf, self.pos, low, high)

@@ -45,7 +45,7 @@ impl<'a, V: InPlace> Seal<'a, V> {
         ensures same_reference { self.new.buf.ghost_name ≡ self.old.buf.ghost_name }
         ensures position { self.new.pos ≡ self.old.pos }
         ensures bytes { self.new.buf.now
-            ≡ put_bytes self.old.buf.now self.old.pos (V.in_place.own value) }
+            ≡ put_bytes self.old.buf.now self.old.pos (V.in_place.own_bytes value) }
         ensures stands { StandsAlone V.kind self.new.buf.now self.new.pos }
         ensures model { V.in_place.model value
             ≡ V.in_place.model_of_bytes (bytes_at self.new.buf.now self.new.pos V.kind.size) }

@@ -81,7 +81,7 @@ pub(crate) fn put_at<K: Portable, V: InPlace, M: ArchivedMap<Key = K, Mapped = V
 )
     requires stands { IsTrue (stands M.kind buf.old pos) }
     requires entry { IsEntry K.kind V.kind M.E buf.old pos (place_of place) }
-    ensures puts { PutsEntry K.kind V.kind M.E buf.old pos (place_of place) (V.in_place.own value)
+    ensures puts { PutsEntry K.kind V.kind M.E buf.old pos (place_of place) (V.in_place.own_bytes value)
         buf.new }
     ensures stands { IsTrue (stands M.kind buf.new pos) }
     ensures stood { IsTrue (stands (map_kind K.kind V.kind M.E) buf.old pos) }

@@ -1,4 +1,4 @@
--- A row of children of which the first are done: each with its entry behind it.
+-- A row of children of which the first are done: each with its entry after it.
 use Rattle.std.proofs.Common.{◌≡◌, ℕ, zero, suc, ◌+◌, ◌*◌, ◌-◌, ◌^◌, ◌≤◌, min, List, [], ◌∷◌, ◌++◌, length, map, arith, refl, sym, ap, ◌∙◌, subst}
 use Rattle.std.proofs.lemmas.List.{length-append, append_assoc, append-nil}
 use Rattle.std.proofs.Math.Nat.{pow-zero, mul-le-mul_left, mul-le-mul_right}

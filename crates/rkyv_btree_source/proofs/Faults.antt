@@ -25,36 +25,36 @@ passes_on P Q on (Read e) h = tt
 passes_on P Q on (NoRoom n) h = tt
 passes_on P Q on OverBudget h = tt
 
-module _ (K V : Kind) (E : ℕ) (b : List ℕ) (answer : K.Value → Ordering) where
+module _ (K V : Kind) (E : ℕ) (b : List ℕ) (comparison : K.Value → Ordering) where
   -- a key that was brought gives what it gives where it was brought to
   pub gives_there : (o w : Ordering) (p i at : ℕ) (room : List ℕ) (place : ℕ) → at ≡ key_place K V E (p, i) → IsTrue (stands K b at) × (K.read room place ≡ K.read b at)
-      → w ≡ answer (K.read room place) → w ≡ o → Gives K V E b answer o (p, i)
-  gives_there o w p i at room place same brought law is = gives_at K V E b answer o (p, i) at same brought.0 (ap answer (sym brought.1) ∙ (sym law ∙ is))
+      → w ≡ comparison (K.read room place) → w ≡ o → Gives K V E b comparison o (p, i)
+  gives_there o w p i at room place same brought law is = gives_at K V E b comparison o (p, i) at same brought.0 (ap comparison (sym brought.1) ∙ (sym law ∙ is))
 
   module _ (KR VR : List ℕ → ℕ → ℕ → ℕ → Refusal → Type 0) where
-    module _ (p n i : ℕ) (asks : Asks K V E b answer p n i) {X : Type 0} (fault : SourceFault X) (at : ℕ) where
-      pub key_fault : at ≡ key_place K V E (p, i) → IfRefused (KR b 0 at at) fault → IfRefused (λ e. KeysGive K V E b answer KR VR p n (Err e)) fault
+    module _ (p n i : ℕ) (asks : Asks K V E b comparison p n i) {X : Type 0} (fault : SourceFault X) (at : ℕ) where
+      pub key_fault : at ≡ key_place K V E (p, i) → IfRefused (KR b 0 at at) fault → IfRefused (λ e. KeysGive K V E b comparison KR VR p n (Err e)) fault
       key_fault same h =
-          passes_on (KR b 0 at at) (λ e. KeysGive K V E b answer KR VR p n (Err e))
+          passes_on (KR b 0 at at) (λ e. KeysGive K V E b comparison KR VR p n (Err e))
           (λ e bad. bad_key asks (subst (λ x. KR b 0 x x e) same bad)) fault h
 
-      pub value_fault : at ≡ value_place K V E (p, i) → Gives K V E b answer Equal (p, i) → IfRefused (VR b 0 at at) fault → IfRefused (λ e. KeysGive K V E b answer KR VR p n (Err e)) fault
+      pub value_fault : at ≡ value_place K V E (p, i) → Gives K V E b comparison Equal (p, i) → IfRefused (VR b 0 at at) fault → IfRefused (λ e. KeysGive K V E b comparison KR VR p n (Err e)) fault
       value_fault same gives h =
-          passes_on (VR b 0 at at) (λ e. KeysGive K V E b answer KR VR p n (Err e))
+          passes_on (VR b 0 at at) (λ e. KeysGive K V E b comparison KR VR p n (Err e))
           (λ e bad. bad_value asks gives (subst (λ x. VR b 0 x x e) same bad)) fault h
 
-    pub keys_fault : (m hi p n : ℕ) → NodeGives K V E b hi p (Ok n) → {X : Type 0} (fault : SourceFault X) → IfRefused (λ e. KeysGive K V E b answer KR VR p n (Err e)) fault
-        → IfRefused (λ e. NextGives K V E b answer KR VR m hi p (Err e)) fault
+    pub keys_fault : (m hi p n : ℕ) → NodeGives K V E b hi p (Ok n) → {X : Type 0} (fault : SourceFault X) → IfRefused (λ e. KeysGive K V E b comparison KR VR p n (Err e)) fault
+        → IfRefused (λ e. NextGives K V E b comparison KR VR m hi p (Err e)) fault
     keys_fault m hi p n node fault h =
-        passes_on (λ e. KeysGive K V E b answer KR VR p n (Err e)) (λ e. NextGives K V E b answer KR VR m hi p (Err e))
-        (λ e bad. keys_refuse K V E b answer KR VR m hi p n node e bad) fault h
+        passes_on (λ e. KeysGive K V E b comparison KR VR p n (Err e)) (λ e. NextGives K V E b comparison KR VR m hi p (Err e))
+        (λ e bad. keys_refuse K V E b comparison KR VR m hi p n node e bad) fault h
 
     -- what the search of the tree at the map's root returns
-    pub of_root : (at q : ℕ) → HeadGives K V E b at (Ok (Some q)) → {X : Type 0} (r : Result (Option Hit) (SourceFault X)) → GivesBy entry_of (TreeGives K V E b answer KR VR 32 at q) r
-        → GivesBy entry_of (LookupGives K V E b answer KR VR at) r
+    pub of_root : (at q : ℕ) → HeadGives K V E b at (Ok (Some q)) → {X : Type 0} (r : Result (Option Hit) (SourceFault X)) → GivesBy entry_of (TreeGives K V E b comparison KR VR 32 at q) r
+        → GivesBy entry_of (LookupGives K V E b comparison KR VR at) r
     of_root at q head (Ok found) h = record { result = Ok (Some q); gives = head; goes_on = h }
     of_root at q head (Err fault) h =
-        passes_on (λ e. TreeGives K V E b answer KR VR 32 at q (Err e)) (λ e. LookupGives K V E b answer KR VR at (Err e))
+        passes_on (λ e. TreeGives K V E b comparison KR VR 32 at q (Err e)) (λ e. LookupGives K V E b comparison KR VR at (Err e))
         (λ e bad. record { result = Ok (Some q); gives = head; goes_on = bad }) fault h
 
 module _ (K V : Kind) (E : ℕ) (room : List ℕ) (p : ℕ) (step : Step) (h : StepStands K V E room p step) where

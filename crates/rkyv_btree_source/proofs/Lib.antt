@@ -1,8 +1,13 @@
 -- The lemmas of lookups in a source of bytes.
 pub mod Brought
+pub mod Covered
 pub mod Faults
+pub mod Fitting
 pub mod Inside
+pub mod Lacking
+pub mod Pairs
 pub mod Parts
 pub mod Sorted
 pub mod Spent
+pub mod Taking
 pub mod Texts

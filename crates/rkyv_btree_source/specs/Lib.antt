@@ -1,3 +1,4 @@
 -- What lookups promise in a source of bytes that isn't read whole.
 pub mod Reading
+pub mod Reads
 pub mod mirror

@@ -14,7 +14,7 @@ IfRefused P (Read e) = Unit {0}
 IfRefused P (NoRoom n) = Unit {0}
 IfRefused P OverBudget = Unit {0}
 
--- the cause of a fault of a lookup that reads nothing behind `end`: it needs more than the `room` bytes that are lent, those of a node
+-- the cause of a fault of a lookup that reads nothing after `end`: it needs more than the `room` bytes that are lent, those of a node
 -- and at most `end` more, or the `left` bytes of the budget are fewer than `end`
 abbrev pub IsCaused : {E : Type 0} → (end node room left : ℕ) → SourceFault E → Type 0
 IsCaused end node room left (Refused e) = Unit {0}

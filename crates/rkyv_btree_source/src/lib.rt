@@ -3,9 +3,12 @@
 #![tactic(auto)]
 
 pub mod fetch;
+mod fetch_pair;
 pub mod reader;
 pub mod source;
 pub mod source_fault;
+pub mod source_laws;
 mod source_node;
 mod source_search;
+mod source_tree;
 pub mod unverified_source;

@@ -1,9 +1,10 @@
 //! Nodes of a source: what their bytes give, wherever these were read to.
-ghost use Rattle.std.specs.Prelude.{◌≡◌, ◌+◌, ◌≤◌, ◌<◌, List, Option, ℕ, Some, IsTrue, IfErr, IfOk, IfSome, length, slice_index, pos, ◌+ℤ◌, ◌≤ℤ◌};
+ghost use Rattle.std.specs.Prelude.{◌≡◌, ◌+◌, ◌-◌, ◌≤◌, ◌<◌, List, Option, ℕ, Some, IsTrue, IfErr, IfOk, IfSome, length, min, slice_index, pos, ◌+ℤ◌, ◌≤ℤ◌};
 ghost use Rattle.std.specs.Int.{cast_signed, w32};
 ghost use Rattle.rkyv_btree_base.specs.Bytes.{place_at};
 ghost use Rattle.rkyv_btree_base.specs.Layout.{layout_of, are_fitting, leaf_size, inner_size};
 ghost use Rattle.rkyv_btree_source.specs.Reading.{GivesBy, IsCaused, IsPart};
+ghost use Rattle.rkyv_btree_source.specs.Reads.{IsLacking};
 ghost use Rattle.rkyv_btree_unverified.specs.Steps.{HasRoom, HeadGives, NodeGives, PlaceGives};
 
 use crate::reader::Reader;
@@ -58,6 +59,8 @@ pub(crate) fn read_head<S: ReadAt, K: Portable, V: Portable, M: ArchivedMap<Key 
     ensures caused { (n : ℕ) → IfErr result (IsCaused (at + 8) 0 n reader.new.left) }
     ensures known { (b : List ℕ) → S.bytes reader.old.source ≡ Some b → (n : ℕ) →
         IfErr result (IsCaused (length b) 0 n reader.new.left) }
+    ensures takes { IfOk result (λ _. reader.old.left ≡ reader.new.left + 8) }
+    ensures lacks { IfErr result (IsLacking (λ _. ⊥) (reader.old.left < 8)) }
 {
     match reader.size() {
         Err(fault) => return Err(fault),
@@ -73,15 +76,15 @@ pub(crate) fn read_head<S: ReadAt, K: Portable, V: Portable, M: ArchivedMap<Key 
     if at % 4 != 0 {
         return Err(SourceFault::Refused(Refusal::Misaligned { pos: at }));
     }
-    let mut own = [0u8; 8];
-    match reader.read(at, &mut own) {
+    let mut own_bytes = [0u8; 8];
+    match reader.read(at, &mut own_bytes) {
         Err(fault) => return Err(fault),
         Ok(()) => {}
     }
-    if num32(&own, 4) == 0 {
+    if num32(&own_bytes, 4) == 0 {
         return Ok(None);
     }
-    match place_in::<K, V, M>(&own, 0, at, at) {
+    match place_in::<K, V, M>(&own_bytes, 0, at, at) {
         Ok(root) => Ok(Some(root)),
         Err(refusal) => Err(SourceFault::Refused(refusal)),
     }
@@ -94,6 +97,7 @@ pub(crate) fn node_len<K: Portable, V: Portable, M: ArchivedMap<Key = K, Mapped 
 ) -> u32
     requires fitting { IsTrue (are_fitting K.kind V.kind M.E) }
     requires room { HasRoom K.kind V.kind M.E hi node }
+    ensures value { result ≡ min (hi - node) (inner_size (layout_of K.kind V.kind M.E)) }
     ensures inside { node + result ≤ hi }
     ensures leaf { leaf_size (layout_of K.kind V.kind M.E) ≤ result }
     ensures most { result ≤ inner_size (layout_of K.kind V.kind M.E) }

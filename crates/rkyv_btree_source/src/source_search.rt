@@ -1,11 +1,11 @@
-//! The search of a map in a source of bytes.
+//! The search of a node of a source.
 ghost use Rattle.std.specs.Prelude.{◌≡◌, ◌+◌, ◌*◌, ◌≤◌, ◌<◌, ℕ, List, Option, Some, Ok, IsTrue, IfErr, IfOk, IfSome, length, slice_index};
-ghost use Rattle.std.specs.declared.cmp.Ordering.{Ordering as Answer};
+ghost use Rattle.std.specs.declared.cmp.Ordering.{Ordering as Comparison};
 ghost use Rattle.rkyv_btree_base.specs.Layout.{layout_of, are_fitting, leaf_size, inner_size};
 ghost use Rattle.rkyv_btree_base.specs.Views.{stands};
-ghost use Rattle.rkyv_btree_source.specs.Reading.{Brings, GivesBy, IsCaused, IsPart, most_read};
-ghost use Rattle.rkyv_btree_source.specs.mirror.Found.{halt_of, next_of, entry_of, StopStands, StopReads, StopWithin, HitReads, StepStands, StepReads};
-ghost use Rattle.rkyv_btree_unverified.specs.Lookups.{LookupGives, TreeGives};
+ghost use Rattle.rkyv_btree_source.specs.Reading.{Brings, GivesBy, IsCaused, IsPart};
+ghost use Rattle.rkyv_btree_source.specs.Reads.{EachFits, IsLacking, Lacks, NodeBytes, NodeReads, Reads};
+ghost use Rattle.rkyv_btree_source.specs.mirror.Found.{halt_of, next_of, StopStands, StopFits, StopReads, StopTakes, StopWithin, NodeStepTakes, StepStands, StepReads, StepTakes};
 ghost use Rattle.rkyv_btree_unverified.specs.Steps.{ChildGives, HasRoom, KeysGive, NodeGives};
 ghost use Rattle.rkyv_btree_unverified.specs.mirror.Passes.{NextGives};
 ghost use Rattle.rkyv_btree_walk.specs.Search.{compared_of};
@@ -14,8 +14,8 @@ use crate::fetch::Fetch;
 use crate::reader::Reader;
 use crate::source::ReadAt;
 use crate::source_fault::SourceFault;
-use crate::source_node::{count_in, node_len, place_in, read_head};
-use rkyv_btree_base::check::{CheckBytes, Portable};
+use crate::source_node::{count_in, node_len, place_in};
+use rkyv_btree_base::check::Portable;
 use rkyv_btree_base::refusal::Refusal;
 use rkyv_btree_portable::bytes::num32;
 use rkyv_btree_view::compare_native::CompareWith;
@@ -39,7 +39,7 @@ pub(crate) enum Stop {
     Before(u32),
 }
 
-/// Where the search of a tree goes on behind a node: it ends with an entry of the node or with none, or goes down to a node.
+/// Where the search of a tree goes on after a node: it ends with an entry of the node or with none, or goes down to a node.
 #[derive(Clone, Copy)]
 pub(crate) enum Step {
     Ends(Hit),
@@ -68,9 +68,16 @@ fn fetch_part<S: ReadAt, T: Fetch>(
     ensures spent { reader.old.left ≤ reader.new.left + (node + length bytes.now) }
     ensures caused { IfErr result
         (IsCaused (node + length bytes.now) 0 (length room.old) reader.new.left) }
+    ensures takes { (b : List ℕ) → S.bytes reader.old.source ≡ Some b →
+        IfOk result (λ _. reader.old.left ≡ reader.new.left + T.lengths.outlying b (node + at)) }
+    ensures lacks { (b : List ℕ) → S.bytes reader.old.source ≡ Some b → IfErr result
+        (IsLacking (λ n. (n ≡ T.lengths.room b (node + at)) × (length room.old < n))
+        (reader.old.left < T.lengths.outlying b (node + at))) }
+    ensures fits { (b : List ℕ) → S.bytes reader.old.source ≡ Some b →
+        IfOk result (λ _. T.lengths.room b (node + at) ≤ length room.old) }
 {
-    let own = &bytes[at as usize..at as usize + T::size() as usize];
-    T::fetch(own, node + at, reader, room)
+    let own_bytes = &bytes[at as usize..at as usize + T::size() as usize];
+    T::fetch(own_bytes, node + at, reader, room)
 }
 
 /// Compares a native value with a key that was brought to a place of `room`.
@@ -104,11 +111,11 @@ fn search_keys<
     requires part { (b : List ℕ) → S.bytes reader.old.source ≡ Some b → IsPart b bytes.now node }
     ensures valid { IfOk result (StopStands V.kind room.new) }
     ensures gives { (b : List ℕ) → S.bytes reader.old.source ≡ Some b →
-        (compared : T → K.kind.Value → Answer) →
+        (compared : T → K.kind.Value → Comparison) →
         ((n : T) (c : List ℕ) (at : ℕ) → K.compared_at n c at ≡ compared n (K.kind.read c at)) →
         GivesBy halt_of (KeysGive K.kind V.kind M.E b (compared key.now) K.Refuses V.Refuses
         node count) result }
-    ensures reads { (b : List ℕ) → S.bytes reader.old.source ≡ Some b →
+    ensures value { (b : List ℕ) → S.bytes reader.old.source ≡ Some b →
         IfOk result (StopReads K.kind V.kind M.E b room.new node) }
     ensures within { IfOk result (StopWithin count) }
     ensures same { S.bytes reader.new.source ≡ S.bytes reader.old.source }
@@ -116,6 +123,22 @@ fn search_keys<
     ensures spent { reader.old.left ≤ reader.new.left + (M.E + 1) * (node + length bytes.now) }
     ensures caused { IfErr result
         (IsCaused (node + length bytes.now) 0 (length room.old) reader.new.left) }
+    ensures takes { (b : List ℕ) → S.bytes reader.old.source ≡ Some b →
+        (compared : T → K.kind.Value → Comparison) →
+        ((n : T) (c : List ℕ) (at : ℕ) → K.compared_at n c at ≡ compared n (K.kind.read c at)) →
+        IfOk result (StopTakes K.kind V.kind M.E b K.lengths V.lengths (compared key.now)
+        node count reader.old.left reader.new.left) }
+    ensures lacks { (b : List ℕ) → S.bytes reader.old.source ≡ Some b →
+        (compared : T → K.kind.Value → Comparison) →
+        ((n : T) (c : List ℕ) (at : ℕ) → K.compared_at n c at ≡ compared n (K.kind.read c at)) →
+        (hi : ℕ) → NodeGives K.kind V.kind M.E b hi node (Ok count) →
+        IfErr result (Lacks K.kind V.kind M.E b K.lengths V.lengths
+        (NodeReads K.kind V.kind M.E b K.lengths V.lengths (compared key.now) hi node)
+        0 reader.old.left (length room.old)) }
+    ensures fits { (b : List ℕ) → S.bytes reader.old.source ≡ Some b →
+        (compared : K.kind.Value → Comparison) →
+        IfOk result (StopFits K.kind V.kind M.E b K.lengths V.lengths compared
+        node count (length room.old)) }
 {
     for i in 0..count {
         let place = match fetch_part::<S, K>(bytes, M::key_at(i as usize), node, reader, room) {
@@ -137,7 +160,7 @@ fn search_keys<
     Ok(Stop::Before(count))
 }
 
-/// Returns the child before entry `i` of the node whose bytes these are, or behind all, or that there is none.
+/// Returns the child before entry `i` of the node whose bytes these are, or after all, or that there is none.
 fn child_in<K: Portable, V: Portable, M: ArchivedMap<Key = K, Mapped = V>>(
     bytes: &[u8],
     node: u32,
@@ -192,17 +215,34 @@ fn search_bytes<
     requires part { (b : List ℕ) → S.bytes reader.old.source ≡ Some b → IsPart b bytes.now node }
     ensures valid { IfOk result (StepStands K.kind V.kind M.E room.new node) }
     ensures gives { (b : List ℕ) → S.bytes reader.old.source ≡ Some b →
-        (compared : T → K.kind.Value → Answer) →
+        (compared : T → K.kind.Value → Comparison) →
         ((n : T) (c : List ℕ) (at : ℕ) → K.compared_at n c at ≡ compared n (K.kind.read c at)) →
         (m : ℕ) → GivesBy next_of (NextGives K.kind V.kind M.E b (compared key.now)
         K.Refuses V.Refuses m hi node) result }
-    ensures reads { (b : List ℕ) → S.bytes reader.old.source ≡ Some b →
+    ensures value { (b : List ℕ) → S.bytes reader.old.source ≡ Some b →
         IfOk result (StepReads K.kind V.kind M.E b room.new) }
     ensures same { S.bytes reader.new.source ≡ S.bytes reader.old.source }
     ensures left { reader.new.left ≤ reader.old.left }
     ensures spent { reader.old.left ≤ reader.new.left + (M.E + 1) * (node + length bytes.now) }
     ensures caused { IfErr result
         (IsCaused (node + length bytes.now) 0 (length room.old) reader.new.left) }
+    ensures takes { (b : List ℕ) → S.bytes reader.old.source ≡ Some b →
+        (compared : T → K.kind.Value → Comparison) →
+        ((n : T) (c : List ℕ) (at : ℕ) → K.compared_at n c at ≡ compared n (K.kind.read c at)) →
+        IfOk result (StepTakes K.kind V.kind M.E b K.lengths V.lengths (compared key.now)
+        hi node reader.old.left reader.new.left) }
+    ensures lacks { (b : List ℕ) → S.bytes reader.old.source ≡ Some b →
+        (compared : T → K.kind.Value → Comparison) →
+        ((n : T) (c : List ℕ) (at : ℕ) → K.compared_at n c at ≡ compared n (K.kind.read c at)) →
+        IfErr result (Lacks K.kind V.kind M.E b K.lengths V.lengths
+        (NodeReads K.kind V.kind M.E b K.lengths V.lengths (compared key.now) hi node)
+        0 reader.old.left (length room.old)) }
+    ensures fits { (b : List ℕ) → S.bytes reader.old.source ≡ Some b →
+        (compared : T → K.kind.Value → Comparison) →
+        ((n : T) (c : List ℕ) (at : ℕ) → K.compared_at n c at ≡ compared n (K.kind.read c at)) →
+        IfOk result (λ _. EachFits K.kind V.kind M.E b K.lengths V.lengths
+        (NodeReads K.kind V.kind M.E b K.lengths V.lengths (compared key.now) hi node)
+        0 (length room.old)) }
 {
     let count = match count_in::<K, V, M>(bytes, node, hi) {
         Ok(count) => count,
@@ -220,7 +260,7 @@ fn search_bytes<
 }
 
 /// Reads the node at `node` into `page`, and searches it.
-fn search_node<
+pub(crate) fn search_node<
     S: ReadAt,
     T,
     K: Fetch + CompareWith<T>,
@@ -242,17 +282,35 @@ fn search_node<
         (length b ≤ 4294967295) × (hi ≤ length b) }
     ensures valid { IfOk result (StepStands K.kind V.kind M.E room.new node) }
     ensures gives { (b : List ℕ) → S.bytes reader.old.source ≡ Some b →
-        (compared : T → K.kind.Value → Answer) →
+        (compared : T → K.kind.Value → Comparison) →
         ((n : T) (c : List ℕ) (at : ℕ) → K.compared_at n c at ≡ compared n (K.kind.read c at)) →
         (m : ℕ) → GivesBy next_of (NextGives K.kind V.kind M.E b (compared key.now)
         K.Refuses V.Refuses m hi node) result }
-    ensures reads { (b : List ℕ) → S.bytes reader.old.source ≡ Some b →
+    ensures value { (b : List ℕ) → S.bytes reader.old.source ≡ Some b →
         IfOk result (StepReads K.kind V.kind M.E b room.new) }
     ensures same { S.bytes reader.new.source ≡ S.bytes reader.old.source }
     ensures left { reader.new.left ≤ reader.old.left }
     ensures spent { reader.old.left ≤ reader.new.left + (M.E + 2) * hi }
     ensures caused { IfErr result
         (IsCaused hi 0 (length room.old) reader.new.left) }
+    ensures takes { (b : List ℕ) → S.bytes reader.old.source ≡ Some b →
+        (compared : T → K.kind.Value → Comparison) →
+        ((n : T) (c : List ℕ) (at : ℕ) → K.compared_at n c at ≡ compared n (K.kind.read c at)) →
+        IfOk result (NodeStepTakes K.kind V.kind M.E b K.lengths V.lengths (compared key.now)
+        hi node reader.old.left reader.new.left) }
+    ensures lacks { (b : List ℕ) → S.bytes reader.old.source ≡ Some b →
+        (compared : T → K.kind.Value → Comparison) →
+        ((n : T) (c : List ℕ) (at : ℕ) → K.compared_at n c at ≡ compared n (K.kind.read c at)) →
+        (at before : ℕ) → Reads K.kind V.kind M.E b K.lengths V.lengths (compared key.now) at
+        before (NodeBytes hi node) → IfErr result (Lacks K.kind V.kind M.E b K.lengths V.lengths
+        (Reads K.kind V.kind M.E b K.lengths V.lengths (compared key.now) at)
+        0 (before + reader.old.left) (length room.old)) }
+    ensures fits { (b : List ℕ) → S.bytes reader.old.source ≡ Some b →
+        (compared : T → K.kind.Value → Comparison) →
+        ((n : T) (c : List ℕ) (at : ℕ) → K.compared_at n c at ≡ compared n (K.kind.read c at)) →
+        IfOk result (λ _. EachFits K.kind V.kind M.E b K.lengths V.lengths
+        (NodeReads K.kind V.kind M.E b K.lengths V.lengths (compared key.now) hi node)
+        0 (length room.old)) }
 {
     let bytes = &mut page[..node_len::<K, V, M>(node, hi) as usize];
     match reader.read(node, bytes) {
@@ -260,103 +318,4 @@ fn search_node<
         Ok(()) => {}
     }
     search_bytes::<S, T, K, V, M>(bytes, node, hi, key, reader, room)
-}
-
-/// The search of the tree at `root`, where a leaf has room before `hi`, of at most 32 levels.
-fn search_tree<
-    S: ReadAt,
-    T,
-    K: Fetch + CompareWith<T>,
-    V: Fetch,
-    M: ArchivedMap<Key = K, Mapped = V>,
->(
-    root: u32,
-    hi: u32,
-    key: &T,
-    reader: &mut Reader<S>,
-    room: &mut [u8],
-    page: &mut [u8],
-) -> Result<Option<Hit>, SourceFault<S::Error>>
-    requires fitting { IsTrue (are_fitting K.kind V.kind M.E) }
-    requires room { HasRoom K.kind V.kind M.E hi root }
-    requires short { length room.old ≤ 4294967295 }
-    requires page { inner_size (layout_of K.kind V.kind M.E) ≤ length page.old }
-    requires inside { (b : List ℕ) → S.bytes reader.old.source ≡ Some b →
-        (length b ≤ 4294967295) × (hi ≤ length b) }
-    ensures valid { IfOk result (λ found. IfSome found (λ hit.
-        IsTrue (stands V.kind room.new hit.value))) }
-    ensures gives { (b : List ℕ) → S.bytes reader.old.source ≡ Some b →
-        (compared : T → K.kind.Value → Answer) →
-        ((n : T) (c : List ℕ) (at : ℕ) → K.compared_at n c at ≡ compared n (K.kind.read c at)) →
-        GivesBy entry_of (TreeGives K.kind V.kind M.E b (compared key.now)
-        K.Refuses V.Refuses 32 hi root) result }
-    ensures reads { (b : List ℕ) → S.bytes reader.old.source ≡ Some b →
-        IfOk result (λ found. IfSome found (HitReads K.kind V.kind M.E b room.new)) }
-    ensures same { S.bytes reader.new.source ≡ S.bytes reader.old.source }
-    ensures left { reader.new.left ≤ reader.old.left }
-    ensures spent { reader.old.left ≤ reader.new.left + 32 * ((M.E + 2) * hi) }
-    ensures caused { IfErr result
-        (IsCaused hi 0 (length room.old) reader.new.left) }
-{
-    let mut node = root;
-    let mut end = hi;
-    let mut levels = 32u32;
-    'down: loop {
-        if levels == 0 {
-            return Err(SourceFault::Refused(Refusal::TooDeep {
-                pos: i64::from(node),
-            }));
-        }
-        match search_node::<S, T, K, V, M>(node, end, key, reader, room, page) {
-            Err(fault) => return Err(fault),
-            Ok(Step::Ends(hit)) => return Ok(Some(hit)),
-            Ok(Step::Nothing) => return Ok(None),
-            Ok(Step::Below(below)) => {
-                end = node;
-                node = below;
-                levels -= 1;
-            }
-        }
-    }
-}
-
-/// The entry of the map at `pos` at which a search ends with Equal. Each node is read into `page`, and each value brought to `room`.
-pub(crate) fn search<
-    S: ReadAt,
-    T,
-    K: Fetch + CompareWith<T>,
-    V: Fetch,
-    M: ArchivedMap<Key = K, Mapped = V>,
->(
-    pos: u32,
-    key: &T,
-    reader: &mut Reader<S>,
-    room: &mut [u8],
-    page: &mut [u8],
-) -> Result<Option<Hit>, SourceFault<S::Error>>
-    requires fitting { IsTrue (are_fitting K.kind V.kind M.E) }
-    requires short { length room.old ≤ 4294967295 }
-    requires page { inner_size (layout_of K.kind V.kind M.E) ≤ length page.old }
-    ensures valid { IfOk result (λ found. IfSome found (λ hit.
-        IsTrue (stands V.kind room.new hit.value))) }
-    ensures gives { (b : List ℕ) → S.bytes reader.old.source ≡ Some b →
-        (compared : T → K.kind.Value → Answer) →
-        ((n : T) (c : List ℕ) (at : ℕ) → K.compared_at n c at ≡ compared n (K.kind.read c at)) →
-        GivesBy entry_of (LookupGives K.kind V.kind M.E b (compared key.now)
-        K.Refuses V.Refuses pos) result }
-    ensures reads { (b : List ℕ) → S.bytes reader.old.source ≡ Some b →
-        IfOk result (λ found. IfSome found (HitReads K.kind V.kind M.E b room.new)) }
-    ensures same { S.bytes reader.new.source ≡ S.bytes reader.old.source }
-    ensures left { reader.new.left ≤ reader.old.left }
-    ensures spent { reader.old.left ≤ reader.new.left + most_read M.E (pos + 8) }
-    ensures caused { IfErr result
-        (IsCaused (pos + 8) 0 (length room.old) reader.new.left) }
-    ensures known { (b : List ℕ) → S.bytes reader.old.source ≡ Some b → IfErr result
-        (IsCaused (length b) 0 (length room.old) reader.new.left) }
-{
-    match read_head::<S, K, V, M>(reader, pos) {
-        Err(fault) => Err(fault),
-        Ok(None) => Ok(None),
-        Ok(Some(root)) => search_tree::<S, T, K, V, M>(root, pos, key, reader, room, page),
-    }
 }

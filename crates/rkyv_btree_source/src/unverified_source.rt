@@ -9,17 +9,18 @@ ghost use Rattle.rkyv_btree_base.specs.Map.{map_kind};
 ghost use Rattle.rkyv_btree_base.specs.Refusal.TheVariants.{TooLong};
 ghost use Rattle.rkyv_btree_base.specs.Whole.{own_at};
 ghost use Rattle.rkyv_btree_source.specs.Reading.{IfRefused, IsCaused, most_read};
+ghost use Rattle.rkyv_btree_source.specs.Reads.{EachFits, Lacks, Reads, Takes};
 ghost use Rattle.rkyv_btree_unverified.specs.Lookups.{FindsAt, LookupGives};
 ghost use Rattle.rkyv_btree_unverified.specs.Steps.{value_place};
 ghost use Rattle.rkyv_btree_view.specs.Lookup.{ByNative};
 ghost use Rattle.rkyv_btree_view.specs.Map.{IsMap};
-ghost use Rattle.rkyv_btree_view.specs.View.{reads};
+ghost use Rattle.rkyv_btree_view.specs.View.{view_value};
 
 use crate::fetch::Fetch;
 use crate::reader::Reader;
 use crate::source::ReadAt;
 use crate::source_fault::SourceFault;
-use crate::source_search::search;
+use crate::source_tree::search;
 use rkyv_btree_base::check::Portable;
 use rkyv_btree_base::refusal::Refusal;
 use rkyv_btree_unverified::unverified_node::inner_size;
@@ -150,20 +151,20 @@ impl<S: ReadAt, K: Fetch, V: Fetch, M: ArchivedMap<Key = K, Mapped = V>> Unverif
         requires { length lent.old ≤ 4294967295 }
         // What is found reads as the value beside an equal key, which is where the search of the bytes comes to.
         ensures places { (b : List ℕ) → S.bytes self.old.reader.source ≡ Some b →
-            ByNative K.kind K.compared_at key (λ answer. IfOk result (λ found.
-            FindsAt K.kind V.kind M.E b answer K.Refuses V.Refuses self.old.pos
-            (λ e. V.kind.read b (value_place K.kind V.kind M.E e)) (option_map reads found))) }
+            ByNative K.kind K.compared_at key (λ comparison. IfOk result (λ found.
+            FindsAt K.kind V.kind M.E b comparison K.Refuses V.Refuses self.old.pos
+            (λ e. V.kind.read b (value_place K.kind V.kind M.E e)) (option_map view_value found))) }
         ensures refused { (b : List ℕ) → S.bytes self.old.reader.source ≡ Some b →
-            ByNative K.kind K.compared_at key (λ answer. IfErr result (IfRefused (λ refusal.
-            LookupGives K.kind V.kind M.E b answer K.Refuses V.Refuses self.old.pos
+            ByNative K.kind K.compared_at key (λ comparison. IfErr result (IfRefused (λ refusal.
+            LookupGives K.kind V.kind M.E b comparison K.Refuses V.Refuses self.old.pos
             (Err refusal)))) }
         // In a map nothing is refused, and this is what std's lookup finds.
         ensures accepts { (b : List ℕ) → S.bytes self.old.reader.source ≡ Some b → (m : _) →
             IsMap K.kind V.kind M.E b self.old.pos m → IfErr result (IfRefused (λ _. ⊥)) }
         ensures sorted { (b : List ℕ) → S.bytes self.old.reader.source ≡ Some b → (m : _) →
             IsMap K.kind V.kind M.E b self.old.pos m → Increasing K.kind.order m →
-            ByNative K.kind K.compared_at key (λ answer.
-            IfOk result (λ found. option_map reads found ≡ lookup (is_at answer) m)) }
+            ByNative K.kind K.compared_at key (λ comparison.
+            IfOk result (λ found. option_map view_value found ≡ lookup (is_at comparison) m)) }
         ensures same { S.bytes self.new.reader.source ≡ S.bytes self.old.reader.source }
         ensures position { self.new.pos ≡ self.old.pos }
         ensures budget { self.new.reader.left ≤ self.old.reader.left }
@@ -177,6 +178,23 @@ impl<S: ReadAt, K: Fetch, V: Fetch, M: ArchivedMap<Key = K, Mapped = V>> Unverif
         ensures known { (b : List ℕ) → S.bytes self.old.reader.source ≡ Some b →
             IfErr result (IsCaused (length b)
             (inner_size (layout_of K.kind V.kind M.E)) (length lent.old) self.new.reader.left) }
+        // A lookup that ends takes the bytes of what it reads of the budget, and no others.
+        ensures takes { (b : List ℕ) → S.bytes self.old.reader.source ≡ Some b →
+            ByNative K.kind K.compared_at key (λ comparison. IfOk result (λ _. (all : ℕ)
+            × Takes K.kind V.kind M.E b K.lengths V.lengths comparison self.old.pos all
+            × (self.old.reader.left ≡ self.new.reader.left + all))) }
+        // Where the budget or the lent buffer is too small, one part that the lookup reads doesn't fit.
+        ensures lacks { (b : List ℕ) → S.bytes self.old.reader.source ≡ Some b →
+            ByNative K.kind K.compared_at key (λ comparison. IfErr result
+            (Lacks K.kind V.kind M.E b K.lengths V.lengths
+            (Reads K.kind V.kind M.E b K.lengths V.lengths comparison self.old.pos)
+            (inner_size (layout_of K.kind V.kind M.E)) self.old.reader.left (length lent.old))) }
+        // And a lookup that ends had room for all of them.
+        ensures fits { (b : List ℕ) → S.bytes self.old.reader.source ≡ Some b →
+            ByNative K.kind K.compared_at key (λ comparison. IfOk result (λ _.
+            EachFits K.kind V.kind M.E b K.lengths V.lengths
+            (Reads K.kind V.kind M.E b K.lengths V.lengths comparison self.old.pos)
+            (inner_size (layout_of K.kind V.kind M.E)) (length lent.old))) }
     {
         let page_len = inner_size::<K, V, M>();
         if lent.len() < page_len as usize {
@@ -212,20 +230,20 @@ impl<S: ReadAt, K: Fetch, V: Fetch, M: ArchivedMap<Key = K, Mapped = V>> Unverif
         requires { length lent.old ≤ 4294967295 }
         // This says whether an equal key is where the search of the bytes comes to.
         ensures places { (b : List ℕ) → S.bytes self.old.reader.source ≡ Some b →
-            ByNative K.kind K.compared_at key (λ answer. IfOk result (λ found. (entry : _)
-            × LookupGives K.kind V.kind M.E b answer K.Refuses V.Refuses self.old.pos (Ok entry)
+            ByNative K.kind K.compared_at key (λ comparison. IfOk result (λ found. (entry : _)
+            × LookupGives K.kind V.kind M.E b comparison K.Refuses V.Refuses self.old.pos (Ok entry)
             × (found ≡ is_some entry))) }
         ensures refused { (b : List ℕ) → S.bytes self.old.reader.source ≡ Some b →
-            ByNative K.kind K.compared_at key (λ answer. IfErr result (IfRefused (λ refusal.
-            LookupGives K.kind V.kind M.E b answer K.Refuses V.Refuses self.old.pos
+            ByNative K.kind K.compared_at key (λ comparison. IfErr result (IfRefused (λ refusal.
+            LookupGives K.kind V.kind M.E b comparison K.Refuses V.Refuses self.old.pos
             (Err refusal)))) }
         // In a map nothing is refused, and this is what std's lookup says.
         ensures accepts { (b : List ℕ) → S.bytes self.old.reader.source ≡ Some b → (m : _) →
             IsMap K.kind V.kind M.E b self.old.pos m → IfErr result (IfRefused (λ _. ⊥)) }
         ensures sorted { (b : List ℕ) → S.bytes self.old.reader.source ≡ Some b → (m : _) →
             IsMap K.kind V.kind M.E b self.old.pos m → Increasing K.kind.order m →
-            ByNative K.kind K.compared_at key (λ answer.
-            IfOk result (λ found. found ≡ is_some (lookup (is_at answer) m))) }
+            ByNative K.kind K.compared_at key (λ comparison.
+            IfOk result (λ found. found ≡ is_some (lookup (is_at comparison) m))) }
         ensures same { S.bytes self.new.reader.source ≡ S.bytes self.old.reader.source }
         ensures position { self.new.pos ≡ self.old.pos }
         ensures budget { self.new.reader.left ≤ self.old.reader.left }
@@ -239,6 +257,23 @@ impl<S: ReadAt, K: Fetch, V: Fetch, M: ArchivedMap<Key = K, Mapped = V>> Unverif
         ensures known { (b : List ℕ) → S.bytes self.old.reader.source ≡ Some b →
             IfErr result (IsCaused (length b)
             (inner_size (layout_of K.kind V.kind M.E)) (length lent.old) self.new.reader.left) }
+        // A lookup that ends takes the bytes of what it reads of the budget, and no others.
+        ensures takes { (b : List ℕ) → S.bytes self.old.reader.source ≡ Some b →
+            ByNative K.kind K.compared_at key (λ comparison. IfOk result (λ _. (all : ℕ)
+            × Takes K.kind V.kind M.E b K.lengths V.lengths comparison self.old.pos all
+            × (self.old.reader.left ≡ self.new.reader.left + all))) }
+        // Where the budget or the lent buffer is too small, one part that the lookup reads doesn't fit.
+        ensures lacks { (b : List ℕ) → S.bytes self.old.reader.source ≡ Some b →
+            ByNative K.kind K.compared_at key (λ comparison. IfErr result
+            (Lacks K.kind V.kind M.E b K.lengths V.lengths
+            (Reads K.kind V.kind M.E b K.lengths V.lengths comparison self.old.pos)
+            (inner_size (layout_of K.kind V.kind M.E)) self.old.reader.left (length lent.old))) }
+        // And a lookup that ends had room for all of them.
+        ensures fits { (b : List ℕ) → S.bytes self.old.reader.source ≡ Some b →
+            ByNative K.kind K.compared_at key (λ comparison. IfOk result (λ _.
+            EachFits K.kind V.kind M.E b K.lengths V.lengths
+            (Reads K.kind V.kind M.E b K.lengths V.lengths comparison self.old.pos)
+            (inner_size (layout_of K.kind V.kind M.E)) (length lent.old))) }
     {
         match self.get_by(key, lent) {
             Err(fault) => Err(fault),

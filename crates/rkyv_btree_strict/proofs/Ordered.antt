@@ -14,7 +14,7 @@ module _ {A B : Type 0} {order : A → A → Ordering} (total : IsTotalOrder ord
   joined : (front : List (A × B)) (last e : A × B) (m : List (A × B)) → (front ++ last ∷ []) ++ e ∷ m ≡ front ++ last ∷ e ∷ m
   joined front last e m = append_assoc front (last ∷ []) (e ∷ m)
 
-  -- what the search finds behind entries that increase
+  -- what the search finds after entries that increase
   found_after : (front : List (A × B)) (last : A × B) (m : List (A × B)) (index : ℕ) → Increasing order (front ++ last ∷ []) → index ≡ length front + 1
       → MatchOption (unordered_after order last.0 m index) (Increasing order (front ++ last ∷ m)) (IsOutOfOrder order (front ++ last ∷ m))
   found_after front last [] index h number = h

@@ -32,7 +32,7 @@ module _ (K V : Kind) (E : ℕ) where
   unchanged b c at m same is = subst (λ (d : List ℕ). HasItsKeys K V E m d at) (sym same) (m, is, refl)
 
   pub sets_keep : SetsKeepStrict K V E
-  sets_keep b c own at answer result m sets is = case sets.found sets.puts
+  sets_keep b c own at comparison result m sets is = case sets.found sets.puts
     where
       case : (found : Option (ℕ × ℕ)) → MatchOption found (c ≡ b) (λ e. PutsEntry K V E b at e own c) → HasItsKeys K V E m c at
       case None same = unchanged b c at m same is
@@ -41,14 +41,14 @@ module _ (K V : Kind) (E : ℕ) where
   further : (c : List ℕ) (at : ℕ) (m n : List (K.Value × V.Value)) → keys_of n ≡ keys_of m → HasItsKeys K V E n c at → HasItsKeys K V E m c at
   further c at m n same (l, is, keys) = (l, is, keys ∙ same)
 
-  after : {T : Type 0} {Ends Rest : Type 0} (answer : ControlFlow T (Unit {0})) (result : Option T) (n : List (K.Value × V.Value)) (c : List ℕ) (at : ℕ)
-      → Goes answer result Ends Rest → (Ends → HasItsKeys K V E n c at) → (Rest → HasItsKeys K V E n c at) → HasItsKeys K V E n c at
+  after : {T : Type 0} {Ends Rest : Type 0} (outcome : ControlFlow T (Unit {0})) (result : Option T) (n : List (K.Value × V.Value)) (c : List ℕ) (at : ℕ)
+      → Goes outcome result Ends Rest → (Ends → HasItsKeys K V E n c at) → (Rest → HasItsKeys K V E n c at) → HasItsKeys K V E n c at
   after (Break t) result n c at goes ends rest = ends goes.1
   after (Continue u) result n c at goes ends rest = rest goes
 
   module _ {X Y T F : Type 0} (step : F → LentKey X → MutBor (Seal Y) → ControlFlow T (Unit {0}) → MutBor (Seal Y) → F → Type 0) where
     pub visits_keep : VisitsKeepStrict K V E step
     visits_keep b c at [] first last result m visits is = unchanged b c at m visits.0 is
-    visits_keep b c at (e ∷ es) first last result m (answer, left, g, calls, goes) is =
+    visits_keep b c at (e ∷ es) first last result m (outcome, left, g, calls, goes) is =
         let one = puts_keep b left _ at e m calls.puts is in
-        further c at m one.0 one.2 (after answer result one.0 c at goes (λ ends. unchanged left c at one.0 ends.0 one.1) (λ rest. visits_keep left c at es g last result one.0 rest one.1))
+        further c at m one.0 one.2 (after outcome result one.0 c at goes (λ ends. unchanged left c at one.0 ends.0 one.1) (λ rest. visits_keep left c at es g last result one.0 rest one.1))

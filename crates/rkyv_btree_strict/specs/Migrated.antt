@@ -57,7 +57,7 @@ module _ {T U A B R S : Type 0} (cmp : T → T → Ordering) (K V : Kind) (KA : 
   IsUnmade (Memory error) = Unit {0}
   IsUnmade _ = ⊥
 
-  -- each fault's cause, and what it leaves: no native map is made; or its tree isn't built; or the map isn't written behind it
+  -- each fault's cause, and what it leaves: no native map is made; or its tree isn't built; or the map isn't written after it
   abbrev pub FailsToMigrate : {X : Type 0} → Writing → Fault X → Writing → Type 0
   FailsToMigrate {X} from fault to =
       (IsUnmade fault × (to ≡ from))

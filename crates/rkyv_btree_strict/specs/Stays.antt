@@ -25,7 +25,7 @@ module _ (K V : Kind) (E : ℕ) where
   -- after a write over the value that a lookup finds, if it finds one
   abbrev pub SetsKeepStrict : Type 0
   SetsKeepStrict =
-      (b c own : List ℕ) (at : ℕ) (answer : K.Value → Ordering) (found : Bool) (m : List (K.Value × V.Value)) → SetsFound K V E b at answer own c found
+      (b c own : List ℕ) (at : ℕ) (comparison : K.Value → Ordering) (found : Bool) (m : List (K.Value × V.Value)) → SetsFound K V E b at comparison own c found
       → IsStrictMap K V E b at m → HasItsKeys m c at
 
   -- and after a visit that may write over values

@@ -18,7 +18,7 @@ use rkyv_btree_view::view::View;
 use std::alloc::Global;
 use std::collections::BTreeMap;
 
-/// Deserializes a map and serializes the native map, whose keys increase, with the root behind it. Returns the root's position.
+/// Deserializes a map and serializes the native map, whose keys increase, with the root after it. Returns the root's position.
 /// Of entries with equal keys the last value remains. A map that is a value is made anew too.
 ///
 /// # Errors

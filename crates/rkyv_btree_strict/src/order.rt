@@ -2,7 +2,7 @@
 ghost use Rattle.std.specs.Prelude.{◌≡◌, ◌↔◌, IsTrue, MatchOption};
 ghost use Rattle.std.specs.declared.cmp.Ordering.TheVariants.{Less};
 ghost use Rattle.rkyv_btree_base.specs.Increasing.{Increasing, IsOutOfOrder};
-ghost use Rattle.rkyv_btree_view.specs.View.{entries_of, reads};
+ghost use Rattle.rkyv_btree_view.specs.View.{entries_of, view_value};
 
 use rkyv_btree_base::check::Portable;
 use rkyv_btree_view::compare::ViewOrd;
@@ -13,7 +13,7 @@ use rkyv_btree_walk::archived_map::ArchivedMap;
 /// Returns whether the first key is less than the second.
 #[inline(always)]
 fn is_less<K: ViewOrd>(first: &View<'_, K>, second: &View<'_, K>) -> bool
-    ensures { IsTrue result ↔ (K.kind.order (reads first.now) (reads second.now) ≡ Less) }
+    ensures { IsTrue result ↔ (K.kind.order (view_value first.now) (view_value second.now) ≡ Less) }
 {
     K::compare(first, second).is_lt()
 }

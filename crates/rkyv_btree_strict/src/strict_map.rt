@@ -10,7 +10,7 @@ ghost use Rattle.rkyv_btree_base.specs.Refusal.TheVariants.{OutOfOrder};
 ghost use Rattle.rkyv_btree_base.specs.Increasing.{Increasing, IsOutOfOrder};
 ghost use Rattle.rkyv_btree_view.specs.Items.{ShowsAll};
 ghost use Rattle.rkyv_btree_view.specs.Lookup.{ByNative};
-ghost use Rattle.rkyv_btree_view.specs.View.{reads, reads_both, entries_of};
+ghost use Rattle.rkyv_btree_view.specs.View.{view_value, view_entry, entries_of};
 ghost use Rattle.rkyv_btree_walk.specs.Bounds.{entries_within};
 
 use crate::order::first_out_of_order;
@@ -108,7 +108,7 @@ impl<'a, K: ViewOrd, V: Portable, M: ArchivedMap<Key = K, Mapped = V> + StrictEn
 
     /// Returns the value of the only key that is equal to `key`.
     pub fn get(self, key: View<'_, K>) -> Option<View<'a, V>>
-        ensures { option_map reads result ≡ lookup (is_at (K.kind.order (reads key.entry)))
+        ensures { option_map view_value result ≡ lookup (is_at (K.kind.order (view_value key.entry)))
             (entries_of K.kind V.kind M.E self.entry.view) }
     {
         self.view.get(key)
@@ -116,8 +116,8 @@ impl<'a, K: ViewOrd, V: Portable, M: ArchivedMap<Key = K, Mapped = V> + StrictEn
 
     /// Returns the only entry whose key is equal to `key`.
     pub fn get_key_value(self, key: View<'_, K>) -> Option<(View<'a, K>, View<'a, V>)>
-        ensures { option_map reads_both result
-            ≡ lookup_entry (is_at (K.kind.order (reads key.entry)))
+        ensures { option_map view_entry result
+            ≡ lookup_entry (is_at (K.kind.order (view_value key.entry)))
             (entries_of K.kind V.kind M.E self.entry.view) }
     {
         self.view.get_key_value(key)
@@ -125,7 +125,7 @@ impl<'a, K: ViewOrd, V: Portable, M: ArchivedMap<Key = K, Mapped = V> + StrictEn
 
     /// Returns whether a key is equal to `key`.
     pub fn contains_key(self, key: View<'_, K>) -> bool
-        ensures { result ≡ is_some (lookup (is_at (K.kind.order (reads key.entry)))
+        ensures { result ≡ is_some (lookup (is_at (K.kind.order (view_value key.entry)))
             (entries_of K.kind V.kind M.E self.entry.view)) }
     {
         self.view.contains_key(key)
@@ -135,8 +135,8 @@ impl<'a, K: ViewOrd, V: Portable, M: ArchivedMap<Key = K, Mapped = V> + StrictEn
     pub fn get_by<T: Drop>(self, key: T) -> Option<View<'a, V>>
     where
         K: CompareWith<T>,
-        ensures { ByNative K.kind K.compared_at key (λ answer. option_map reads result
-            ≡ lookup (is_at answer) (entries_of K.kind V.kind M.E self.entry.view)) }
+        ensures { ByNative K.kind K.compared_at key (λ comparison. option_map view_value result
+            ≡ lookup (is_at comparison) (entries_of K.kind V.kind M.E self.entry.view)) }
     {
         self.view.get_by(key)
     }
@@ -145,8 +145,8 @@ impl<'a, K: ViewOrd, V: Portable, M: ArchivedMap<Key = K, Mapped = V> + StrictEn
     pub fn get_key_value_by<T: Drop>(self, key: T) -> Option<(View<'a, K>, View<'a, V>)>
     where
         K: CompareWith<T>,
-        ensures { ByNative K.kind K.compared_at key (λ answer. option_map reads_both result
-            ≡ lookup_entry (is_at answer) (entries_of K.kind V.kind M.E self.entry.view)) }
+        ensures { ByNative K.kind K.compared_at key (λ comparison. option_map view_entry result
+            ≡ lookup_entry (is_at comparison) (entries_of K.kind V.kind M.E self.entry.view)) }
     {
         self.view.get_key_value_by(key)
     }
@@ -155,8 +155,8 @@ impl<'a, K: ViewOrd, V: Portable, M: ArchivedMap<Key = K, Mapped = V> + StrictEn
     pub fn contains_by<T: Drop>(self, key: T) -> bool
     where
         K: CompareWith<T>,
-        ensures { ByNative K.kind K.compared_at key (λ answer. result
-            ≡ is_some (lookup (is_at answer) (entries_of K.kind V.kind M.E self.entry.view))) }
+        ensures { ByNative K.kind K.compared_at key (λ comparison. result
+            ≡ is_some (lookup (is_at comparison) (entries_of K.kind V.kind M.E self.entry.view))) }
     {
         self.view.contains_by(key)
     }
@@ -173,8 +173,8 @@ impl<'a, K: ViewOrd, V: ToNative, M: ArchivedMap<Key = K, Mapped = V> + StrictEn
     where
         K: CompareWith<T>,
         ensures { ByReading V.kind V.read_native (λ native.
-            ByNative K.kind K.compared_at key (λ answer. result ≡ option_map native
-            (lookup (is_at answer) (entries_of K.kind V.kind M.E self.entry.view)))) }
+            ByNative K.kind K.compared_at key (λ comparison. result ≡ option_map native
+            (lookup (is_at comparison) (entries_of K.kind V.kind M.E self.entry.view)))) }
     {
         match self.get_by(key) {
             None => None,
@@ -192,7 +192,7 @@ impl<'a, K: ViewOrd, V: Portable, M: ArchivedMap<Key = K, Mapped = V> + StrictEn
     /// Returns an iterator over the entries, in the order of their keys.
     pub fn iter(self) -> Iter<'a, M>
         ensures yields { ShowsAll ⟦<Iter<'a, M> as Iterator>⟧.next_gives
-            reads_both result (entries_of K.kind V.kind M.E self.entry.view) }
+            view_entry result (entries_of K.kind V.kind M.E self.entry.view) }
         ensures entries { entries_left result ≡ entries_of K.kind V.kind M.E self.entry.view }
         ensures ends { IsFinite (⟦<Iter<'a, M> as Iterator>⟧.remaining result) }
     {
@@ -209,11 +209,11 @@ impl<'a, K: ViewOrd, V: Portable, M: ArchivedMap<Key = K, Mapped = V> + StrictEn
     /// Returns an iterator over the entries whose keys are within the bounds, in the order of their keys.
     pub fn range(self, low: Bound<View<'_, K>>, high: Bound<View<'_, K>>) -> Range<'a, M>
         ensures yields { ShowsAll ⟦<Range<'a, M> as Iterator>⟧.next_gives
-            reads_both result (range_left result) }
+            view_entry result (range_left result) }
         ensures ends { IsFinite (⟦<Range<'a, M> as Iterator>⟧.remaining result) }
         ensures within { range_left result
-            ≡ entries_within (bound_map (λ q. K.kind.order (reads q)) low.entry)
-            (bound_map (λ q. K.kind.order (reads q)) high.entry)
+            ≡ entries_within (bound_map (λ q. K.kind.order (view_value q)) low.entry)
+            (bound_map (λ q. K.kind.order (view_value q)) high.entry)
             (entries_of K.kind V.kind M.E self.entry.view) }
     {
         self.view.range(low, high)
@@ -224,7 +224,7 @@ impl<'a, K: ViewOrd, V: Portable, M: ArchivedMap<Key = K, Mapped = V> + StrictEn
     where
         K: CompareWith<T>,
         ensures yields { ShowsAll ⟦<Range<'a, M> as Iterator>⟧.next_gives
-            reads_both result (range_left result) }
+            view_entry result (range_left result) }
         ensures ends { IsFinite (⟦<Range<'a, M> as Iterator>⟧.remaining result) }
         ensures within { ByNativeBounds K.kind K.compared_at low high (λ lo hi. range_left result
             ≡ entries_within lo hi (entries_of K.kind V.kind M.E self.entry.view)) }
@@ -236,7 +236,7 @@ impl<'a, K: ViewOrd, V: Portable, M: ArchivedMap<Key = K, Mapped = V> + StrictEn
     where
         K: CompareWith<T>,
         ensures yields { ShowsAll ⟦<Range<'a, M> as Iterator>⟧.next_gives
-            reads_both result (range_left result) }
+            view_entry result (range_left result) }
         ensures ends { IsFinite (⟦<Range<'a, M> as Iterator>⟧.remaining result) }
         ensures within { R.has_bounds range → ByNativeBounds K.kind K.compared_at
             (R.start_bound range) (R.end_bound range) (λ lo hi. range_left result

@@ -17,7 +17,7 @@ ghost use Rattle.rkyv_btree_strict.specs.Strict.{IsStrictMap, RefusesStrict};
 ghost use Rattle.rkyv_btree_view.specs.Items.{ShowsAll};
 ghost use Rattle.rkyv_btree_view.specs.Lookup.{ByNative};
 ghost use Rattle.rkyv_btree_view.specs.Set.{keys_of};
-ghost use Rattle.rkyv_btree_view.specs.View.{reads, entries_of};
+ghost use Rattle.rkyv_btree_view.specs.View.{view_value, entries_of};
 ghost use Rattle.rkyv_btree_walk.specs.Bounds.{keys_within};
 
 use crate::strict::{access_strict as access_map, open_strict as open_map};
@@ -131,7 +131,7 @@ impl<'a, K: ViewOrd, const E: usize> Strict<'a, ArchivedBTreeSet<K, E>> {
 
     /// Returns an iterator over the keys, in order.
     pub fn iter(self) -> Iter<'a, K, E>
-        ensures yields { ShowsAll ⟦<Iter<'a, K, E> as Iterator>⟧.next_gives reads result
+        ensures yields { ShowsAll ⟦<Iter<'a, K, E> as Iterator>⟧.next_gives view_value result
             (keys_of K.kind E self.entry.view) }
         ensures ends { IsFinite (⟦<Iter<'a, K, E> as Iterator>⟧.remaining result) }
     {
@@ -140,15 +140,15 @@ impl<'a, K: ViewOrd, const E: usize> Strict<'a, ArchivedBTreeSet<K, E>> {
 
     /// Returns the set's own key that is equal to `key`.
     pub fn get(self, key: View<'_, K>) -> Option<View<'a, K>>
-        ensures { option_map reads result
-            ≡ find (is_at (K.kind.order (reads key.entry))) (keys_of K.kind E self.entry.view) }
+        ensures { option_map view_value result
+            ≡ find (is_at (K.kind.order (view_value key.entry))) (keys_of K.kind E self.entry.view) }
     {
         self.view.get(key)
     }
 
     /// Returns whether a key is equal to `key`.
     pub fn contains_key(self, key: View<'_, K>) -> bool
-        ensures { result ≡ is_some (find (is_at (K.kind.order (reads key.entry)))
+        ensures { result ≡ is_some (find (is_at (K.kind.order (view_value key.entry)))
             (keys_of K.kind E self.entry.view)) }
     {
         self.view.contains_key(key)
@@ -158,8 +158,8 @@ impl<'a, K: ViewOrd, const E: usize> Strict<'a, ArchivedBTreeSet<K, E>> {
     pub fn get_by<T: Drop>(self, key: T) -> Option<View<'a, K>>
     where
         K: CompareWith<T>,
-        ensures { ByNative K.kind K.compared_at key (λ answer. option_map reads result
-            ≡ find (is_at answer) (keys_of K.kind E self.entry.view)) }
+        ensures { ByNative K.kind K.compared_at key (λ comparison. option_map view_value result
+            ≡ find (is_at comparison) (keys_of K.kind E self.entry.view)) }
     {
         self.view.get_by(key)
     }
@@ -168,8 +168,8 @@ impl<'a, K: ViewOrd, const E: usize> Strict<'a, ArchivedBTreeSet<K, E>> {
     pub fn contains_by<T: Drop>(self, key: T) -> bool
     where
         K: CompareWith<T>,
-        ensures { ByNative K.kind K.compared_at key (λ answer. result
-            ≡ is_some (find (is_at answer) (keys_of K.kind E self.entry.view))) }
+        ensures { ByNative K.kind K.compared_at key (λ comparison. result
+            ≡ is_some (find (is_at comparison) (keys_of K.kind E self.entry.view))) }
     {
         self.view.contains_by(key)
     }
@@ -181,12 +181,12 @@ impl<'a, K: ViewOrd, const E: usize> Strict<'a, ArchivedBTreeSet<K, E>> {
 
     /// Returns an iterator over the keys within the bounds, in order.
     pub fn range(self, low: Bound<View<'_, K>>, high: Bound<View<'_, K>>) -> Range<'a, K, E>
-        ensures yields { ShowsAll ⟦<Range<'a, K, E> as Iterator>⟧.next_gives reads result
+        ensures yields { ShowsAll ⟦<Range<'a, K, E> as Iterator>⟧.next_gives view_value result
             (range_keys_left result) }
         ensures ends { IsFinite (⟦<Range<'a, K, E> as Iterator>⟧.remaining result) }
         ensures within { range_keys_left result
-            ≡ keys_within (bound_map (λ q. K.kind.order (reads q)) low.entry)
-            (bound_map (λ q. K.kind.order (reads q)) high.entry)
+            ≡ keys_within (bound_map (λ q. K.kind.order (view_value q)) low.entry)
+            (bound_map (λ q. K.kind.order (view_value q)) high.entry)
             (keys_of K.kind E self.entry.view) }
     {
         self.view.range(low, high)
@@ -196,7 +196,7 @@ impl<'a, K: ViewOrd, const E: usize> Strict<'a, ArchivedBTreeSet<K, E>> {
     pub fn range_by<T: Drop>(self, low: Bound<T>, high: Bound<T>) -> Range<'a, K, E>
     where
         K: CompareWith<T>,
-        ensures yields { ShowsAll ⟦<Range<'a, K, E> as Iterator>⟧.next_gives reads result
+        ensures yields { ShowsAll ⟦<Range<'a, K, E> as Iterator>⟧.next_gives view_value result
             (range_keys_left result) }
         ensures ends { IsFinite (⟦<Range<'a, K, E> as Iterator>⟧.remaining result) }
         ensures within { ByNativeBounds K.kind K.compared_at low high (λ lo hi.
@@ -208,7 +208,7 @@ impl<'a, K: ViewOrd, const E: usize> Strict<'a, ArchivedBTreeSet<K, E>> {
     pub fn range_of<T: Drop, R: RangeBounds<T>>(self, range: R) -> Range<'a, K, E>
     where
         K: CompareWith<T>,
-        ensures yields { ShowsAll ⟦<Range<'a, K, E> as Iterator>⟧.next_gives reads result
+        ensures yields { ShowsAll ⟦<Range<'a, K, E> as Iterator>⟧.next_gives view_value result
             (range_keys_left result) }
         ensures ends { IsFinite (⟦<Range<'a, K, E> as Iterator>⟧.remaining result) }
         ensures within { R.has_bounds range → ByNativeBounds K.kind K.compared_at
@@ -224,7 +224,7 @@ impl<'a, K: ViewOrd, const E: usize> IntoIterator for Strict<'a, ArchivedBTreeSe
 
     type IntoIter = Iter<'a, K, E>;
 
-    ghost into_iter_gives = { λ set keys. ShowsAll ⟦<Iter<'a, K, E> as Iterator>⟧.next_gives reads
+    ghost into_iter_gives = { λ set keys. ShowsAll ⟦<Iter<'a, K, E> as Iterator>⟧.next_gives view_value
         keys
         (keys_of K.kind E set.view) };
 

@@ -109,7 +109,7 @@ module _ (K V : Kind) (E : ℕ) (b : List ℕ) where
   is_head at r (bad_root h some bad) = placed at h ∙ rw (ne_eqb (map_len K V E b at) 0 some, is_place K V E at (place_at b at) _ bad) refl
   is_head at r (root h some ok) = placed at h ∙ rw (ne_eqb (map_len K V E b at) 0 some, is_place K V E at (place_at b at) _ ok) refl
 
-  module _ (answer : K.Value → Ordering) (KR VR : List ℕ → ℕ → ℕ → ℕ → Refusal → Type 0) (k : IsLawful K) (v : IsLawful V) (kr : AreRefusals K KR) (vr : AreRefusals V VR) where
+  module _ (comparison : K.Value → Ordering) (KR VR : List ℕ → ℕ → ℕ → ℕ → Refusal → Type 0) (k : IsLawful K) (v : IsLawful V) (kr : AreRefusals K KR) (vr : AreRefusals V VR) where
     -- what is refused isn't valid
     pub no_key : (e : Refusal) (at : ℕ) → KR b 0 at at e → IsTrue (stands K b at) → ⊥
     no_key e at h st = let m = means_read k b at st in kr.no_meaning b 0 at at e h m.left (K.read b at) m.means
@@ -117,16 +117,16 @@ module _ (K V : Kind) (E : ℕ) (b : List ℕ) where
     pub no_value : (e : Refusal) (at : ℕ) → VR b 0 at at e → IsTrue (stands V b at) → ⊥
     no_value e at h st = let m = means_read v b at st in vr.no_meaning b 0 at at e h m.left (V.read b at) m.means
 
-    -- a key gives one answer
-    unlike : (o w : Ordering) (e : ℕ × ℕ) → ¬ (o ≡ w) → Gives K V E b answer o e → Gives K V E b answer w e → ⊥
+    -- a key compares in one way
+    unlike : (o w : Ordering) (e : ℕ × ℕ) → ¬ (o ≡ w) → Gives K V E b comparison o e → Gives K V E b comparison w e → ⊥
     unlike o w e other g h = other (sym g.gives ∙ h.gives)
 
     module _ (p n : ℕ) where
       -- where the search of the node ends: each key before gives Greater, and the one there doesn't
       record Ends (i : ℕ) : Type 0 where
         within : i ≤ n
-        before : (j : ℕ) → j < i → Gives K V E b answer Greater (p, j)
-        ends : i < n → Gives K V E b answer Greater (p, i) → ⊥
+        before : (j : ℕ) → j < i → Gives K V E b comparison Greater (p, j)
+        ends : i < n → Gives K V E b comparison Greater (p, i) → ⊥
 
       one_end : (i j : ℕ) → Ends i → Ends j → i ≡ j
       one_end i j x y =
@@ -138,17 +138,17 @@ module _ (K V : Kind) (E : ℕ) (b : List ℕ) where
             ]
           ]
 
-      key_ends : (i : ℕ) (e : Refusal) → Asks K V E b answer p n i → KR b 0 (key_place K V E (p, i)) (key_place K V E (p, i)) e → Ends i
+      key_ends : (i : ℕ) (e : Refusal) → Asks K V E b comparison p n i → KR b 0 (key_place K V E (p, i)) (key_place K V E (p, i)) e → Ends i
       key_ends i e a h = let w = a.within in record { within = omega (arith, w); before = a.before; ends = λ l g. no_key e (key_place K V E (p, i)) h g.valid }
 
-      equal_ends : (i : ℕ) → Asks K V E b answer p n i → Gives K V E b answer Equal (p, i) → Ends i
+      equal_ends : (i : ℕ) → Asks K V E b comparison p n i → Gives K V E b comparison Equal (p, i) → Ends i
       equal_ends i a q = let w = a.within in record { within = omega (arith, w); before = a.before; ends = λ l g. unlike Equal Greater (p, i) (λ e. cc) q g }
 
-      stop_ends : (i : ℕ) → StopsBefore K V E b answer p n i → Ends i
+      stop_ends : (i : ℕ) → StopsBefore K V E b comparison p n i → Ends i
       stop_ends i s = record { within = s.within; before = s.before; ends = λ l g. unlike Less Greater (p, i) (λ e. cc) (s.less l) g }
 
       -- the keys of a node give one result
-      one_keys : (r s : Result Halt Refusal) → KeysGive K V E b answer KR VR p n r → KeysGive K V E b answer KR VR p n s → r ≡ s
+      one_keys : (r s : Result Halt Refusal) → KeysGive K V E b comparison KR VR p n r → KeysGive K V E b comparison KR VR p n s → r ≡ s
       one_keys r s (bad_key {i = i} {e = e} a h) (bad_key {i = j} {e = d} c m) =
           let same : i ≡ j = one_end i j (key_ends i e a h) (key_ends j d c m) in
           let there : KR b 0 (key_place K V E (p, j)) (key_place K V E (p, j)) e = subst (λ (x : ℕ). KR b 0 (key_place K V E (p, x)) (key_place K V E (p, x)) e) same h in
@@ -178,7 +178,7 @@ module _ (K V : Kind) (E : ℕ) (b : List ℕ) where
           let same : i ≡ j = one_end i j (equal_ends i a g) (stop_ends j t) in
           let w = a.within in
           let here : j < n = omega (arith, same, w) in
-          absurd (unlike Equal Less (p, j) (λ x. cc) (subst (λ (x : ℕ). Gives K V E b answer Equal (p, x)) same g) (t.less here))
+          absurd (unlike Equal Less (p, j) (λ x. cc) (subst (λ (x : ℕ). Gives K V E b comparison Equal (p, x)) same g) (t.less here))
       one_keys r s (equal_key {i = i} a g h) (bad_key {i = j} {e = d} c m) =
           let same : j ≡ i = one_end j i (key_ends j d c m) (equal_ends i a g) in
           absurd (no_key d (key_place K V E (p, i)) (subst (λ (x : ℕ). KR b 0 (key_place K V E (p, x)) (key_place K V E (p, x)) d) same m) g.valid)
@@ -190,7 +190,7 @@ module _ (K V : Kind) (E : ℕ) (b : List ℕ) where
           let same : i ≡ j = one_end i j (equal_ends i a g) (stop_ends j t) in
           let w = a.within in
           let here : j < n = omega (arith, same, w) in
-          absurd (unlike Equal Less (p, j) (λ x. cc) (subst (λ (x : ℕ). Gives K V E b answer Equal (p, x)) same g) (t.less here))
+          absurd (unlike Equal Less (p, j) (λ x. cc) (subst (λ (x : ℕ). Gives K V E b comparison Equal (p, x)) same g) (t.less here))
       one_keys r s (stops {i = i} t) (bad_key {i = j} {e = d} c m) =
           let same : j ≡ i = one_end j i (key_ends j d c m) (stop_ends i t) in
           let w = c.within in
@@ -200,31 +200,31 @@ module _ (K V : Kind) (E : ℕ) (b : List ℕ) where
           let same : j ≡ i = one_end j i (equal_ends j c q) (stop_ends i t) in
           let w = c.within in
           let here : i < n = omega (arith, same, w) in
-          absurd (unlike Equal Less (p, i) (λ x. cc) (subst (λ (x : ℕ). Gives K V E b answer Equal (p, x)) same q) (t.less here))
+          absurd (unlike Equal Less (p, i) (λ x. cc) (subst (λ (x : ℕ). Gives K V E b comparison Equal (p, x)) same q) (t.less here))
       one_keys r s (stops {i = i} t) (equal_key {i = j} c q m) =
           let same : j ≡ i = one_end j i (equal_ends j c q) (stop_ends i t) in
           let w = c.within in
           let here : i < n = omega (arith, same, w) in
-          absurd (unlike Equal Less (p, i) (λ x. cc) (subst (λ (x : ℕ). Gives K V E b answer Equal (p, x)) same q) (t.less here))
+          absurd (unlike Equal Less (p, i) (λ x. cc) (subst (λ (x : ℕ). Gives K V E b comparison Equal (p, x)) same q) (t.less here))
       one_keys r s (stops {i = i} t) (stops {i = j} u) = ap (λ (x : ℕ). Ok (Below x)) (one_end i j (stop_ends i t) (stop_ends j u))
 
     abbrev R : Type 0
     R = Result (Option (ℕ × ℕ)) Refusal
 
-    one_child : (tree : ℕ → R → Type 0) → ((q : ℕ) (r s : R) → tree q r → tree q s → r ≡ s) → (c : Option ℕ) (r s : R) → AtChild K V E b answer KR VR tree c r → AtChild K V E b answer KR VR tree c s → r ≡ s
+    one_child : (tree : ℕ → R → Type 0) → ((q : ℕ) (r s : R) → tree q r → tree q s → r ≡ s) → (c : Option ℕ) (r s : R) → AtChild K V E b comparison KR VR tree c r → AtChild K V E b comparison KR VR tree c s → r ≡ s
     one_child tree one None r s h m = h ∙ sym m
     one_child tree one (Some q) r s h m = one q r s h m
 
-    one_halt : (tree : ℕ → R → Type 0) → ((q : ℕ) (r s : R) → tree q r → tree q s → r ≡ s) → (hi p : ℕ) (halt : Halt) (r s : R) → AtHalt K V E b answer KR VR tree hi p halt r → AtHalt K V E b answer KR VR tree hi p halt s → r ≡ s
+    one_halt : (tree : ℕ → R → Type 0) → ((q : ℕ) (r s : R) → tree q r → tree q s → r ≡ s) → (hi p : ℕ) (halt : Halt) (r s : R) → AtHalt K V E b comparison KR VR tree hi p halt r → AtHalt K V E b comparison KR VR tree hi p halt s → r ≡ s
     one_halt tree one hi p (Found i) r s h m = h ∙ sym m
     one_halt tree one hi p (Below i) r s h m = one_then (λ x y c d. sym (is_child hi p i x c) ∙ is_child hi p i y d) (one_child tree one) r s h m
 
-    one_tree : (levels hi p : ℕ) (r s : R) → TreeGives K V E b answer KR VR levels hi p r → TreeGives K V E b answer KR VR levels hi p s → r ≡ s
+    one_tree : (levels hi p : ℕ) (r s : R) → TreeGives K V E b comparison KR VR levels hi p r → TreeGives K V E b comparison KR VR levels hi p s → r ≡ s
     unfolding TreeGives
     one_tree zero hi p r s h m = h ∙ sym m
     one_tree (suc levels) hi p r s h m =
         one_then (λ x y c d. sym (is_node hi p x c) ∙ is_node hi p y d)
-        (λ n. one_then (one_keys p n) (one_halt (TreeGives K V E b answer KR VR levels p) (λ q. one_tree levels p q) hi p)) r s h m
+        (λ n. one_then (one_keys p n) (one_halt (TreeGives K V E b comparison KR VR levels p) (λ q. one_tree levels p q) hi p)) r s h m
 
-    pub one_lookup : (at : ℕ) (r s : R) → LookupGives K V E b answer KR VR at r → LookupGives K V E b answer KR VR at s → r ≡ s
-    one_lookup at r s h m = one_then (λ x y c d. sym (is_head at x c) ∙ is_head at y d) (one_child (TreeGives K V E b answer KR VR 32 at) (λ q. one_tree 32 at q)) r s h m
+    pub one_lookup : (at : ℕ) (r s : R) → LookupGives K V E b comparison KR VR at r → LookupGives K V E b comparison KR VR at s → r ≡ s
+    one_lookup at r s h m = one_then (λ x y c d. sym (is_head at x c) ∙ is_head at y d) (one_child (TreeGives K V E b comparison KR VR 32 at) (λ q. one_tree 32 at q)) r s h m

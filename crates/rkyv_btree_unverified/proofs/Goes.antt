@@ -41,9 +41,9 @@ module _ (K V : Kind) (E : ℕ) (b : List ℕ) (hi p n : ℕ) where
   pub inner_of : NodeGives K V E b hi p (Ok n) → ¬ (slice_index b p ≡ 0) → IsInner K V E b 0 hi p
   inner_of gives other = inner_from (Ok n) gives refl other
 
-module _ (K V : Kind) (E : ℕ) (b : List ℕ) (answer : K.Value → Ordering) (KR VR : List ℕ → ℕ → ℕ → ℕ → Refusal → Type 0) where
+module _ (K V : Kind) (E : ℕ) (b : List ℕ) (comparison : K.Value → Ordering) (KR VR : List ℕ → ℕ → ℕ → ℕ → Refusal → Type 0) where
   abbrev Tree : ℕ → ℕ → ℕ → Result (Option (ℕ × ℕ)) Refusal → Type 0
-  Tree = TreeGives K V E b answer KR VR
+  Tree = TreeGives K V E b comparison KR VR
 
   pub no_levels : (hi p : ℕ) → Tree 0 hi p (Err (TooDeep (pos p)))
   unfolding TreeGives
@@ -56,7 +56,7 @@ module _ (K V : Kind) (E : ℕ) (b : List ℕ) (answer : K.Value → Ordering) (
   levels_are hi p r levels more same h = subst (λ (k : ℕ). Tree k hi p r) same h
 
   module _ (m hi p : ℕ) where
-    stepped : (r : Result (Option (ℕ × ℕ)) Refusal) → Then (NodeGives K V E b hi p) (λ n. Then (KeysGive K V E b answer KR VR p n) (AtHalt K V E b answer KR VR (Tree m p) hi p)) r → Tree (suc m) hi p r
+    stepped : (r : Result (Option (ℕ × ℕ)) Refusal) → Then (NodeGives K V E b hi p) (λ n. Then (KeysGive K V E b comparison KR VR p n) (AtHalt K V E b comparison KR VR (Tree m p) hi p)) r → Tree (suc m) hi p r
     unfolding TreeGives
     stepped r h = h
 
@@ -64,18 +64,18 @@ module _ (K V : Kind) (E : ℕ) (b : List ℕ) (answer : K.Value → Ordering) (
     node_refuses e h = stepped (Err e) (record { result = Err e; gives = h; goes_on = refl })
 
     module _ (n : ℕ) (node : NodeGives K V E b hi p (Ok n)) where
-      pub keys_refuse : (e : Refusal) → KeysGive K V E b answer KR VR p n (Err e) → Tree (suc m) hi p (Err e)
+      pub keys_refuse : (e : Refusal) → KeysGive K V E b comparison KR VR p n (Err e) → Tree (suc m) hi p (Err e)
       keys_refuse e h = stepped (Err e) (record { result = Ok n; gives = node; goes_on = record { result = Err e; gives = h; goes_on = refl } })
 
-      pub hits : (i : ℕ) (halt : Halt) → halt ≡ Found i → KeysGive K V E b answer KR VR p n (Ok halt) → Tree (suc m) hi p (Ok (Some (p, i)))
+      pub hits : (i : ℕ) (halt : Halt) → halt ≡ Found i → KeysGive K V E b comparison KR VR p n (Ok halt) → Tree (suc m) hi p (Ok (Some (p, i)))
       hits i halt is h =
-          let keys : KeysGive K V E b answer KR VR p n (Ok (Found i)) = rw is at h in
+          let keys : KeysGive K V E b comparison KR VR p n (Ok (Found i)) = rw is at h in
           stepped (Ok (Some (p, i))) (record { result = Ok n; gives = node; goes_on = record { result = Ok (Found i); gives = keys; goes_on = refl } })
 
-      module _ (i : ℕ) (halt : Halt) (is : halt ≡ Below i) (h : KeysGive K V E b answer KR VR p n (Ok halt)) where
-        pub goes_below : (c : Result (Option ℕ) Refusal) (r : Result (Option (ℕ × ℕ)) Refusal) → ChildGives K V E b hi p i c → GoesOn (AtChild K V E b answer KR VR (Tree m p)) c r → Tree (suc m) hi p r
+      module _ (i : ℕ) (halt : Halt) (is : halt ≡ Below i) (h : KeysGive K V E b comparison KR VR p n (Ok halt)) where
+        pub goes_below : (c : Result (Option ℕ) Refusal) (r : Result (Option (ℕ × ℕ)) Refusal) → ChildGives K V E b hi p i c → GoesOn (AtChild K V E b comparison KR VR (Tree m p)) c r → Tree (suc m) hi p r
         goes_below c r gives on =
-            let keys : KeysGive K V E b answer KR VR p n (Ok (Below i)) = rw is at h in
+            let keys : KeysGive K V E b comparison KR VR p n (Ok (Below i)) = rw is at h in
             stepped r (record { result = Ok n; gives = node; goes_on = record { result = Ok (Below i); gives = keys; goes_on = record { result = c; gives = gives; goes_on = on } } })
 
         pub ends_in_leaf : slice_index b p ≡ 0 → Tree (suc m) hi p (Ok None)
@@ -92,7 +92,7 @@ module _ (K V : Kind) (E : ℕ) (b : List ℕ) (answer : K.Value → Ordering) (
           goes_down z q to place r rest = goes_below (Ok (Some q)) r (child (inner_of K V E b hi p n node other) to place) rest
 
     -- what is known of the next step, where it is this one
-    module _ (next : Next) (h : NextGives K V E b answer KR VR m hi p (Ok next)) where
+    module _ (next : Next) (h : NextGives K V E b comparison KR VR m hi p (Ok next)) where
       pub hit_gives : (i : ℕ) → next ≡ Hit i → Tree (suc m) hi p (Ok (Some (p, i)))
       hit_gives i is = rw is at h
 

@@ -8,7 +8,7 @@ use Rattle.rkyv_btree_base.specs.Refusal.{Refusal}
 use Rattle.rkyv_btree_base.specs.Layout.{NodeLayout, layout_of, are_fitting, pointer_at}
 use Rattle.std.specs.declared.cmp.Ordering.{Ordering}
 use Rattle.std.specs.declared.cmp.Ordering.TheVariants.{Less, Equal, Greater}
-use Rattle.rkyv_btree_walk.specs.mirror.Search.{answers_at, searched, searched_map}
+use Rattle.rkyv_btree_walk.specs.mirror.Search.{comparison_at, searched, searched_map}
 use Rattle.std.specs.Option.{option_map}
 use Rattle.rkyv_btree_base.specs.Read.{entry_at}
 use Rattle.rkyv_btree_view.specs.Lookup.{found_at}
@@ -24,7 +24,7 @@ use Rattle.rkyv_btree_base.specs.laws.Views.{stands_of}
 use Rattle.rkyv_btree_base.proofs.MapLaws.{map_laws, map_length}
 use Rattle.rkyv_btree_walk.proofs.Roots.{root_searched}
 use Rattle.rkyv_btree_unverified.specs.Steps.{key_place, HasRoom, Gives, KeysGive, equal_key, stops}
-use Rattle.rkyv_btree_unverified.specs.mirror.Passes.{asked_by, NextCounts, NodePasses, TreePasses, Passes, HaltStands, NextStands, NextPasses, NextFinds, NextEqual}
+use Rattle.rkyv_btree_unverified.specs.mirror.Passes.{comparisons_by, NextCounts, NodePasses, TreePasses, Passes, HaltStands, NextStands, NextPasses, NextFinds, NextEqual}
 use Rattle.rkyv_btree_unverified.specs.declared.unverified_search.Halt.{Halt}
 use Rattle.rkyv_btree_unverified.specs.declared.unverified_search.Halt.TheVariants.{Found, Below}
 use Rattle.rkyv_btree_unverified.specs.declared.unverified_search.Next.{Next}
@@ -136,26 +136,26 @@ pub with_level : (K V : Kind) (E : ℕ) (b : List ℕ) (levels hi p : ℕ) → P
 with_level K V E b levels hi p h = subst (λ n. Passes K V E b n hi p) (levels_left K V E b levels hi p h) h
 
 -- the search of a map that was checked stops there too
-module _ (K V : Kind) (E : ℕ) (b : List ℕ) (answer : K.Value → Ordering) (KR VR : List ℕ → ℕ → ℕ → ℕ → Refusal → Type 0) (p n i : ℕ) where
-  at_found : KeysGive K V E b answer KR VR p n (Ok (Found i))
-      → (i < n) × ((k : ℕ) → k < i → answers_at K V E b answer (p, k) ≡ Greater) × (answers_at K V E b answer (p, i) ≡ Equal)
+module _ (K V : Kind) (E : ℕ) (b : List ℕ) (comparison : K.Value → Ordering) (KR VR : List ℕ → ℕ → ℕ → ℕ → Refusal → Type 0) (p n i : ℕ) where
+  at_found : KeysGive K V E b comparison KR VR p n (Ok (Found i))
+      → (i < n) × ((k : ℕ) → k < i → comparison_at K V E b comparison (p, k) ≡ Greater) × (comparison_at K V E b comparison (p, i) ≡ Equal)
   at_found (equal_key asks equal valid) = (asks.within, λ k l. (asks.before k l).gives, equal.gives)
 
-  at_below : KeysGive K V E b answer KR VR p n (Ok (Below i))
-      → (i ≤ n) × ((k : ℕ) → k < i → answers_at K V E b answer (p, k) ≡ Greater) × (i < n → answers_at K V E b answer (p, i) ≡ Less)
+  at_below : KeysGive K V E b comparison KR VR p n (Ok (Below i))
+      → (i ≤ n) × ((k : ℕ) → k < i → comparison_at K V E b comparison (p, k) ≡ Greater) × (i < n → comparison_at K V E b comparison (p, i) ≡ Less)
   at_below (stops s) = (s.within, λ k l. (s.before k l).gives, λ l. (s.less l).gives)
 
-  module _ (halt : Halt) (h : KeysGive K V E b answer KR VR p n (Ok halt)) where
-    pub found_stops : halt ≡ Found i → (i < n) × ((k : ℕ) → k < i → answers_at K V E b answer (p, k) ≡ Greater) × (answers_at K V E b answer (p, i) ≡ Equal)
-    found_stops is = let keys : KeysGive K V E b answer KR VR p n (Ok (Found i)) = rw is at h in at_found keys
+  module _ (halt : Halt) (h : KeysGive K V E b comparison KR VR p n (Ok halt)) where
+    pub found_stops : halt ≡ Found i → (i < n) × ((k : ℕ) → k < i → comparison_at K V E b comparison (p, k) ≡ Greater) × (comparison_at K V E b comparison (p, i) ≡ Equal)
+    found_stops is = let keys : KeysGive K V E b comparison KR VR p n (Ok (Found i)) = rw is at h in at_found keys
 
-    pub below_stops : halt ≡ Below i → (i ≤ n) × ((k : ℕ) → k < i → answers_at K V E b answer (p, k) ≡ Greater) × (i < n → answers_at K V E b answer (p, i) ≡ Less)
-    below_stops is = let keys : KeysGive K V E b answer KR VR p n (Ok (Below i)) = rw is at h in at_below keys
+    pub below_stops : halt ≡ Below i → (i ≤ n) × ((k : ℕ) → k < i → comparison_at K V E b comparison (p, k) ≡ Greater) × (i < n → comparison_at K V E b comparison (p, i) ≡ Less)
+    below_stops is = let keys : KeysGive K V E b comparison KR VR p n (Ok (Below i)) = rw is at h in at_below keys
 
 -- a key that is valid where the layout has it
-pub gives_at : (K V : Kind) (E : ℕ) (b : List ℕ) (answer : K.Value → Ordering) (o : Ordering) (e : ℕ × ℕ) (at : ℕ) → at ≡ key_place K V E e → IsTrue (stands K b at)
-    → answer (K.read b at) ≡ o → Gives K V E b answer o e
-gives_at K V E b answer o e at same v g = record { valid = subst (λ x. IsTrue (stands K b x)) same v; gives = subst (λ x. answer (K.read b x) ≡ o) same g }
+pub gives_at : (K V : Kind) (E : ℕ) (b : List ℕ) (comparison : K.Value → Ordering) (o : Ordering) (e : ℕ × ℕ) (at : ℕ) → at ≡ key_place K V E e → IsTrue (stands K b at)
+    → comparison (K.read b at) ≡ o → Gives K V E b comparison o e
+gives_at K V E b comparison o e at same v g = record { valid = subst (λ x. IsTrue (stands K b x)) same v; gives = subst (λ x. comparison (K.read b x) ≡ o) same g }
 
 pub below_within : (K V : Kind) (E : ℕ) (b : List ℕ) (p n i : ℕ) (halt : Halt) → halt ≡ Below i → HaltStands K V E b p n halt → i ≤ n
 below_within K V E b p n i halt is h = rw is at h
@@ -167,14 +167,14 @@ module _ (K V : Kind) (E : ℕ) (b : List ℕ) (m p : ℕ) (next : Next) where
   pub down_passes : (q : ℕ) → next ≡ Down q → NextPasses K V E b m p next → Passes K V E b m p q
   down_passes q is h = rw is at h
 
-  module _ (answer : ℕ × ℕ → Ordering) (found : Option (ℕ × ℕ)) (h : NextFinds (layout_of K V E) b answer m p found next) where
+  module _ (comparison : ℕ × ℕ → Ordering) (found : Option (ℕ × ℕ)) (h : NextFinds (layout_of K V E) b comparison m p found next) where
     pub hit_finds : (i : ℕ) → next ≡ Hit i → found ≡ Some (p, i)
     hit_finds i is = rw is at h
 
     pub miss_finds : next ≡ Miss → found ≡ None
     miss_finds is = rw is at h
 
-    pub down_finds : (q : ℕ) → next ≡ Down q → found ≡ (searched (layout_of K V E) b answer m q).0
+    pub down_finds : (q : ℕ) → next ≡ Down q → found ≡ (searched (layout_of K V E) b comparison m q).0
     down_finds q is = rw is at h
 
 pub child_none : (s : NodeLayout) (b : List ℕ) (p i : ℕ) → is_leaf s b p ≡ false → target_at b (p + pointer_at s i) ≡ None → child_place s b p i ≡ None
@@ -191,8 +191,8 @@ child_fits K V E b m hi p i (pos q) h e le t =
     let node = pass_node K V E b m p q (child_passes K V E b m hi p i q h le (child_some (layout_of K V E) b p i q (pos q) e t refl)).passes in
     (q, refl, record { room = node.leaf_room; aligned = node.aligned })
 
-pub found_on : (s : NodeLayout) (b : List ℕ) (answer : ℕ × ℕ → Ordering) (levels m p : ℕ) {r found : Option (ℕ × ℕ)} → r ≡ (searched s b answer levels p).0 → levels ≡ suc m → (searched s b answer (suc m) p).0 ≡ found → r ≡ found
-found_on s b answer levels m p is e f = rw (is, e, f) refl
+pub found_on : (s : NodeLayout) (b : List ℕ) (comparison : ℕ × ℕ → Ordering) (levels m p : ℕ) {r found : Option (ℕ × ℕ)} → r ≡ (searched s b comparison levels p).0 → levels ≡ suc m → (searched s b comparison (suc m) p).0 ≡ found → r ≡ found
+found_on s b comparison levels m p is e f = rw (is, e, f) refl
 
 pub target_none : (b : List ℕ) (at : ℕ) → number_at b at 4 ≡ 1 → target_at b at ≡ None
 unfolding target_at
@@ -212,56 +212,56 @@ module _ (K V : Kind) (E : ℕ) (b : List ℕ) (k : IsLawful K) (v : IsLawful V)
       ]
 
   -- and its search is that of the map
-  pub root_finds : (q : ℕ) → place_at b at ≡ pos q → (answer : ℕ × ℕ → Ordering) → (searched (layout_of K V E) b answer 32 q).0 ≡ (searched_map (layout_of K V E) b answer at).0
-  root_finds q to answer =
+  pub root_finds : (q : ℕ) → place_at b at ≡ pos q → (comparison : ℕ × ℕ → Ordering) → (searched (layout_of K V E) b comparison 32 q).0 ≡ (searched_map (layout_of K V E) b comparison at).0
+  root_finds q to comparison =
       let st : IsTrue (stands (map_kind K V E) b at) = stands_of (map_laws K V E k v) fits b 0 at at left m h in
       let n = map_length K V E k v b at st in
       let some2 : 0 < number_at b (at + 4) 4 = omega (arith, some) in
-      ap (λ r. r.0) (root_searched K V E k v b at st (omega (arith, n, some2)) q (rw to refl) answer)
+      ap (λ r. r.0) (root_searched K V E k v b at st (omega (arith, n, some2)) q (rw to refl) comparison)
 
   -- and asks as many entries
-  pub root_asks : (q : ℕ) → place_at b at ≡ pos q → (answer : ℕ × ℕ → Ordering) → (searched (layout_of K V E) b answer 32 q).1 ≡ (searched_map (layout_of K V E) b answer at).1
-  root_asks q to answer =
+  pub root_asks : (q : ℕ) → place_at b at ≡ pos q → (comparison : ℕ × ℕ → Ordering) → (searched (layout_of K V E) b comparison 32 q).1 ≡ (searched_map (layout_of K V E) b comparison at).1
+  root_asks q to comparison =
       let st : IsTrue (stands (map_kind K V E) b at) = stands_of (map_laws K V E k v) fits b 0 at at left m h in
       let n = map_length K V E k v b at st in
       let some2 : 0 < number_at b (at + 4) 4 = omega (arith, some) in
-      ap (λ r. r.1) (root_searched K V E k v b at st (omega (arith, n, some2)) q (rw to refl) answer)
+      ap (λ r. r.1) (root_searched K V E k v b at st (omega (arith, n, some2)) q (rw to refl) comparison)
 
 -- what is found at a place is what a lookup in a map that was checked finds
-pub found_there : (K V : Kind) (E : ℕ) (b : List ℕ) (at : ℕ) (compare : K.Value → Ordering) (place found : Option (ℕ × ℕ)) → place ≡ found → place ≡ (searched_map (layout_of K V E) b (answers_at K V E b compare) at).0
+pub found_there : (K V : Kind) (E : ℕ) (b : List ℕ) (at : ℕ) (compare : K.Value → Ordering) (place found : Option (ℕ × ℕ)) → place ≡ found → place ≡ (searched_map (layout_of K V E) b (comparison_at K V E b compare) at).0
     → option_map (entry_at K V E b) found ≡ found_at K V E b at compare
 found_there K V E b at compare place found is h = ap (option_map (entry_at K V E b)) (sym is ∙ h)
 
-pub hit_equal : (answer : ℕ × ℕ → Ordering) (p i : ℕ) (next : Next) → next ≡ Hit i → NextEqual answer p next → answer (p, i) ≡ Equal
-hit_equal answer p i next is h = rw is at h
+pub hit_equal : (comparison : ℕ × ℕ → Ordering) (p i : ℕ) (next : Next) → next ≡ Hit i → NextEqual comparison p next → comparison (p, i) ≡ Equal
+hit_equal comparison p i next is h = rw is at h
 
 -- and it is equal
-pub equal_there : (K V : Kind) (E : ℕ) (b : List ℕ) (compare : K.Value → Ordering) (place : Option (ℕ × ℕ)) (e : ℕ × ℕ) (r : K.Value × V.Value) → place ≡ Some e → IfSome place (λ e. answers_at K V E b compare e ≡ Equal) → r ≡ entry_at K V E b e → compare r.0 ≡ Equal
-equal_there K V E b compare place e r is h reads = ap (λ x. compare x.0) reads ∙ (rw is at h)
+pub equal_there : (K V : Kind) (E : ℕ) (b : List ℕ) (compare : K.Value → Ordering) (place : Option (ℕ × ℕ)) (e : ℕ × ℕ) (r : K.Value × V.Value) → place ≡ Some e → IfSome place (λ e. comparison_at K V E b compare e ≡ Equal) → r ≡ entry_at K V E b e → compare r.0 ≡ Equal
+equal_there K V E b compare place e r is h read = ap (λ x. compare x.0) read ∙ (rw is at h)
 
 -- how many entries were asked, where the search of a node stops here
-pub found_asked : (n i before after : ℕ) (halt : Halt) → halt ≡ Found i → after ≡ before + asked_by n halt → after ≡ before + (i + 1)
-found_asked n i before after halt is h = rw is at h
+pub found_compared : (n i before after : ℕ) (halt : Halt) → halt ≡ Found i → after ≡ before + comparisons_by n halt → after ≡ before + (i + 1)
+found_compared n i before after halt is h = rw is at h
 
-pub below_asked : (n i before after : ℕ) (halt : Halt) → halt ≡ Below i → after ≡ before + asked_by n halt → after ≡ before + min (i + 1) n
-below_asked n i before after halt is h = rw is at h
+pub below_compared : (n i before after : ℕ) (halt : Halt) → halt ≡ Below i → after ≡ before + comparisons_by n halt → after ≡ before + min (i + 1) n
+below_compared n i before after halt is h = rw is at h
 
-module _ (s : NodeLayout) (b : List ℕ) (answer : ℕ × ℕ → Ordering) (m before after all : ℕ) (next : Next) (h : NextCounts s b answer m before after all next) where
+module _ (s : NodeLayout) (b : List ℕ) (comparison : ℕ × ℕ → Ordering) (m before after all : ℕ) (next : Next) (h : NextCounts s b comparison m before after all next) where
   pub hit_counts : (i : ℕ) → next ≡ Hit i → after ≡ before + all
   hit_counts i is = rw is at h
 
   pub miss_counts : next ≡ Miss → after ≡ before + all
   miss_counts is = rw is at h
 
-  pub down_counts : (q : ℕ) → next ≡ Down q → after + (searched s b answer m q).1 ≡ before + all
+  pub down_counts : (q : ℕ) → next ≡ Down q → after + (searched s b comparison m q).1 ≡ before + all
   down_counts q is = rw is at h
 
 -- a level has room for E entries
 pub level_more : (E levels m : ℕ) → levels ≡ suc m → E * levels ≡ E * m + E
 level_more E levels m is = rw is (let d : E * (1 + m) ≡ E + E * m = grind arith in omega (arith, d))
 
-pub asked_on : (s : NodeLayout) (b : List ℕ) (answer : ℕ × ℕ → Ordering) (levels m p : ℕ) → levels ≡ suc m → (searched s b answer levels p).1 ≡ (searched s b answer (suc m) p).1
-asked_on s b answer levels m p is = rw is refl
+pub compared_on : (s : NodeLayout) (b : List ℕ) (comparison : ℕ × ℕ → Ordering) (levels m p : ℕ) → levels ≡ suc m → (searched s b comparison levels p).1 ≡ (searched s b comparison (suc m) p).1
+compared_on s b comparison levels m p is = rw is refl
 
 -- own bytes that lie in the buffer, aligned, aren't misplaced
 pub not_misplaced : (b : List ℕ) (at : ℕ) (e : Refusal) → length b ≤ 4294967295 → at + 8 ≤ length b → at % 4 ≡ 0 → Misplaced b 8 4 at e → ⊥

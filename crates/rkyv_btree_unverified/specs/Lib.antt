@@ -1,4 +1,10 @@
 -- What lookups promise in bytes that nobody has validated.
 pub mod Lookups
 pub mod Steps
+pub mod UnverifiedIter
+pub mod UnverifiedKeys
+pub mod UnverifiedRange
+pub mod UnverifiedRangeKeys
+pub mod Walks
+pub mod laws
 pub mod mirror

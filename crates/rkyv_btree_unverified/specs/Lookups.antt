@@ -14,7 +14,7 @@ use Rattle.rkyv_btree_unverified.specs.declared.unverified_search.Halt.TheVarian
 use Rattle.rkyv_btree_view.specs.Lookup.{found_at}
 use Rattle.rkyv_btree_view.specs.Map.{IsMap}
 
-module _ (K V : Kind) (E : ℕ) (b : List ℕ) (answer : K.Value → Ordering) (KRefuses VRefuses : List ℕ → ℕ → ℕ → ℕ → Refusal → Type 0) where
+module _ (K V : Kind) (E : ℕ) (b : List ℕ) (comparison : K.Value → Ordering) (KRefuses VRefuses : List ℕ → ℕ → ℕ → ℕ → Refusal → Type 0) where
   -- what the search returns that goes on with a child, whose search is given; and one that goes on at an entry of the node at p
   abbrev pub AtChild : (ℕ → Result (Option (ℕ × ℕ)) Refusal → Type 0) → Option ℕ → Result (Option (ℕ × ℕ)) Refusal → Type 0
   AtChild below None r = r ≡ Ok None
@@ -27,7 +27,7 @@ module _ (K V : Kind) (E : ℕ) (b : List ℕ) (answer : K.Value → Ordering) (
   -- what the search returns of the tree at p in front of hi, of at most so many levels
   unfoldable pub TreeGives : ℕ → ℕ → ℕ → Result (Option (ℕ × ℕ)) Refusal → Type 0
   TreeGives zero hi p r = r ≡ Err (TooDeep (pos p))
-  TreeGives (suc levels) hi p r = Then (NodeGives K V E b hi p) (λ n. Then (KeysGive K V E b answer KRefuses VRefuses p n) (AtHalt (TreeGives levels p) hi p)) r
+  TreeGives (suc levels) hi p r = Then (NodeGives K V E b hi p) (λ n. Then (KeysGive K V E b comparison KRefuses VRefuses p n) (AtHalt (TreeGives levels p) hi p)) r
 
   -- what a lookup in the map at a position returns: the node and the number of an entry, none, or an error
   abbrev pub LookupGives : ℕ → Result (Option (ℕ × ℕ)) Refusal → Type 0
@@ -45,18 +45,18 @@ module _ (K V : Kind) (E : ℕ) (KRefuses VRefuses : List ℕ → ℕ → ℕ �
   -- a lookup returns one thing
   abbrev pub LookupsAreDetermined : Type 0
   LookupsAreDetermined =
-      (b : List ℕ) (answer : K.Value → Ordering) (at : ℕ) (r s : Result (Option (ℕ × ℕ)) Refusal)
-      → LookupGives K V E b answer KRefuses VRefuses at r → LookupGives K V E b answer KRefuses VRefuses at s → r ≡ s
+      (b : List ℕ) (comparison : K.Value → Ordering) (at : ℕ) (r s : Result (Option (ℕ × ℕ)) Refusal)
+      → LookupGives K V E b comparison KRefuses VRefuses at r → LookupGives K V E b comparison KRefuses VRefuses at s → r ≡ s
 
   -- the entry that it returns has a valid key, which gives Equal, and a valid value
   abbrev pub FoundIsValid : Type 0
   FoundIsValid =
-      (b : List ℕ) (answer : K.Value → Ordering) (at : ℕ) (e : ℕ × ℕ) → LookupGives K V E b answer KRefuses VRefuses at (Ok (Some e))
-      → Gives K V E b answer Equal e × IsTrue (stands V b (value_place K V E e))
+      (b : List ℕ) (comparison : K.Value → Ordering) (at : ℕ) (e : ℕ × ℕ) → LookupGives K V E b comparison KRefuses VRefuses at (Ok (Some e))
+      → Gives K V E b comparison Equal e × IsTrue (stands V b (value_place K V E e))
 
   -- in an accepted map it returns no error, and finds what a lookup in a view of the map finds
   abbrev pub MapsAreSearched : Type 0
   MapsAreSearched =
-      (b : List ℕ) (answer : K.Value → Ordering) (at : ℕ) (m : List (K.Value × V.Value)) (r : Result (Option (ℕ × ℕ)) Refusal)
-      → IsMap K V E b at m → LookupGives K V E b answer KRefuses VRefuses at r
-      → (entry : Option (ℕ × ℕ)) × (r ≡ Ok entry) × (option_map (entry_at K V E b) entry ≡ found_at K V E b at answer)
+      (b : List ℕ) (comparison : K.Value → Ordering) (at : ℕ) (m : List (K.Value × V.Value)) (r : Result (Option (ℕ × ℕ)) Refusal)
+      → IsMap K V E b at m → LookupGives K V E b comparison KRefuses VRefuses at r
+      → (entry : Option (ℕ × ℕ)) × (r ≡ Ok entry) × (option_map (entry_at K V E b) entry ≡ found_at K V E b at comparison)

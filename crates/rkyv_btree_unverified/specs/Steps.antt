@@ -1,5 +1,5 @@
 -- The steps of a lookup in bytes that nobody has validated, and what each of them gives. A lookup reads the map's own bytes, then one
--- node a level, and in each node keys from the left, up to the first that the query isn't past. `answer` is what comparing the query
+-- node a level, and in each node keys from the left, up to the first that the query isn't past. `comparison` is what comparing the query
 -- with a key gives, at each value of a key.
 use Rattle.std.specs.Prelude.{◌≡◌, ◌≢◌, ℕ, ◌+◌, ◌%◌, ◌≤◌, ◌<◌, IsTrue, List, Option, Some, None, Result, Ok, Err, ℤ, pos, ◌+ℤ◌, ◌<ℤ◌}
 use Rattle.std.specs.declared.cmp.Ordering.{Ordering}
@@ -64,7 +64,7 @@ module _ (K V : Kind) (E : ℕ) (b : List ℕ) where
     leaf : HasKind K V E b 0 hi p 0 → leaf_len K V E b p ≤ E → NodeGives hi p (Ok (leaf_len K V E b p))
     inner : IsInner K V E b 0 hi p → NodeGives hi p (Ok E)
 
-  -- what there is before entry i of the node at p in front of hi, or behind all: a child, or none
+  -- what there is before entry i of the node at p in front of hi, or after all: a child, or none
   pub data ChildGives (hi p i : ℕ) : Result (Option ℕ) Refusal → Type 0 where
     of_leaf : HasKind K V E b 0 hi p 0 → ChildGives hi p i (Ok None)
     absent : IsInner K V E b 0 hi p → target_at b (p + pointer_at (layout_of K V E) i) ≡ None → ChildGives hi p i (Ok None)
@@ -80,18 +80,18 @@ module _ (K V : Kind) (E : ℕ) (b : List ℕ) where
     bad_root : {e : Refusal} → HasPlace b 8 4 at → map_len K V E b at ≢ 0 → PlaceGives K V E at (place_at b at) (Err e) → HeadGives at (Err e)
     root : {q : ℕ} → HasPlace b 8 4 at → map_len K V E b at ≢ 0 → PlaceGives K V E at (place_at b at) (Ok q) → HeadGives at (Ok (Some q))
 
-  module _ (answer : K.Value → Ordering) where
+  module _ (comparison : K.Value → Ordering) where
     -- the key of an entry is valid, and gives this
     pub record Gives (o : Ordering) (e : ℕ × ℕ) : Type 0 where
       pub valid : IsTrue (stands K b (key_place K V E e))
-      pub gives : answer (K.read b (key_place K V E e)) ≡ o
+      pub gives : comparison (K.read b (key_place K V E e)) ≡ o
 
     -- of n entries of the node at p the search asks entry i, since all before it give Greater
     pub record Asks (p n i : ℕ) : Type 0 where
       pub within : i < n
       pub before : (k : ℕ) → k < i → Gives Greater (p, k)
 
-    -- it goes on before entry i, the first that gives Less, or behind all
+    -- it goes on before entry i, the first that gives Less, or after all
     pub record StopsBefore (p n i : ℕ) : Type 0 where
       pub within : i ≤ n
       pub before : (k : ℕ) → k < i → Gives Greater (p, k)

@@ -17,8 +17,8 @@ ghost use Rattle.rkyv_btree_unverified.specs.Lookups.{FindsAt, LookupGives, Look
 ghost use Rattle.rkyv_btree_unverified.specs.Steps.{entry_places, places, value_place};
 ghost use Rattle.rkyv_btree_view.specs.Lookup.{found_at, ByComparison, ByNative};
 ghost use Rattle.rkyv_btree_view.specs.Map.{IsMap};
-ghost use Rattle.rkyv_btree_view.specs.View.{entries_of, reads, reads_both};
-ghost use Rattle.rkyv_btree_walk.specs.Search.{comparisons, shown, AnyHit, OrderedBy};
+ghost use Rattle.rkyv_btree_view.specs.View.{entries_of, view_value, view_entry};
+ghost use Rattle.rkyv_btree_walk.specs.Search.{comparisons, shown_value, AnyHit, OrderedBy};
 ghost use Rattle.rkyv_btree_walk.specs.mirror.Node.{RunStands};
 
 use crate::unverified_search::search;
@@ -140,7 +140,7 @@ impl<'a, K: CheckBytes, V: CheckBytes, M: ArchivedMap<Key = K, Mapped = V>> Unve
         requires short { length self.buf.now ≤ 4294967295 }
         requires stands { IfSome found (λ e.
             RunStands K.kind V.kind M.E self.buf.now e.0 e.1 (e.1 + 1)) }
-        ensures reads { option_map reads_both result
+        ensures value { option_map view_entry result
             ≡ option_map (entry_at K.kind V.kind M.E self.entry.buf.now) found }
         ensures buffer { IfSome result (λ e.
             (e.0.buf.now ≡ self.entry.buf.now) × (e.1.buf.now ≡ self.entry.buf.now)) }
@@ -170,11 +170,11 @@ impl<'a, K: CheckBytes, V: CheckBytes, M: ArchivedMap<Key = K, Mapped = V>> Unve
     ) -> Result<Option<(View<'a, K>, View<'a, V>)>, Refusal>
         requires { C.IsAlwaysCallable cmp }
         // On all bytes what is found is equal, and stands where the search comes to.
-        ensures equal { ByComparison (C.post cmp) (shown K.kind W.Shows) key.now (λ answer.
-            IfOk result (λ found. IfSome (option_map reads_both found) (λ e. answer e.0 ≡ Equal))) }
-        ensures places { ByComparison (C.post cmp) (shown K.kind W.Shows) key.now (λ answer.
+        ensures equal { ByComparison (C.post cmp) (shown_value K.kind W.Shows) key.now (λ comparison.
+            IfOk result (λ found. IfSome (option_map view_entry found) (λ e. comparison e.0 ≡ Equal))) }
+        ensures places { ByComparison (C.post cmp) (shown_value K.kind W.Shows) key.now (λ comparison.
             IfOk result (λ found.
-            FindsAt K.kind V.kind M.E self.entry.buf.now answer K.Refuses V.Refuses self.entry.pos
+            FindsAt K.kind V.kind M.E self.entry.buf.now comparison K.Refuses V.Refuses self.entry.pos
             (entry_places K.kind V.kind M.E) (option_map places found))) }
         ensures buffer { IfOk result (λ found. IfSome found (λ e.
             (e.0.buf.now ≡ self.entry.buf.now) × (e.1.buf.now ≡ self.entry.buf.now))) }
@@ -182,21 +182,21 @@ impl<'a, K: CheckBytes, V: CheckBytes, M: ArchivedMap<Key = K, Mapped = V>> Unve
         ensures accepts { (m : _) → IsMap K.kind V.kind M.E self.entry.buf.now self.entry.pos m →
             IsOk result }
         ensures found { (m : _) → IsMap K.kind V.kind M.E self.entry.buf.now self.entry.pos m →
-            ByComparison (C.post cmp) (shown K.kind W.Shows) key.now (λ answer.
-            IfOk result (λ found. option_map reads_both found
-            ≡ found_at K.kind V.kind M.E self.entry.buf.now self.entry.pos answer)) }
+            ByComparison (C.post cmp) (shown_value K.kind W.Shows) key.now (λ comparison.
+            IfOk result (λ found. option_map view_entry found
+            ≡ found_at K.kind V.kind M.E self.entry.buf.now self.entry.pos comparison)) }
         ensures complete { (m : _) → IsMap K.kind V.kind M.E self.entry.buf.now self.entry.pos m →
-            ByComparison (C.post cmp) (shown K.kind W.Shows) key.now (λ answer.
-            IfOk result (λ found. OrderedBy (λ e. answer e.0) m →
-            (IsSome found ↔ AnyHit (λ e. answer e.0) m))) }
+            ByComparison (C.post cmp) (shown_value K.kind W.Shows) key.now (λ comparison.
+            IfOk result (λ found. OrderedBy (λ e. comparison e.0) m →
+            (IsSome found ↔ AnyHit (λ e. comparison e.0) m))) }
         // Each error has its cause, and each cause its error.
-        ensures refused { ByComparison (C.post cmp) (shown K.kind W.Shows) key.now (λ answer.
+        ensures refused { ByComparison (C.post cmp) (shown_value K.kind W.Shows) key.now (λ comparison.
             IfErr result (λ refusal.
-            LookupGives K.kind V.kind M.E self.entry.buf.now answer K.Refuses V.Refuses
+            LookupGives K.kind V.kind M.E self.entry.buf.now comparison K.Refuses V.Refuses
             self.entry.pos (Err refusal))) }
-        ensures all_refused { ByComparison (C.post cmp) (shown K.kind W.Shows) key.now (λ answer.
+        ensures all_refused { ByComparison (C.post cmp) (shown_value K.kind W.Shows) key.now (λ comparison.
             (refusal : Refusal) →
-            LookupGives K.kind V.kind M.E self.entry.buf.now answer K.Refuses V.Refuses
+            LookupGives K.kind V.kind M.E self.entry.buf.now comparison K.Refuses V.Refuses
             self.entry.pos (Err refusal) → result ≡ Err refusal) }
     {
         let compare = |query: &Q, key: W| Compared::of(cmp(query, key));
@@ -228,9 +228,9 @@ impl<'a, K: CheckBytes, V: CheckBytes, M: ArchivedMap<Key = K, Mapped = V>> Unve
         // On all bytes these are no more than 32 nodes, and no more keys than a node has entries, times 32.
         ensures nodes { nodes.new ≤ nodes.old + 32 }
         // The way to what is found, or to its end, has no more levels than nodes are counted.
-        ensures levels { ByComparison (C.post cmp) (shown K.kind W.Shows) key.now (λ answer.
+        ensures levels { ByComparison (C.post cmp) (shown_value K.kind W.Shows) key.now (λ comparison.
             IfOk result (λ found. (entry : _) × LookupGivesWithin K.kind V.kind M.E
-            self.entry.buf.now answer K.Refuses V.Refuses (nodes.new - nodes.old) self.entry.pos
+            self.entry.buf.now comparison K.Refuses V.Refuses (nodes.new - nodes.old) self.entry.pos
             (Ok entry) × (option_map places found
             ≡ option_map (entry_places K.kind V.kind M.E) entry))) }
         ensures few { steps.new ≤ steps.old + M.E * 32 }
@@ -238,16 +238,16 @@ impl<'a, K: CheckBytes, V: CheckBytes, M: ArchivedMap<Key = K, Mapped = V>> Unve
         // On a map they are those of a lookup in a view of it.
         ensures counts { (m : _) →
             IsMap K.kind V.kind M.E self.entry.buf.now self.entry.pos m →
-            ByComparison (C.post cmp) (shown K.kind W.Shows) key.now (λ answer.
-            IfOk result (λ _. steps.new ≡ steps.old + comparisons (λ e. answer e.0)
+            ByComparison (C.post cmp) (shown_value K.kind W.Shows) key.now (λ comparison.
+            IfOk result (λ _. steps.new ≡ steps.old + comparisons (λ e. comparison e.0)
             (entry_at K.kind V.kind M.E self.entry.buf.now)
             (map_tree (layout_of K.kind V.kind M.E) self.entry.buf.now self.entry.pos))) }
         // On all bytes what is found is equal, and stands where the search comes to.
-        ensures equal { ByComparison (C.post cmp) (shown K.kind W.Shows) key.now (λ answer.
-            IfOk result (λ found. IfSome (option_map reads_both found) (λ e. answer e.0 ≡ Equal))) }
-        ensures places { ByComparison (C.post cmp) (shown K.kind W.Shows) key.now (λ answer.
+        ensures equal { ByComparison (C.post cmp) (shown_value K.kind W.Shows) key.now (λ comparison.
+            IfOk result (λ found. IfSome (option_map view_entry found) (λ e. comparison e.0 ≡ Equal))) }
+        ensures places { ByComparison (C.post cmp) (shown_value K.kind W.Shows) key.now (λ comparison.
             IfOk result (λ found.
-            FindsAt K.kind V.kind M.E self.entry.buf.now answer K.Refuses V.Refuses self.entry.pos
+            FindsAt K.kind V.kind M.E self.entry.buf.now comparison K.Refuses V.Refuses self.entry.pos
             (entry_places K.kind V.kind M.E) (option_map places found))) }
         ensures buffer { IfOk result (λ found. IfSome found (λ e.
             (e.0.buf.now ≡ self.entry.buf.now) × (e.1.buf.now ≡ self.entry.buf.now))) }
@@ -255,21 +255,21 @@ impl<'a, K: CheckBytes, V: CheckBytes, M: ArchivedMap<Key = K, Mapped = V>> Unve
         ensures accepts { (m : _) → IsMap K.kind V.kind M.E self.entry.buf.now self.entry.pos m →
             IsOk result }
         ensures found { (m : _) → IsMap K.kind V.kind M.E self.entry.buf.now self.entry.pos m →
-            ByComparison (C.post cmp) (shown K.kind W.Shows) key.now (λ answer.
-            IfOk result (λ found. option_map reads_both found
-            ≡ found_at K.kind V.kind M.E self.entry.buf.now self.entry.pos answer)) }
+            ByComparison (C.post cmp) (shown_value K.kind W.Shows) key.now (λ comparison.
+            IfOk result (λ found. option_map view_entry found
+            ≡ found_at K.kind V.kind M.E self.entry.buf.now self.entry.pos comparison)) }
         ensures complete { (m : _) → IsMap K.kind V.kind M.E self.entry.buf.now self.entry.pos m →
-            ByComparison (C.post cmp) (shown K.kind W.Shows) key.now (λ answer.
-            IfOk result (λ found. OrderedBy (λ e. answer e.0) m →
-            (IsSome found ↔ AnyHit (λ e. answer e.0) m))) }
+            ByComparison (C.post cmp) (shown_value K.kind W.Shows) key.now (λ comparison.
+            IfOk result (λ found. OrderedBy (λ e. comparison e.0) m →
+            (IsSome found ↔ AnyHit (λ e. comparison e.0) m))) }
         // Each error has its cause, and each cause its error.
-        ensures refused { ByComparison (C.post cmp) (shown K.kind W.Shows) key.now (λ answer.
+        ensures refused { ByComparison (C.post cmp) (shown_value K.kind W.Shows) key.now (λ comparison.
             IfErr result (λ refusal.
-            LookupGives K.kind V.kind M.E self.entry.buf.now answer K.Refuses V.Refuses
+            LookupGives K.kind V.kind M.E self.entry.buf.now comparison K.Refuses V.Refuses
             self.entry.pos (Err refusal))) }
-        ensures all_refused { ByComparison (C.post cmp) (shown K.kind W.Shows) key.now (λ answer.
+        ensures all_refused { ByComparison (C.post cmp) (shown_value K.kind W.Shows) key.now (λ comparison.
             (refusal : Refusal) →
-            LookupGives K.kind V.kind M.E self.entry.buf.now answer K.Refuses V.Refuses
+            LookupGives K.kind V.kind M.E self.entry.buf.now comparison K.Refuses V.Refuses
             self.entry.pos (Err refusal) → result ≡ Err refusal) }
     {
         let compare = |query: &Q, key: W| Compared::of(cmp(query, key));
@@ -299,11 +299,11 @@ impl<
     where
         K: CompareWith<T>,
         // On all bytes what is found is equal, and stands where the search comes to.
-        ensures equal { ByNative K.kind K.compared_at key (λ answer.
-            IfOk result (λ found. IfSome (option_map reads_both found) (λ e. answer e.0 ≡ Equal))) }
-        ensures places { ByNative K.kind K.compared_at key (λ answer.
+        ensures equal { ByNative K.kind K.compared_at key (λ comparison.
+            IfOk result (λ found. IfSome (option_map view_entry found) (λ e. comparison e.0 ≡ Equal))) }
+        ensures places { ByNative K.kind K.compared_at key (λ comparison.
             IfOk result (λ found.
-            FindsAt K.kind V.kind M.E self.entry.buf.now answer K.Refuses V.Refuses self.entry.pos
+            FindsAt K.kind V.kind M.E self.entry.buf.now comparison K.Refuses V.Refuses self.entry.pos
             (entry_places K.kind V.kind M.E) (option_map places found))) }
         ensures buffer { IfOk result (λ found. IfSome found (λ e.
             (e.0.buf.now ≡ self.entry.buf.now) × (e.1.buf.now ≡ self.entry.buf.now))) }
@@ -311,21 +311,21 @@ impl<
         ensures accepts { (m : _) → IsMap K.kind V.kind M.E self.entry.buf.now self.entry.pos m →
             IsOk result }
         ensures found { (m : _) → IsMap K.kind V.kind M.E self.entry.buf.now self.entry.pos m →
-            ByNative K.kind K.compared_at key (λ answer.
-            IfOk result (λ found. option_map reads_both found
-            ≡ found_at K.kind V.kind M.E self.entry.buf.now self.entry.pos answer)) }
+            ByNative K.kind K.compared_at key (λ comparison.
+            IfOk result (λ found. option_map view_entry found
+            ≡ found_at K.kind V.kind M.E self.entry.buf.now self.entry.pos comparison)) }
         ensures sorted { (m : _) → IsMap K.kind V.kind M.E self.entry.buf.now self.entry.pos m →
             Increasing K.kind.order m →
-            ByNative K.kind K.compared_at key (λ answer.
-            IfOk result (λ found. option_map reads_both found ≡ lookup_entry (is_at answer) m)) }
+            ByNative K.kind K.compared_at key (λ comparison.
+            IfOk result (λ found. option_map view_entry found ≡ lookup_entry (is_at comparison) m)) }
         // Each error has its cause, and each cause its error.
-        ensures refused { ByNative K.kind K.compared_at key (λ answer.
+        ensures refused { ByNative K.kind K.compared_at key (λ comparison.
             IfErr result (λ refusal.
-            LookupGives K.kind V.kind M.E self.entry.buf.now answer K.Refuses V.Refuses
+            LookupGives K.kind V.kind M.E self.entry.buf.now comparison K.Refuses V.Refuses
             self.entry.pos (Err refusal))) }
-        ensures all_refused { ByNative K.kind K.compared_at key (λ answer.
+        ensures all_refused { ByNative K.kind K.compared_at key (λ comparison.
             (refusal : Refusal) →
-            LookupGives K.kind V.kind M.E self.entry.buf.now answer K.Refuses V.Refuses
+            LookupGives K.kind V.kind M.E self.entry.buf.now comparison K.Refuses V.Refuses
             self.entry.pos (Err refusal) → result ≡ Err refusal) }
     {
         let compare = |query: &T, key: View<K>| K::compared(query, &key);
@@ -347,9 +347,9 @@ impl<
     where
         K: CompareWith<T>,
         // On all bytes what is found is the value beside an equal key, which stands where the search comes to.
-        ensures places { ByNative K.kind K.compared_at key (λ answer.
+        ensures places { ByNative K.kind K.compared_at key (λ comparison.
             IfOk result (λ found.
-            FindsAt K.kind V.kind M.E self.entry.buf.now answer K.Refuses V.Refuses self.entry.pos
+            FindsAt K.kind V.kind M.E self.entry.buf.now comparison K.Refuses V.Refuses self.entry.pos
             (value_place K.kind V.kind M.E) (option_map (λ value. value.pos) found))) }
         ensures buffer { IfOk result (λ found. IfSome found (λ value. value.buf.now
             ≡ self.entry.buf.now)) }
@@ -357,21 +357,21 @@ impl<
         ensures accepts { (m : _) → IsMap K.kind V.kind M.E self.entry.buf.now self.entry.pos m →
             IsOk result }
         ensures found { (m : _) → IsMap K.kind V.kind M.E self.entry.buf.now self.entry.pos m →
-            ByNative K.kind K.compared_at key (λ answer.
-            IfOk result (λ found. option_map reads found ≡ option_map (λ e.
-            e.1) (found_at K.kind V.kind M.E self.entry.buf.now self.entry.pos answer))) }
+            ByNative K.kind K.compared_at key (λ comparison.
+            IfOk result (λ found. option_map view_value found ≡ option_map (λ e.
+            e.1) (found_at K.kind V.kind M.E self.entry.buf.now self.entry.pos comparison))) }
         ensures sorted { (m : _) → IsMap K.kind V.kind M.E self.entry.buf.now self.entry.pos m →
             Increasing K.kind.order m →
-            ByNative K.kind K.compared_at key (λ answer.
-            IfOk result (λ found. option_map reads found ≡ lookup (is_at answer) m)) }
+            ByNative K.kind K.compared_at key (λ comparison.
+            IfOk result (λ found. option_map view_value found ≡ lookup (is_at comparison) m)) }
         // Each error has its cause, and each cause its error.
-        ensures refused { ByNative K.kind K.compared_at key (λ answer.
+        ensures refused { ByNative K.kind K.compared_at key (λ comparison.
             IfErr result (λ refusal.
-            LookupGives K.kind V.kind M.E self.entry.buf.now answer K.Refuses V.Refuses
+            LookupGives K.kind V.kind M.E self.entry.buf.now comparison K.Refuses V.Refuses
             self.entry.pos (Err refusal))) }
-        ensures all_refused { ByNative K.kind K.compared_at key (λ answer.
+        ensures all_refused { ByNative K.kind K.compared_at key (λ comparison.
             (refusal : Refusal) →
-            LookupGives K.kind V.kind M.E self.entry.buf.now answer K.Refuses V.Refuses
+            LookupGives K.kind V.kind M.E self.entry.buf.now comparison K.Refuses V.Refuses
             self.entry.pos (Err refusal) → result ≡ Err refusal) }
     {
         match self.get_key_value_by(key) {
@@ -390,28 +390,28 @@ impl<
     where
         K: CompareWith<T>,
         // On all bytes this says whether an equal key stands where the search comes to.
-        ensures places { ByNative K.kind K.compared_at key (λ answer.
+        ensures places { ByNative K.kind K.compared_at key (λ comparison.
             IfOk result (λ found. (entry : _) × LookupGives K.kind V.kind M.E self.entry.buf.now
-            answer K.Refuses V.Refuses self.entry.pos (Ok entry) × (found ≡ is_some entry))) }
+            comparison K.Refuses V.Refuses self.entry.pos (Ok entry) × (found ≡ is_some entry))) }
         // On a map there is no error, and this is what a lookup in a view of it finds.
         ensures accepts { (m : _) → IsMap K.kind V.kind M.E self.entry.buf.now self.entry.pos m →
             IsOk result }
         ensures found { (m : _) → IsMap K.kind V.kind M.E self.entry.buf.now self.entry.pos m →
-            ByNative K.kind K.compared_at key (λ answer.
+            ByNative K.kind K.compared_at key (λ comparison.
             IfOk result (λ found. found
-            ≡ is_some (found_at K.kind V.kind M.E self.entry.buf.now self.entry.pos answer))) }
+            ≡ is_some (found_at K.kind V.kind M.E self.entry.buf.now self.entry.pos comparison))) }
         ensures sorted { (m : _) → IsMap K.kind V.kind M.E self.entry.buf.now self.entry.pos m →
             Increasing K.kind.order m →
-            ByNative K.kind K.compared_at key (λ answer.
-            IfOk result (λ found. found ≡ is_some (lookup (is_at answer) m))) }
+            ByNative K.kind K.compared_at key (λ comparison.
+            IfOk result (λ found. found ≡ is_some (lookup (is_at comparison) m))) }
         // Each error has its cause, and each cause its error.
-        ensures refused { ByNative K.kind K.compared_at key (λ answer.
+        ensures refused { ByNative K.kind K.compared_at key (λ comparison.
             IfErr result (λ refusal.
-            LookupGives K.kind V.kind M.E self.entry.buf.now answer K.Refuses V.Refuses
+            LookupGives K.kind V.kind M.E self.entry.buf.now comparison K.Refuses V.Refuses
             self.entry.pos (Err refusal))) }
-        ensures all_refused { ByNative K.kind K.compared_at key (λ answer.
+        ensures all_refused { ByNative K.kind K.compared_at key (λ comparison.
             (refusal : Refusal) →
-            LookupGives K.kind V.kind M.E self.entry.buf.now answer K.Refuses V.Refuses
+            LookupGives K.kind V.kind M.E self.entry.buf.now comparison K.Refuses V.Refuses
             self.entry.pos (Err refusal) → result ≡ Err refusal) }
     {
         match self.get_by(key) {
@@ -437,11 +437,11 @@ impl<
         key: View<'_, K>,
     ) -> Result<Option<(View<'a, K>, View<'a, V>)>, Refusal>
         // On all bytes what is found is equal, and stands where the search comes to.
-        ensures equal { let answer = K.kind.order (reads key.entry) in
-            IfOk result (λ found. IfSome (option_map reads_both found) (λ e. answer e.0 ≡ Equal)) }
-        ensures places { let answer = K.kind.order (reads key.entry) in
+        ensures equal { let comparison = K.kind.order (view_value key.entry) in
+            IfOk result (λ found. IfSome (option_map view_entry found) (λ e. comparison e.0 ≡ Equal)) }
+        ensures places { let comparison = K.kind.order (view_value key.entry) in
             IfOk result (λ found.
-            FindsAt K.kind V.kind M.E self.entry.buf.now answer K.Refuses V.Refuses self.entry.pos
+            FindsAt K.kind V.kind M.E self.entry.buf.now comparison K.Refuses V.Refuses self.entry.pos
             (entry_places K.kind V.kind M.E) (option_map places found)) }
         ensures buffer { IfOk result (λ found. IfSome found (λ e.
             (e.0.buf.now ≡ self.entry.buf.now) × (e.1.buf.now ≡ self.entry.buf.now))) }
@@ -449,21 +449,21 @@ impl<
         ensures accepts { (m : _) → IsMap K.kind V.kind M.E self.entry.buf.now self.entry.pos m →
             IsOk result }
         ensures found { (m : _) → IsMap K.kind V.kind M.E self.entry.buf.now self.entry.pos m →
-            let answer = K.kind.order (reads key.entry) in
-            IfOk result (λ found. option_map reads_both found
-            ≡ found_at K.kind V.kind M.E self.entry.buf.now self.entry.pos answer) }
+            let comparison = K.kind.order (view_value key.entry) in
+            IfOk result (λ found. option_map view_entry found
+            ≡ found_at K.kind V.kind M.E self.entry.buf.now self.entry.pos comparison) }
         ensures sorted { (m : _) → IsMap K.kind V.kind M.E self.entry.buf.now self.entry.pos m →
             Increasing K.kind.order m →
-            let answer = K.kind.order (reads key.entry) in
-            IfOk result (λ found. option_map reads_both found ≡ lookup_entry (is_at answer) m) }
+            let comparison = K.kind.order (view_value key.entry) in
+            IfOk result (λ found. option_map view_entry found ≡ lookup_entry (is_at comparison) m) }
         // Each error has its cause, and each cause its error.
-        ensures refused { let answer = K.kind.order (reads key.entry) in
+        ensures refused { let comparison = K.kind.order (view_value key.entry) in
             IfErr result (λ refusal.
-            LookupGives K.kind V.kind M.E self.entry.buf.now answer K.Refuses V.Refuses
+            LookupGives K.kind V.kind M.E self.entry.buf.now comparison K.Refuses V.Refuses
             self.entry.pos (Err refusal)) }
-        ensures all_refused { let answer = K.kind.order (reads key.entry) in
+        ensures all_refused { let comparison = K.kind.order (view_value key.entry) in
             (refusal : Refusal) →
-            LookupGives K.kind V.kind M.E self.entry.buf.now answer K.Refuses V.Refuses
+            LookupGives K.kind V.kind M.E self.entry.buf.now comparison K.Refuses V.Refuses
             self.entry.pos (Err refusal) → result ≡ Err refusal }
     {
         let compare = |query: &View<'_, K>, key: View<K>| Compared::of(K::compare(query, &key));
@@ -483,9 +483,9 @@ impl<
     /// The first fault in what the search reads. No memory is allocated.
     pub fn get(self, key: View<'_, K>) -> Result<Option<View<'a, V>>, Refusal>
         // On all bytes what is found is the value beside an equal key, which stands where the search comes to.
-        ensures places { let answer = K.kind.order (reads key.entry) in
+        ensures places { let comparison = K.kind.order (view_value key.entry) in
             IfOk result (λ found.
-            FindsAt K.kind V.kind M.E self.entry.buf.now answer K.Refuses V.Refuses self.entry.pos
+            FindsAt K.kind V.kind M.E self.entry.buf.now comparison K.Refuses V.Refuses self.entry.pos
             (value_place K.kind V.kind M.E) (option_map (λ value. value.pos) found)) }
         ensures buffer { IfOk result (λ found. IfSome found (λ value. value.buf.now
             ≡ self.entry.buf.now)) }
@@ -493,21 +493,21 @@ impl<
         ensures accepts { (m : _) → IsMap K.kind V.kind M.E self.entry.buf.now self.entry.pos m →
             IsOk result }
         ensures found { (m : _) → IsMap K.kind V.kind M.E self.entry.buf.now self.entry.pos m →
-            let answer = K.kind.order (reads key.entry) in
-            IfOk result (λ found. option_map reads found ≡ option_map (λ e.
-            e.1) (found_at K.kind V.kind M.E self.entry.buf.now self.entry.pos answer)) }
+            let comparison = K.kind.order (view_value key.entry) in
+            IfOk result (λ found. option_map view_value found ≡ option_map (λ e.
+            e.1) (found_at K.kind V.kind M.E self.entry.buf.now self.entry.pos comparison)) }
         ensures sorted { (m : _) → IsMap K.kind V.kind M.E self.entry.buf.now self.entry.pos m →
             Increasing K.kind.order m →
-            let answer = K.kind.order (reads key.entry) in
-            IfOk result (λ found. option_map reads found ≡ lookup (is_at answer) m) }
+            let comparison = K.kind.order (view_value key.entry) in
+            IfOk result (λ found. option_map view_value found ≡ lookup (is_at comparison) m) }
         // Each error has its cause, and each cause its error.
-        ensures refused { let answer = K.kind.order (reads key.entry) in
+        ensures refused { let comparison = K.kind.order (view_value key.entry) in
             IfErr result (λ refusal.
-            LookupGives K.kind V.kind M.E self.entry.buf.now answer K.Refuses V.Refuses
+            LookupGives K.kind V.kind M.E self.entry.buf.now comparison K.Refuses V.Refuses
             self.entry.pos (Err refusal)) }
-        ensures all_refused { let answer = K.kind.order (reads key.entry) in
+        ensures all_refused { let comparison = K.kind.order (view_value key.entry) in
             (refusal : Refusal) →
-            LookupGives K.kind V.kind M.E self.entry.buf.now answer K.Refuses V.Refuses
+            LookupGives K.kind V.kind M.E self.entry.buf.now comparison K.Refuses V.Refuses
             self.entry.pos (Err refusal) → result ≡ Err refusal }
     {
         match self.get_key_value(key) {
@@ -524,28 +524,28 @@ impl<
     /// The first fault in what the search reads. No memory is allocated.
     pub fn contains_key(self, key: View<'_, K>) -> Result<bool, Refusal>
         // On all bytes this says whether an equal key stands where the search comes to.
-        ensures places { let answer = K.kind.order (reads key.entry) in
+        ensures places { let comparison = K.kind.order (view_value key.entry) in
             IfOk result (λ found. (entry : _) × LookupGives K.kind V.kind M.E self.entry.buf.now
-            answer K.Refuses V.Refuses self.entry.pos (Ok entry) × (found ≡ is_some entry)) }
+            comparison K.Refuses V.Refuses self.entry.pos (Ok entry) × (found ≡ is_some entry)) }
         // On a map there is no error, and this is what a lookup in a view of it finds.
         ensures accepts { (m : _) → IsMap K.kind V.kind M.E self.entry.buf.now self.entry.pos m →
             IsOk result }
         ensures found { (m : _) → IsMap K.kind V.kind M.E self.entry.buf.now self.entry.pos m →
-            let answer = K.kind.order (reads key.entry) in
+            let comparison = K.kind.order (view_value key.entry) in
             IfOk result (λ found. found
-            ≡ is_some (found_at K.kind V.kind M.E self.entry.buf.now self.entry.pos answer)) }
+            ≡ is_some (found_at K.kind V.kind M.E self.entry.buf.now self.entry.pos comparison)) }
         ensures sorted { (m : _) → IsMap K.kind V.kind M.E self.entry.buf.now self.entry.pos m →
             Increasing K.kind.order m →
-            let answer = K.kind.order (reads key.entry) in
-            IfOk result (λ found. found ≡ is_some (lookup (is_at answer) m)) }
+            let comparison = K.kind.order (view_value key.entry) in
+            IfOk result (λ found. found ≡ is_some (lookup (is_at comparison) m)) }
         // Each error has its cause, and each cause its error.
-        ensures refused { let answer = K.kind.order (reads key.entry) in
+        ensures refused { let comparison = K.kind.order (view_value key.entry) in
             IfErr result (λ refusal.
-            LookupGives K.kind V.kind M.E self.entry.buf.now answer K.Refuses V.Refuses
+            LookupGives K.kind V.kind M.E self.entry.buf.now comparison K.Refuses V.Refuses
             self.entry.pos (Err refusal)) }
-        ensures all_refused { let answer = K.kind.order (reads key.entry) in
+        ensures all_refused { let comparison = K.kind.order (view_value key.entry) in
             (refusal : Refusal) →
-            LookupGives K.kind V.kind M.E self.entry.buf.now answer K.Refuses V.Refuses
+            LookupGives K.kind V.kind M.E self.entry.buf.now comparison K.Refuses V.Refuses
             self.entry.pos (Err refusal) → result ≡ Err refusal }
     {
         match self.get(key) {

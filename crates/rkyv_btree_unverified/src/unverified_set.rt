@@ -14,7 +14,7 @@ ghost use Rattle.rkyv_btree_unverified.specs.Lookups.{FindsAt, LookupGives};
 ghost use Rattle.rkyv_btree_unverified.specs.Steps.{key_place};
 ghost use Rattle.rkyv_btree_view.specs.Lookup.{found_at, ByNative};
 ghost use Rattle.rkyv_btree_view.specs.Map.{IsMap};
-ghost use Rattle.rkyv_btree_view.specs.View.{entries_of, reads};
+ghost use Rattle.rkyv_btree_view.specs.View.{entries_of, view_value};
 
 use crate::unverified::Unverified;
 use rkyv_btree_base::check::CheckBytes;
@@ -68,11 +68,11 @@ impl<'a, K: CheckBytes, const E: usize> Unverified<'a, ArchivedBTreeSet<K, E>> {
     where
         K: CompareWith<T>,
         // On all bytes what is found is equal, and stands where the search comes to.
-        ensures equal { ByNative K.kind K.compared_at key (λ answer.
-            IfOk result (λ found. IfSome (option_map reads found) (λ key. answer key ≡ Equal))) }
-        ensures places { ByNative K.kind K.compared_at key (λ answer.
+        ensures equal { ByNative K.kind K.compared_at key (λ comparison.
+            IfOk result (λ found. IfSome (option_map view_value found) (λ key. comparison key ≡ Equal))) }
+        ensures places { ByNative K.kind K.compared_at key (λ comparison.
             IfOk result (λ found.
-            FindsAt K.kind unit_kind E self.entry.buf.now answer K.Refuses
+            FindsAt K.kind unit_kind E self.entry.buf.now comparison K.Refuses
             ⟦<() as CheckBytes>⟧.Refuses self.entry.pos (key_place K.kind unit_kind E) (option_map
             (λ key. key.pos) found))) }
         ensures buffer { IfOk result (λ found. IfSome found (λ key. key.buf.now
@@ -81,21 +81,21 @@ impl<'a, K: CheckBytes, const E: usize> Unverified<'a, ArchivedBTreeSet<K, E>> {
         ensures accepts { (m : _) → IsMap K.kind unit_kind E self.entry.buf.now self.entry.pos m →
             IsOk result }
         ensures found { (m : _) → IsMap K.kind unit_kind E self.entry.buf.now self.entry.pos m →
-            ByNative K.kind K.compared_at key (λ answer.
-            IfOk result (λ found. option_map reads found ≡ option_map (λ e.
-            e.0) (found_at K.kind unit_kind E self.entry.buf.now self.entry.pos answer))) }
+            ByNative K.kind K.compared_at key (λ comparison.
+            IfOk result (λ found. option_map view_value found ≡ option_map (λ e.
+            e.0) (found_at K.kind unit_kind E self.entry.buf.now self.entry.pos comparison))) }
         ensures sorted { (m : _) → IsMap K.kind unit_kind E self.entry.buf.now self.entry.pos m →
             Increasing K.kind.order m →
-            ByNative K.kind K.compared_at key (λ answer.
-            IfOk result (λ found. option_map reads found ≡ find (is_at answer) (keys_of m))) }
+            ByNative K.kind K.compared_at key (λ comparison.
+            IfOk result (λ found. option_map view_value found ≡ find (is_at comparison) (keys_of m))) }
         // Each error has its cause, and each cause its error.
-        ensures refused { ByNative K.kind K.compared_at key (λ answer.
+        ensures refused { ByNative K.kind K.compared_at key (λ comparison.
             IfErr result (λ refusal.
-            LookupGives K.kind unit_kind E self.entry.buf.now answer K.Refuses
+            LookupGives K.kind unit_kind E self.entry.buf.now comparison K.Refuses
             ⟦<() as CheckBytes>⟧.Refuses self.entry.pos (Err refusal))) }
-        ensures all_refused { ByNative K.kind K.compared_at key (λ answer.
+        ensures all_refused { ByNative K.kind K.compared_at key (λ comparison.
             (refusal : Refusal) →
-            LookupGives K.kind unit_kind E self.entry.buf.now answer K.Refuses
+            LookupGives K.kind unit_kind E self.entry.buf.now comparison K.Refuses
             ⟦<() as CheckBytes>⟧.Refuses self.entry.pos (Err refusal) → result ≡ Err refusal) }
     {
         match self.as_map().get_key_value_by(key) {
@@ -114,29 +114,29 @@ impl<'a, K: CheckBytes, const E: usize> Unverified<'a, ArchivedBTreeSet<K, E>> {
     where
         K: CompareWith<T>,
         // On all bytes this says whether an equal key stands where the search comes to.
-        ensures places { ByNative K.kind K.compared_at key (λ answer.
+        ensures places { ByNative K.kind K.compared_at key (λ comparison.
             IfOk result (λ found. (entry : _) × LookupGives K.kind unit_kind E self.entry.buf.now
-            answer K.Refuses ⟦<() as CheckBytes>⟧.Refuses self.entry.pos (Ok entry) × (found
+            comparison K.Refuses ⟦<() as CheckBytes>⟧.Refuses self.entry.pos (Ok entry) × (found
             ≡ is_some entry))) }
         // On a set there is no error, and this is what a lookup in a view of it finds.
         ensures accepts { (m : _) → IsMap K.kind unit_kind E self.entry.buf.now self.entry.pos m →
             IsOk result }
         ensures found { (m : _) → IsMap K.kind unit_kind E self.entry.buf.now self.entry.pos m →
-            ByNative K.kind K.compared_at key (λ answer.
+            ByNative K.kind K.compared_at key (λ comparison.
             IfOk result (λ found. found
-            ≡ is_some (found_at K.kind unit_kind E self.entry.buf.now self.entry.pos answer))) }
+            ≡ is_some (found_at K.kind unit_kind E self.entry.buf.now self.entry.pos comparison))) }
         ensures sorted { (m : _) → IsMap K.kind unit_kind E self.entry.buf.now self.entry.pos m →
             Increasing K.kind.order m →
-            ByNative K.kind K.compared_at key (λ answer.
-            IfOk result (λ found. found ≡ is_some (find (is_at answer) (keys_of m)))) }
+            ByNative K.kind K.compared_at key (λ comparison.
+            IfOk result (λ found. found ≡ is_some (find (is_at comparison) (keys_of m)))) }
         // Each error has its cause, and each cause its error.
-        ensures refused { ByNative K.kind K.compared_at key (λ answer.
+        ensures refused { ByNative K.kind K.compared_at key (λ comparison.
             IfErr result (λ refusal.
-            LookupGives K.kind unit_kind E self.entry.buf.now answer K.Refuses
+            LookupGives K.kind unit_kind E self.entry.buf.now comparison K.Refuses
             ⟦<() as CheckBytes>⟧.Refuses self.entry.pos (Err refusal))) }
-        ensures all_refused { ByNative K.kind K.compared_at key (λ answer.
+        ensures all_refused { ByNative K.kind K.compared_at key (λ comparison.
             (refusal : Refusal) →
-            LookupGives K.kind unit_kind E self.entry.buf.now answer K.Refuses
+            LookupGives K.kind unit_kind E self.entry.buf.now comparison K.Refuses
             ⟦<() as CheckBytes>⟧.Refuses self.entry.pos (Err refusal) → result ≡ Err refusal) }
     {
         match self.get_by(key) {
@@ -154,11 +154,11 @@ impl<'a, K: CheckBytes + ViewOrd, const E: usize> Unverified<'a, ArchivedBTreeSe
     /// The first fault in what the search reads. No memory is allocated.
     pub fn get(self, key: View<'_, K>) -> Result<Option<View<'a, K>>, Refusal>
         // On all bytes what is found is equal, and stands where the search comes to.
-        ensures equal { let answer = K.kind.order (reads key.entry) in
-            IfOk result (λ found. IfSome (option_map reads found) (λ key. answer key ≡ Equal)) }
-        ensures places { let answer = K.kind.order (reads key.entry) in
+        ensures equal { let comparison = K.kind.order (view_value key.entry) in
+            IfOk result (λ found. IfSome (option_map view_value found) (λ key. comparison key ≡ Equal)) }
+        ensures places { let comparison = K.kind.order (view_value key.entry) in
             IfOk result (λ found.
-            FindsAt K.kind unit_kind E self.entry.buf.now answer K.Refuses
+            FindsAt K.kind unit_kind E self.entry.buf.now comparison K.Refuses
             ⟦<() as CheckBytes>⟧.Refuses self.entry.pos (key_place K.kind unit_kind E) (option_map
             (λ key. key.pos) found)) }
         ensures buffer { IfOk result (λ found. IfSome found (λ key. key.buf.now
@@ -167,21 +167,21 @@ impl<'a, K: CheckBytes + ViewOrd, const E: usize> Unverified<'a, ArchivedBTreeSe
         ensures accepts { (m : _) → IsMap K.kind unit_kind E self.entry.buf.now self.entry.pos m →
             IsOk result }
         ensures found { (m : _) → IsMap K.kind unit_kind E self.entry.buf.now self.entry.pos m →
-            let answer = K.kind.order (reads key.entry) in
-            IfOk result (λ found. option_map reads found ≡ option_map (λ e.
-            e.0) (found_at K.kind unit_kind E self.entry.buf.now self.entry.pos answer)) }
+            let comparison = K.kind.order (view_value key.entry) in
+            IfOk result (λ found. option_map view_value found ≡ option_map (λ e.
+            e.0) (found_at K.kind unit_kind E self.entry.buf.now self.entry.pos comparison)) }
         ensures sorted { (m : _) → IsMap K.kind unit_kind E self.entry.buf.now self.entry.pos m →
             Increasing K.kind.order m →
-            let answer = K.kind.order (reads key.entry) in
-            IfOk result (λ found. option_map reads found ≡ find (is_at answer) (keys_of m)) }
+            let comparison = K.kind.order (view_value key.entry) in
+            IfOk result (λ found. option_map view_value found ≡ find (is_at comparison) (keys_of m)) }
         // Each error has its cause, and each cause its error.
-        ensures refused { let answer = K.kind.order (reads key.entry) in
+        ensures refused { let comparison = K.kind.order (view_value key.entry) in
             IfErr result (λ refusal.
-            LookupGives K.kind unit_kind E self.entry.buf.now answer K.Refuses
+            LookupGives K.kind unit_kind E self.entry.buf.now comparison K.Refuses
             ⟦<() as CheckBytes>⟧.Refuses self.entry.pos (Err refusal)) }
-        ensures all_refused { let answer = K.kind.order (reads key.entry) in
+        ensures all_refused { let comparison = K.kind.order (view_value key.entry) in
             (refusal : Refusal) →
-            LookupGives K.kind unit_kind E self.entry.buf.now answer K.Refuses
+            LookupGives K.kind unit_kind E self.entry.buf.now comparison K.Refuses
             ⟦<() as CheckBytes>⟧.Refuses self.entry.pos (Err refusal) → result ≡ Err refusal }
     {
         match self.as_map().get_key_value(key) {
@@ -198,29 +198,29 @@ impl<'a, K: CheckBytes + ViewOrd, const E: usize> Unverified<'a, ArchivedBTreeSe
     /// The first fault in what the search reads. No memory is allocated.
     pub fn contains_key(self, key: View<'_, K>) -> Result<bool, Refusal>
         // On all bytes this says whether an equal key stands where the search comes to.
-        ensures places { let answer = K.kind.order (reads key.entry) in
+        ensures places { let comparison = K.kind.order (view_value key.entry) in
             IfOk result (λ found. (entry : _) × LookupGives K.kind unit_kind E self.entry.buf.now
-            answer K.Refuses ⟦<() as CheckBytes>⟧.Refuses self.entry.pos (Ok entry) × (found
+            comparison K.Refuses ⟦<() as CheckBytes>⟧.Refuses self.entry.pos (Ok entry) × (found
             ≡ is_some entry)) }
         // On a set there is no error, and this is what a lookup in a view of it finds.
         ensures accepts { (m : _) → IsMap K.kind unit_kind E self.entry.buf.now self.entry.pos m →
             IsOk result }
         ensures found { (m : _) → IsMap K.kind unit_kind E self.entry.buf.now self.entry.pos m →
-            let answer = K.kind.order (reads key.entry) in
+            let comparison = K.kind.order (view_value key.entry) in
             IfOk result (λ found. found
-            ≡ is_some (found_at K.kind unit_kind E self.entry.buf.now self.entry.pos answer)) }
+            ≡ is_some (found_at K.kind unit_kind E self.entry.buf.now self.entry.pos comparison)) }
         ensures sorted { (m : _) → IsMap K.kind unit_kind E self.entry.buf.now self.entry.pos m →
             Increasing K.kind.order m →
-            let answer = K.kind.order (reads key.entry) in
-            IfOk result (λ found. found ≡ is_some (find (is_at answer) (keys_of m))) }
+            let comparison = K.kind.order (view_value key.entry) in
+            IfOk result (λ found. found ≡ is_some (find (is_at comparison) (keys_of m))) }
         // Each error has its cause, and each cause its error.
-        ensures refused { let answer = K.kind.order (reads key.entry) in
+        ensures refused { let comparison = K.kind.order (view_value key.entry) in
             IfErr result (λ refusal.
-            LookupGives K.kind unit_kind E self.entry.buf.now answer K.Refuses
+            LookupGives K.kind unit_kind E self.entry.buf.now comparison K.Refuses
             ⟦<() as CheckBytes>⟧.Refuses self.entry.pos (Err refusal)) }
-        ensures all_refused { let answer = K.kind.order (reads key.entry) in
+        ensures all_refused { let comparison = K.kind.order (view_value key.entry) in
             (refusal : Refusal) →
-            LookupGives K.kind unit_kind E self.entry.buf.now answer K.Refuses
+            LookupGives K.kind unit_kind E self.entry.buf.now comparison K.Refuses
             ⟦<() as CheckBytes>⟧.Refuses self.entry.pos (Err refusal) → result ≡ Err refusal }
     {
         match self.get(key) {

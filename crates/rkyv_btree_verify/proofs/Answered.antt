@@ -1,4 +1,4 @@
--- What the check of a map answers, as its contract says it.
+-- What the check of a map returns, as its contract says it.
 use Rattle.std.proofs.Common.{◌≡◌, ℕ, ◌+◌, ◌-◌, ◌/◌, ◌≤◌, IsTrue, List, Result, Ok, Err, sym, ap, ◌∙◌}
 use Rattle.rkyv_btree_portable.specs.declared.check.Window.{Window}
 use Rattle.rkyv_btree_portable.specs.declared.refusal.Refusal.{Refusal}

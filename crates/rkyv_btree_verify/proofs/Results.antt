@@ -1,4 +1,4 @@
--- What an answer of a step says of the steps before it.
+-- What a step's result says of the steps before it.
 use Rattle.std.proofs.Common.{◌≡◌, ◌⊎◌, inl, inr, List, ◌≤◌, Option, Some, None, Result, Ok, Err, refl, ℕ}
 use Rattle.rkyv_btree_portable.specs.declared.refusal.Refusal.{Refusal}
 use Rattle.rkyv_btree_portable.specs.declared.refusal.Refusal.TheVariants.{BadEntry}

@@ -1,4 +1,4 @@
--- What the check of a map promises of its answers, in a window of the bytes before the map.
+-- What the check of a map promises of its results, in a window of the bytes before the map.
 use Rattle.std.specs.Prelude.{◌≡◌, ℕ, ◌+◌, List}
 use Rattle.rkyv_btree_portable.specs.Kind.{Kind}
 use Rattle.rkyv_btree_portable.specs.declared.check.Window.{Window}

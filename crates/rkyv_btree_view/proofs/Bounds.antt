@@ -12,9 +12,9 @@ refers h (Included q) bound e = ap (bound_map h) e
 refers h (Excluded q) bound e = ap (bound_map h) e
 refers h Unbounded bound e = ap (bound_map h) e
 
-pub within_referred : {N A B : Type 0} (answer : N → A → Ordering) (l h : Bound (Bor N)) (low high : Bound N) (all range : List (A × B)) → bound_map (λ x. x.now) l ≡ low → bound_map (λ x. x.now) h ≡ high
-    → IsWithin (bound_map (λ q. answer q.now) l) (bound_map (λ q. answer q.now) h) all range → IsWithin (bound_map answer low) (bound_map answer high) all range
-within_referred answer l h low high all range e f within = rw (← refers answer l low e, ← refers answer h high f) within
+pub within_referred : {N A B : Type 0} (comparison : N → A → Ordering) (l h : Bound (Bor N)) (low high : Bound N) (all range : List (A × B)) → bound_map (λ x. x.now) l ≡ low → bound_map (λ x. x.now) h ≡ high
+    → IsWithin (bound_map (λ q. comparison q.now) l) (bound_map (λ q. comparison q.now) h) all range → IsWithin (bound_map comparison low) (bound_map comparison high) all range
+within_referred comparison l h low high all range e f within = rw (← refers comparison l low e, ← refers comparison h high f) within
 
 pub unbounded_referred : {N : Type 0} (r : Bound (Bor N)) → bound_map (λ x. x.now) r ≡ Unbounded → r ≡ Unbounded
 unbounded_referred (Included q) e = cc

@@ -17,19 +17,19 @@ use Rattle.rkyv_btree_view.specs.Lookup.{found_at, Only}
 use Rattle.rkyv_btree_view.specs.Query.{IsCut, ComparesAs}
 use Rattle.rkyv_btree_view.proofs.Lookups.{some_mapped}
 use Rattle.rkyv_btree_view.specs.laws.Increasing.{increasing_finds}
-use Rattle.rkyv_btree_walk.proofs.Hits.{probe_answers}
+use Rattle.rkyv_btree_walk.proofs.Hits.{probe_finds}
 use Rattle.rkyv_btree_walk.specs.Search.{AnyHit, IsHit, OrderedBy, probe}
 use mathlib.Core.Path.{fun_ext}
 
-module _ {A B : Type 0} (answer : A → Ordering) where
+module _ {A B : Type 0} (comparison : A → Ordering) where
   abbrev at : A × B → Ordering
-  at e = answer e.0
+  at e = comparison e.0
 
   -- of a list: it has no hit, or this one
   abbrev Looks : List (A × B) → Option (A × B) → Type 0
   Looks m r = MatchOption r ((e : A × B) → IsHit at m e → ⊥) (λ e. IsHit at m e)
 
-  looks_behind : (x : A × B) (m : List (A × B)) → (answer x.0 ≡ Equal → ⊥) → (r : Option (A × B)) → Looks m r → Looks (x ∷ m) r
+  looks_behind : (x : A × B) (m : List (A × B)) → (comparison x.0 ≡ Equal → ⊥) → (r : Option (A × B)) → Looks m r → Looks (x ∷ m) r
   looks_behind x m unequal None none = no_hit
     where
       no_hit : (e : A × B) → IsHit at (x ∷ m) e → ⊥
@@ -37,18 +37,18 @@ module _ {A B : Type 0} (answer : A → Ordering) where
       no_hit e (is, suc n, l, i) = none e (is, n, omega arith, i)
   looks_behind x m unequal (Some e) hit = let l = hit.2 in (hit.0, suc hit.1, omega arith, hit.3)
 
-  looks : (m : List (A × B)) → Looks m (lookup_entry (is_at answer) m)
+  looks : (m : List (A × B)) → Looks m (lookup_entry (is_at comparison) m)
   looks [] = λ e hit. absurd (let l = hit.2 in omega arith)
   looks (x ∷ m) =
-      elim (answer x.0) as (λ o. answer x.0 ≡ o → Looks (x ∷ m) (cond (is_eq o) (Some x) (lookup_entry (is_at answer) m))) [
-        | Less ↦ λ e. looks_behind x m (λ g. cc) (lookup_entry (is_at answer) m) (looks m)
+      elim (comparison x.0) as (λ o. comparison x.0 ≡ o → Looks (x ∷ m) (cond (is_eq o) (Some x) (lookup_entry (is_at comparison) m))) [
+        | Less ↦ λ e. looks_behind x m (λ g. cc) (lookup_entry (is_at comparison) m) (looks m)
         | Equal ↦ λ e. (e, zero, omega arith, λ d. refl)
-        | Greater ↦ λ e. looks_behind x m (λ g. cc) (lookup_entry (is_at answer) m) (looks m)
+        | Greater ↦ λ e. looks_behind x m (λ g. cc) (lookup_entry (is_at comparison) m) (looks m)
       ] refl
 
   -- the only entry that gives Equal is the one that is looked up
-  only_is_looked_up : (m : List (A × B)) (found : Option (A × B)) → Only at m found → found ≡ lookup_entry (is_at answer) m
-  only_is_looked_up m found only = case (lookup_entry (is_at answer) m) (looks m)
+  only_is_looked_up : (m : List (A × B)) (found : Option (A × B)) → Only at m found → found ≡ lookup_entry (is_at comparison) m
+  only_is_looked_up m found only = case (lookup_entry (is_at comparison) m) (looks m)
     where
       not_found : (f : Option (A × B)) → IfSome f (IsHit at m) → ((e : A × B) → IsHit at m e → ⊥) → f ≡ None
       not_found None hit none = refl
@@ -82,19 +82,19 @@ alike means s t same [] = refl
 alike means s t same (p ∷ ps) = rw (same p, alike means s t same ps) refl
 
 -- where an entry is found that is equal, some entry is
-pub found_hit : {Y : Type 0} (answer : Y → Ordering) (m : List Y) (found : Option Y) → IfSome found (IsHit answer m) → IsTrue (is_some found) → AnyHit answer m
-found_hit answer m None hit some = absurd (cc some)
-found_hit answer m (Some e) hit some = (hit.1, hit.2, λ d. rw (hit.3 d) hit.0)
+pub found_hit : {Y : Type 0} (comparison : Y → Ordering) (m : List Y) (found : Option Y) → IfSome found (IsHit comparison m) → IsTrue (is_some found) → AnyHit comparison m
+found_hit comparison m None hit some = absurd (cc some)
+found_hit comparison m (Some e) hit some = (hit.1, hit.2, λ d. rw (hit.3 d) hit.0)
 
 -- an option that reads as what the search of a map finds
-module _ (K V : Kind) (E : ℕ) (b : List ℕ) (at : ℕ) (answer : K.Value → Ordering) {T : Type 0} (reads : T → K.Value × V.Value) (r : Option T) (found : option_map reads r ≡ found_at K V E b at answer) where
+module _ (K V : Kind) (E : ℕ) (b : List ℕ) (at : ℕ) (comparison : K.Value → Ordering) {T : Type 0} (view_value : T → K.Value × V.Value) (r : Option T) (found : option_map view_value r ≡ found_at K V E b at comparison) where
   -- it is an entry that is equal
-  pub found_member : IfSome (option_map reads r) (IsHit (λ e. answer e.0) (read_map K V E b at))
-  found_member = rw found (probe_answers (entry_at K V E b) (λ e. answer e.0) (map_tree (layout_of K V E) b at) _ refl).hit
+  pub found_member : IfSome (option_map view_value r) (IsHit (λ e. comparison e.0) (read_map K V E b at))
+  found_member = rw found (probe_finds (entry_at K V E b) (λ e. comparison e.0) (map_tree (layout_of K V E) b at) _ refl).hit
 
   -- and along an ordered list there is one if some entry is equal
-  pub found_complete : OrderedBy (λ e. answer e.0) (read_map K V E b at) → (IsSome r ↔ AnyHit (λ e. answer e.0) (read_map K V E b at))
-  found_complete = rw (← some_mapped reads r, found) (probe_answers (entry_at K V E b) (λ e. answer e.0) (map_tree (layout_of K V E) b at) _ refl).complete
+  pub found_complete : OrderedBy (λ e. comparison e.0) (read_map K V E b at) → (IsSome r ↔ AnyHit (λ e. comparison e.0) (read_map K V E b at))
+  found_complete = rw (← some_mapped view_value r, found) (probe_finds (entry_at K V E b) (λ e. comparison e.0) (map_tree (layout_of K V E) b at) _ refl).complete
 
 -- so whether an entry is looked up is whether its value is
 pub some_of_entry : {A B : Type 0} (test : A → Bool) (m : List (A × B)) → is_some (lookup_entry test m) ≡ is_some (lookup test m)
@@ -105,23 +105,23 @@ pub some_of_key : {A B : Type 0} (test : A → Bool) (m : List (A × B)) → is_
 some_of_key test m = sym (some_of_entry test m) ∙ sym (some_mapped (λ e. e.0) (lookup_entry test m)) ∙ ap is_some (key_of_entry test m)
 
 module _ (K V : Kind) (E : ℕ) (b : List ℕ) (at : ℕ) (rises : Increasing K.order (read_map K V E b at)) where
-  found_by_cut : (answer : K.Value → Ordering) → IsCut K.order answer → found_at K V E b at answer ≡ lookup_entry (is_at answer) (read_map K V E b at)
-  found_by_cut answer cut =
+  found_by_cut : (comparison : K.Value → Ordering) → IsCut K.order comparison → found_at K V E b at comparison ≡ lookup_entry (is_at comparison) (read_map K V E b at)
+  found_by_cut comparison cut =
       let tree = map_tree (layout_of K V E) b at in
-      let found = probe_answers (entry_at K V E b) (λ e. answer e.0) tree _ refl in
-      only_is_looked_up answer (read_map K V E b at) (found_at K V E b at answer) (increasing_finds K.order (λ e. e.0) answer cut (entry_at K V E b) tree (found_at K V E b at answer) found rises)
+      let found = probe_finds (entry_at K V E b) (λ e. comparison e.0) tree _ refl in
+      only_is_looked_up comparison (read_map K V E b at) (found_at K V E b at comparison) (increasing_finds K.order (λ e. e.0) comparison cut (entry_at K V E b) tree (found_at K V E b at comparison) found rises)
 
   -- a query that gives at each key that is read what a cut gives there finds what std's lookup finds
-  pub found_is : (answer cut : K.Value → Ordering) → IsCut K.order cut → ((p : ℕ) → answer (K.read b p) ≡ cut (K.read b p)) → found_at K V E b at answer ≡ lookup_entry (is_at answer) (read_map K V E b at)
-  found_is answer cut is_cut agree =
+  pub found_is : (comparison cut : K.Value → Ordering) → IsCut K.order cut → ((p : ℕ) → comparison (K.read b p) ≡ cut (K.read b p)) → found_at K V E b at comparison ≡ lookup_entry (is_at comparison) (read_map K V E b at)
+  found_is comparison cut is_cut agree =
       let tree = map_tree (layout_of K V E) b at in
       let places = list tree in
-      let same : (p : ℕ × ℕ) → answer (entry_at K V E b p).0 ≡ cut (entry_at K V E b p).0 = λ p. agree (p.0 + key_at (layout_of K V E) p.1) in
+      let same : (p : ℕ × ℕ) → comparison (entry_at K V E b p).0 ≡ cut (entry_at K V E b p).0 = λ p. agree (p.0 + key_at (layout_of K V E) p.1) in
       ap (λ (f : ℕ × ℕ → Ordering). option_map (entry_at K V E b) (probe f tree)) (fun_ext same)
       ∙ found_by_cut cut is_cut
-      ∙ sym (alike (entry_at K V E b) (is_at answer) (is_at cut) (λ p. ap is_eq (same p)) places)
+      ∙ sym (alike (entry_at K V E b) (is_at comparison) (is_at cut) (λ p. ap is_eq (same p)) places)
 
 -- native values agree with the cut that they are
 pub natives_agree : {N : Type 0} {K : Kind} {compared_at : N → List ℕ → ℕ → Ordering} (law : ComparesAs K compared_at) (compared : N → K.Value → Ordering) → ((n : N) (b : List ℕ) (p : ℕ) → compared_at n b p ≡ compared n (K.read b p))
     → (n : N) (b : List ℕ) (p : ℕ) → compared n (K.read b p) ≡ law.compared n (K.read b p)
-natives_agree law compared agree n b p = sym (agree n b p) ∙ law.reads n b p
+natives_agree law compared agree n b p = sym (agree n b p) ∙ law.by_value n b p

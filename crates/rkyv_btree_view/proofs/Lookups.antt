@@ -1,4 +1,4 @@
--- What is found at a place is what a look-up promises.
+-- What is found at a place is what a lookup promises.
 use Rattle.std.proofs.Common.{◌≡◌, ℕ, ◌+◌, ◌<◌, ◌≤◌, ◌*◌, IsTrue, List, Option, Some, None, is_some, refl, arith}
 use Rattle.std.specs.Option.{option_map}
 use Rattle.std.specs.declared.cmp.Ordering.{Ordering}
@@ -6,16 +6,16 @@ use Rattle.rkyv_btree_base.specs.Kind.{Kind, IsLawful}
 use Rattle.rkyv_btree_base.specs.Layout.{layout_of, are_fitting}
 use Rattle.rkyv_btree_base.specs.Read.{entry_at, map_tree}
 use Rattle.rkyv_btree_base.proofs.Sizes.{room_of}
-use Rattle.rkyv_btree_walk.specs.Search.{Answers, probe}
-use Rattle.rkyv_btree_walk.specs.mirror.Search.{answers_at}
-use Rattle.rkyv_btree_walk.proofs.Hits.{probe_answers}
+use Rattle.rkyv_btree_walk.specs.Search.{IsSearch, probe}
+use Rattle.rkyv_btree_walk.specs.mirror.Search.{comparison_at}
+use Rattle.rkyv_btree_walk.proofs.Hits.{probe_finds}
 
 module _ (K V : Kind) (E : ℕ) (b : List ℕ) (at : ℕ) (compare : K.Value → Ordering) where
-  pub place_finds : (place : Option (ℕ × ℕ)) (found : Option (K.Value × V.Value)) → found ≡ option_map (entry_at K V E b) place → place ≡ probe (answers_at K V E b compare) (map_tree (layout_of K V E) b at)
-      → Answers (λ e. compare e.0) (entry_at K V E b) (map_tree (layout_of K V E) b at) found
-  place_finds place found is probed = rw is (probe_answers (entry_at K V E b) (λ e. compare e.0) (map_tree (layout_of K V E) b at) place probed)
+  pub place_finds : (place : Option (ℕ × ℕ)) (found : Option (K.Value × V.Value)) → found ≡ option_map (entry_at K V E b) place → place ≡ probe (comparison_at K V E b compare) (map_tree (layout_of K V E) b at)
+      → IsSearch (λ e. compare e.0) (entry_at K V E b) (map_tree (layout_of K V E) b at) found
+  place_finds place found is probed = rw is (probe_finds (entry_at K V E b) (λ e. compare e.0) (map_tree (layout_of K V E) b at) place probed)
 
--- a count has room for the comparisons of one look-up
+-- a count has room for the comparisons of one lookup
 pub count_room : (K V : Kind) (E : ℕ) → IsLawful K → IsLawful V → IsTrue (are_fitting K V E) → (steps more : ℕ) → steps ≤ 9223372036854775807 → more ≤ E * 32 → steps + more < 18446744073709551616
 count_room K V E k v fits steps more low few = let room = room_of K V E k v fits in omega (arith, room.entries)
 

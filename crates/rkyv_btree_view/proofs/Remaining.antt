@@ -28,7 +28,7 @@ pub end_taken : (old new all : List (ℕ × ℕ)) (taken : Option EntryPlace) �
 end_taken old new all None takes end = rw takes.1 (all, sym (append-nil all))
 end_taken old new all (Some p) takes end = (end.0 ++ place_of p ∷ [], rw takes at end.1 ∙ sym (append_assoc end.0 (place_of p ∷ []) new))
 
--- a list that is the rest behind an element is longer than that
+-- a list that is the rest after an element is longer than that
 pub shorter : {X : Type 0} (x : X) (xs rest : List X) → xs ≡ x ∷ rest → length rest < length xs
 shorter x xs rest is = omega (arith, ap length is)
 

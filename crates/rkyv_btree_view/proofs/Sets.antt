@@ -11,7 +11,7 @@ use Rattle.std.specs.declared.ops.Bound.{Bound}
 use Rattle.std.specs.declared.ops.Bound.TheVariants.{Included, Excluded, Unbounded}
 use Rattle.rkyv_btree_walk.specs.Bounds.{IsRun, OrderedFor, IsWithin, is_from, is_to}
 use Rattle.rkyv_btree_walk.specs.Search.{OrderedBy, AnyHit, IsHit}
-use Rattle.rkyv_btree_walk.specs.Visit.{Visits, AfterAnswer}
+use Rattle.rkyv_btree_walk.specs.Visit.{Visits, AfterOutcome}
 use Rattle.rkyv_btree_view.specs.Set.{KeysOrderedFor, AreKeysWithin, VisitsKeys}
 use denote.Param.Always.{always_mut, mut_by}
 use denote.Param.Members.{Mut, Called}
@@ -31,8 +31,8 @@ module _ {A : Type 0} where
   keys_run r m h =
       (keys h.0, keys h.1, ap (map (λ e. e.0)) h.2 ∙ (map-append (λ e. e.0) h.0 (r ++ h.1) ∙ ap (λ rest. keys h.0 ++ rest) (map-append (λ e. e.0) r h.1)))
 
-  module _ (answer : A → Ordering) (m : List (A × Unit {0})) where
-    keys_ordered : OrderedBy answer (keys m) → OrderedBy (λ e. answer e.0) m
+  module _ (comparison : A → Ordering) (m : List (A × Unit {0})) where
+    keys_ordered : OrderedBy comparison (keys m) → OrderedBy (λ e. comparison e.0) m
     keys_ordered h =
         let greater = h.0 in let equal = h.1 in let less = h.2 in
         let with_unit : A → A × Unit {0} = λ k. (k, tt) in
@@ -43,28 +43,28 @@ module _ {A : Type 0} where
           entries equal,
           entries less,
           with_units m ∙ (all ∙ (parts ∙ ap (λ (first : List (A × Unit {0})). first ++ entries less) front)),
-          All-map (λ (e : A × Unit {0}). answer e.0 ≡ Greater) with_unit greater h.4,
-          All-map (λ (e : A × Unit {0}). answer e.0 ≡ Equal) with_unit equal h.5,
-          All-map (λ (e : A × Unit {0}). answer e.0 ≡ Less) with_unit less h.6,
+          All-map (λ (e : A × Unit {0}). comparison e.0 ≡ Greater) with_unit greater h.4,
+          All-map (λ (e : A × Unit {0}). comparison e.0 ≡ Equal) with_unit equal h.5,
+          All-map (λ (e : A × Unit {0}). comparison e.0 ≡ Less) with_unit less h.6,
         )
 
-    pub keys_hit : AnyHit (λ e. answer e.0) m → AnyHit answer (keys m)
+    pub keys_hit : AnyHit (λ e. comparison e.0) m → AnyHit comparison (keys m)
     keys_hit h = (h.0, omega (arith, length-map m (λ (e : A × Unit {0}). e.0), h.1), λ d. rw (get_or-map (λ (e : A × Unit {0}). e.0) m h.0 (d, tt)) (h.2 (d, tt)))
 
     -- an entry that is equal has a key that is
-    pub key_hit : (e : A × Unit {0}) → IsHit (λ e. answer e.0) m e → IsHit answer (keys m) e.0
+    pub key_hit : (e : A × Unit {0}) → IsHit (λ e. comparison e.0) m e → IsHit comparison (keys m) e.0
     key_hit e hit = (hit.0, hit.1, omega (arith, length-map m (λ (e : A × Unit {0}). e.0), hit.2), λ d. rw (get_or-map (λ (e : A × Unit {0}). e.0) m hit.1 (d, tt)) (ap (λ e. e.0) (hit.3 (d, tt))))
 
-    entries_hit : AnyHit answer (keys m) → AnyHit (λ e. answer e.0) m
+    entries_hit : AnyHit comparison (keys m) → AnyHit (λ e. comparison e.0) m
     entries_hit h = (h.0, omega (arith, length-map m (λ (e : A × Unit {0}). e.0), h.1), λ d. rw (← get_or-map (λ (e : A × Unit {0}). e.0) m h.0 d) (h.2 d.0))
 
-    pub keys_complete : {Found : Type 0} → (OrderedBy (λ e. answer e.0) m → (Found ↔ AnyHit (λ e. answer e.0) m)) → OrderedBy answer (keys m) → (Found ↔ AnyHit answer (keys m))
+    pub keys_complete : {Found : Type 0} → (OrderedBy (λ e. comparison e.0) m → (Found ↔ AnyHit (λ e. comparison e.0) m)) → OrderedBy comparison (keys m) → (Found ↔ AnyHit comparison (keys m))
     keys_complete complete ordered = let both = complete (keys_ordered ordered) in (λ found. keys_hit (both.0 found), λ any. both.1 (entries_hit any))
 
   bound_ordered : (bound : Bound (A → Ordering)) (m : List (A × Unit {0})) → KeysOrderedFor bound (keys m) → OrderedFor bound m
   bound_ordered Unbounded m h = tt
-  bound_ordered (Included answer) m h = keys_ordered answer m h
-  bound_ordered (Excluded answer) m h = keys_ordered answer m h
+  bound_ordered (Included comparison) m h = keys_ordered comparison m h
+  bound_ordered (Excluded comparison) m h = keys_ordered comparison m h
 
   filtered : (passes : A → Bool) (m : List (A × Unit {0})) → keys (filter (λ e. passes e.0) m) ≡ filter passes (keys m)
   filtered passes [] = refl
@@ -81,13 +81,13 @@ module _ {A : Type 0} where
 
 -- what may be called, and is left so by each call, may always be called
 pub stays_callable : {F W X R : Type 0} (g : Mut F (W × (X × Unit {0})) R) (f : F)
-    → ((key : W) (value : X) → g.pre f (key, (value, tt))) × ((before : F) (key : W) (value : X) (answer : R) (after : F) (next : W) (other : X) → Called g before (key, (value, tt)) answer after → g.pre after (next, (other, tt))) → always_mut g f
+    → ((key : W) (value : X) → g.pre f (key, (value, tt))) × ((before : F) (key : W) (value : X) (comparison : R) (after : F) (next : W) (other : X) → Called g before (key, (value, tt)) comparison after → g.pre after (next, (other, tt))) → always_mut g f
 stays_callable g f stays = mut_by g (λ s. (a : _) → g.pre s a) (λ s a i. i a) (λ s a r t i e b. stays.1 s a.0 a.1.0 r t b.0 b.1.0 e) f (λ a. stays.0 a.0 a.1.0)
 
 -- a visitor of entries that calls one of keys
 module _ {F G W X A B T : Type 0} (outer : G → W → X → ControlFlow T (Unit {0}) → G → Type 0) (inner : F → W → ControlFlow T (Unit {0}) → F → Type 0) (shows : W → X → A × B) (means : W → A) (same : (key : W) (value : X) → (shows key value).0 ≡ means key)
-    (within : G → F) (each : (f : G) (key : W) (value : X) (answer : ControlFlow T (Unit {0})) (after : G) → outer f key value answer after → inner (within f) key answer (within after)) where
-  after_key : (answer : ControlFlow T (Unit {0})) (goes_on : G → Type 0) (goes : F → Type 0) (after : G) (result : Option T) (last : G) → (goes_on after → goes (within after)) → AfterAnswer answer goes_on after result last → AfterAnswer answer goes (within after) result (within last)
+    (within : G → F) (each : (f : G) (key : W) (value : X) (comparison : ControlFlow T (Unit {0})) (after : G) → outer f key value comparison after → inner (within f) key comparison (within after)) where
+  after_key : (comparison : ControlFlow T (Unit {0})) (goes_on : G → Type 0) (goes : F → Type 0) (after : G) (result : Option T) (last : G) → (goes_on after → goes (within after)) → AfterOutcome comparison goes_on after result last → AfterOutcome comparison goes (within after) result (within last)
   after_key (Continue u) goes_on goes after result last next h = next h
   after_key (Break value) goes_on goes after result last next h = (h.0, ap within h.1)
 

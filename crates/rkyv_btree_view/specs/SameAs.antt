@@ -12,7 +12,7 @@ use Rattle.rkyv_btree_base.specs.Tree.{list}
 -- the same as a native one, another is so exactly where both values are the same
 pub record TestsSame {N : Type 0} (kind : Kind) (same_at : N → List ℕ → ℕ → Bool) : Type 0 where
   pub same : kind.Value → N → Bool
-  pub reads : (native : N) (b : List ℕ) (at : ℕ) → same_at native b at ≡ same (kind.read b at) native
+  pub by_value : (native : N) (b : List ℕ) (at : ℕ) → same_at native b at ≡ same (kind.read b at) native
   pub alike : (native : N) (x y : kind.Value) → same x native ≡ true → same y native ≡ kind.same x y
 
 module _ (K V : Kind) {T U : Type 0} (same_key_at : T → List ℕ → ℕ → Bool) (same_value_at : U → List ℕ → ℕ → Bool) where

@@ -1,4 +1,4 @@
--- Sets as views read them: the keys of a map whose values are (). `answer` is what comparing the query with a key gives, at
+-- Sets as views read them: the keys of a map whose values are (). `comparison` is what comparing the query with a key gives, at
 -- each key.
 use Rattle.std.specs.Prelude.{◌≡◌, ℕ, List, [], ◌∷◌, map, Option, None, ◌↔◌}
 use Rattle.std.specs.Option.{option_map}
@@ -11,7 +11,7 @@ use Rattle.rkyv_btree_base.specs.Scalars.{unit_kind}
 use Rattle.rkyv_btree_portable.specs.declared.check.Portable
 use Rattle.rkyv_btree_walk.specs.Bounds.{keys_within}
 use Rattle.rkyv_btree_walk.specs.Search.{OrderedBy, AnyHit}
-use Rattle.rkyv_btree_walk.specs.Visit.{AfterAnswer}
+use Rattle.rkyv_btree_walk.specs.Visit.{AfterOutcome}
 use Rattle.rkyv_btree_view.specs.Lookup.{found_in}
 use Rattle.rkyv_btree_view.specs.View.{entries_of}
 use Rattle.rkyv_btree_view.specs.declared.view.View.{View}
@@ -23,18 +23,18 @@ module _ (K : Kind) (E : ℕ) {S : Type 0} {s : Portable.Ghosts S} (view : View 
 
   -- the key that a search of a view's set asks and finds equal
   abbrev pub key_in : (K.Value → Ordering) → Option K.Value
-  key_in answer = option_map (λ e. e.0) (found_in K unit_kind E view answer)
+  key_in comparison = option_map (λ e. e.0) (found_in K unit_kind E view comparison)
 
   -- under an ordered comparison it says that there is a key exactly where some key is equal
   abbrev pub IsCompleteOnKeys : (K.Value → Ordering) → Type 0 → Type 0
-  IsCompleteOnKeys answer Found = OrderedBy answer keys_of → (Found ↔ AnyHit answer keys_of)
+  IsCompleteOnKeys comparison Found = OrderedBy comparison keys_of → (Found ↔ AnyHit comparison keys_of)
 
 module _ {A : Type 0} where
   -- the keys are ordered for the query of a bound, if it has one
   abbrev pub KeysOrderedFor : Bound (A → Ordering) → List A → Type 0
   KeysOrderedFor Unbounded all = Unit {0}
-  KeysOrderedFor (Included answer) all = OrderedBy answer all
-  KeysOrderedFor (Excluded answer) all = OrderedBy answer all
+  KeysOrderedFor (Included comparison) all = OrderedBy comparison all
+  KeysOrderedFor (Excluded comparison) all = OrderedBy comparison all
 
   -- these keys are all that are within both bounds, where the keys are ordered for both
   abbrev pub AreKeysWithin : Bound (A → Ordering) → Bound (A → Ordering) → List A → List A → Type 0
@@ -45,8 +45,8 @@ module _ {F W Y T : Type 0} (call : F → W → ControlFlow T (Unit {0}) → F �
   -- `last`
   abbrev pub VisitsKeys : F → List Y → Option T → F → Type 0
   VisitsKeys first [] result last = (result ≡ None) × (last ≡ first)
-  VisitsKeys first (k ∷ ks) result last = (key : W) × (answer : ControlFlow T (Unit {0})) × (after : F) × (means key ≡ k)
-      × call first key answer after × AfterAnswer answer (λ f. VisitsKeys f ks result last) after result last
+  VisitsKeys first (k ∷ ks) result last = (key : W) × (outcome : ControlFlow T (Unit {0})) × (after : F) × (means key ≡ k)
+      × call first key outcome after × AfterOutcome outcome (λ f. VisitsKeys f ks result last) after result last
 
   -- such calls were made, whatever the visitor went to
   abbrev pub VisitedKeys : F → List Y → Option T → Type 0

@@ -5,7 +5,7 @@ ghost use Rattle.std.specs.List.{fold};
 ghost use Rattle.std.specs.Ordering.{is_eq};
 ghost use Rattle.std.specs.Prelude.{◌≡◌, IsTrue, Some};
 ghost use Rattle.std.proofs.Common.{rules, refl};
-ghost use Rattle.rkyv_btree_view.specs.View.{reads, entries_of};
+ghost use Rattle.rkyv_btree_view.specs.View.{view_value, entries_of};
 ghost use Rattle.rkyv_btree_view.specs.laws.Comparing.{native_equivalence, native_total, native_matches, native_respects, views_order, map_respects, unit_equivalence};
 ghost use Rattle.rkyv_btree_base.specs.Entry.{entry_kind};
 ghost use Rattle.rkyv_btree_base.specs.Scalars.{unit_kind};
@@ -29,7 +29,7 @@ use std::hash::{Hash, Hasher};
 pub trait ViewEq: Portable {
     /// Whether what both views read is equal.
     fn is_same(a: &View<'_, Self>, b: &View<'_, Self>) -> bool
-        ensures { result ≡ Self.kind.same (reads a.now) (reads b.now) };
+        ensures { result ≡ Self.kind.same (view_value a.now) (view_value b.now) };
 
     ghost equivalence: { IsEquivalence Self.kind.same };
 }
@@ -38,7 +38,7 @@ pub trait ViewEq: Portable {
 pub trait ViewOrd: ViewEq {
     /// How what the first view reads compares to what the second reads.
     fn compare(a: &View<'_, Self>, b: &View<'_, Self>) -> Ordering
-        ensures { result ≡ Self.kind.order (reads a.now) (reads b.now) };
+        ensures { result ≡ Self.kind.order (view_value a.now) (view_value b.now) };
 
     ghost total: { IsTotalOrder Self.kind.order };
 
@@ -50,7 +50,7 @@ pub trait ViewOrd: ViewEq {
 pub trait ViewHash: ViewEq {
     /// Feeds the hasher what the view reads.
     fn hash_view<H: Hasher>(view: &View<'_, Self>, state: &mut H)
-        ensures { state.new ≡ fold H.write state.old (Self.kind.hash_input (reads view.now)) };
+        ensures { state.new ≡ fold H.write state.old (Self.kind.hash_input (view_value view.now)) };
 
     ghost respects_same: { (x y : Self.kind.Value) → IsTrue (Self.kind.same x y)
         → Self.kind.hash_input x ≡ Self.kind.hash_input y };
@@ -61,7 +61,7 @@ impl<T: ToNative> ViewEq for T {
         T::native(a) == T::native(b)
     }
 
-    ghost equivalence = { native_equivalence T.reads T.Native.Eq.laws };
+    ghost equivalence = { native_equivalence T.read_as T.Native.Eq.laws };
 }
 
 impl<T: ToNative> ViewOrd for T {
@@ -69,9 +69,9 @@ impl<T: ToNative> ViewOrd for T {
         T::native(a).cmp(&T::native(b))
     }
 
-    ghost total = { native_total T.reads T.Native.total };
+    ghost total = { native_total T.read_as T.Native.total };
 
-    ghost matches_same = { native_matches T.reads T.Native.matches_eq };
+    ghost matches_same = { native_matches T.read_as T.Native.matches_eq };
 }
 
 impl<T: ToNative> ViewHash for T {
@@ -79,7 +79,7 @@ impl<T: ToNative> ViewHash for T {
         T::native(view).hash(state);
     }
 
-    ghost respects_same = { native_respects T.reads T.Native.respects_eq };
+    ghost respects_same = { native_respects T.read_as T.Native.respects_eq };
 }
 
 impl ViewEq for ArchivedNonZeroU32 {
@@ -168,9 +168,9 @@ impl<K: ViewHash, V: ViewHash> ViewHash for Entry<K, V> {
 }
 
 impl<'a, T: ViewEq> PartialEq for View<'a, T> {
-    ghost eq = { λ v w. T.kind.same (reads v) (reads w) };
+    ghost eq = { λ v w. T.kind.same (view_value v) (view_value w) };
 
-    ghost laws = { on_per reads (partial_equiv_from_equiv T.equivalence) };
+    ghost laws = { on_per view_value (partial_equiv_from_equiv T.equivalence) };
 
     fn eq(&self, other: &View<'a, T>) -> bool {
         T::is_same(self, other)
@@ -178,13 +178,13 @@ impl<'a, T: ViewEq> PartialEq for View<'a, T> {
 }
 
 impl<'a, T: ViewEq> Eq for View<'a, T> {
-    ghost laws = { on_equiv reads T.equivalence };
+    ghost laws = { on_equiv view_value T.equivalence };
 }
 
 impl<'a, T: ViewOrd> PartialOrd for View<'a, T> {
-    ghost partial_cmp = { λ v w. Some (T.kind.order (reads v) (reads w)) };
+    ghost partial_cmp = { λ v w. Some (T.kind.order (view_value v) (view_value w)) };
 
-    ghost laws = { on_po reads (views_order T.kind T.total T.matches_same) };
+    ghost laws = { on_po view_value (views_order T.kind T.total T.matches_same) };
 
     fn partial_cmp(&self, other: &View<'a, T>) -> Option<Ordering> {
         Some(T::compare(self, other))
@@ -192,13 +192,13 @@ impl<'a, T: ViewOrd> PartialOrd for View<'a, T> {
 }
 
 impl<'a, T: ViewOrd> Ord for View<'a, T> {
-    ghost cmp = { λ v w. T.kind.order (reads v) (reads w) };
+    ghost cmp = { λ v w. T.kind.order (view_value v) (view_value w) };
 
-    ghost total = { on_total reads T.total };
+    ghost total = { on_total view_value T.total };
 
     ghost matches_partial_cmp = { Prim.search rules };
 
-    ghost matches_eq = { λ v w. T.matches_same (reads v) (reads w) };
+    ghost matches_eq = { λ v w. T.matches_same (view_value v) (view_value w) };
 
     fn cmp(&self, other: &View<'a, T>) -> Ordering {
         T::compare(self, other)
@@ -206,9 +206,9 @@ impl<'a, T: ViewOrd> Ord for View<'a, T> {
 }
 
 impl<'a, T: ViewHash> Hash for View<'a, T> {
-    ghost hash_input = { λ v. T.kind.hash_input (reads v) };
+    ghost hash_input = { λ v. T.kind.hash_input (view_value v) };
 
-    ghost respects_eq = { λ v w. T.respects_same (reads v) (reads w) };
+    ghost respects_eq = { λ v w. T.respects_same (view_value v) (view_value w) };
 
     fn hash<H: Hasher>(&self, state: &mut H) {
         T::hash_view(self, state);

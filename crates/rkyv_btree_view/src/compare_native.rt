@@ -4,7 +4,7 @@ ghost use Rattle.std.specs.Cmp.{nat_cmp_total, nat_eq_equiv};
 ghost use Rattle.std.specs.Cmp.Lexicographic.{nat_list_cmp_total, slice_cmp, nat_list_eq_equiv, pointwise};
 ghost use Rattle.std.specs.Int.NonZero.{non_zero_u32_get};
 ghost use Rattle.std.specs.Ordering.{nat_cmp, ordering_then};
-ghost use Rattle.std.specs.declared.cmp.Ordering.{Ordering as Answer};
+ghost use Rattle.std.specs.declared.cmp.Ordering.{Ordering as Comparison};
 ghost use Rattle.rkyv_btree_base.specs.Entry.{value_offset};
 ghost use Rattle.rkyv_btree_base.specs.Scalars.{non_zero_kind};
 ghost use Rattle.rkyv_btree_base.specs.Text.{text_kind};
@@ -37,7 +37,7 @@ use std::num::NonZeroU32;
 /// An archived type whose values are compared with native ones of type `T`, in an order that goes with their own.
 pub trait CompareWith<T>: Portable {
     /// What comparing a native value with the value at a position of a buffer gives.
-    ghost compared_at: { T → List ℕ → ℕ → Answer };
+    ghost compared_at: { T → List ℕ → ℕ → Comparison };
 
     /// How `native` compares to what the view reads: `Greater` means that it is past that.
     fn compare_with(native: &T, view: &View<'_, Self>) -> Ordering
@@ -70,7 +70,7 @@ impl<T: ToNative> CompareWith<T::Native> for T {
         }
     }
 
-    ghost compares = { native_compares T.reads T.Native.total };
+    ghost compares = { native_compares T.read_as T.Native.total };
 }
 
 impl CompareWith<NonZeroU32> for ArchivedNonZeroU32 {
@@ -129,7 +129,7 @@ impl<T: ToNative> SameAs<T::Native> for T {
         T::native(view) == *native
     }
 
-    ghost tests = { native_tests T.reads T.Native.Eq.laws };
+    ghost tests = { native_tests T.read_as T.Native.Eq.laws };
 }
 
 impl SameAs<NonZeroU32> for ArchivedNonZeroU32 {

@@ -1,7 +1,7 @@
 //! Views in messages, as what they read.
 ghost use Rattle.std.specs.Fmt.{styled_text};
 ghost use Rattle.std.specs.Prelude.{Some};
-ghost use Rattle.rkyv_btree_view.specs.View.{reads};
+ghost use Rattle.rkyv_btree_view.specs.View.{view_value};
 
 use crate::native::ToNative;
 use crate::view::View;
@@ -78,9 +78,9 @@ impl<'a, T: ViewDebug> fmt::Debug for View<'a, T> {
 }
 
 impl<'a> fmt::Display for View<'a, ArchivedText> {
-    ghost output = { λ view. Some (reads view) };
+    ghost output = { λ view. Some (view_value view) };
 
-    ghost styled_output = { λ view spec. Some (styled_text spec (reads view)) };
+    ghost styled_output = { λ view spec. Some (styled_text spec (view_value view)) };
 
     fn fmt<W: fmt::Write>(&self, f: &mut fmt::Formatter<W>) -> fmt::Result {
         f.pad(self.as_str())

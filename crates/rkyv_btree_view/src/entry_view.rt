@@ -1,7 +1,7 @@
 //! Views of entries.
 ghost use Rattle.std.specs.Prelude.{◌≡◌, ◌+◌};
 ghost use Rattle.rkyv_btree_base.specs.Entry.{value_offset};
-ghost use Rattle.rkyv_btree_view.specs.View.{reads};
+ghost use Rattle.rkyv_btree_view.specs.View.{view_value};
 
 use crate::view::View;
 use rkyv_btree_base::check::Portable;
@@ -13,7 +13,7 @@ impl<'a, K: Portable, V: Portable> View<'a, Entry<K, V>> {
     pub fn key(self) -> View<'a, K>
         ensures buffer { result.buf.now ≡ self.entry.buf.now }
         ensures position { result.pos ≡ self.entry.pos }
-        ensures value { reads result ≡ (reads self.entry).0 }
+        ensures value { view_value result ≡ (view_value self.entry).0 }
     {
         View {
             buf: self.buf,
@@ -26,7 +26,7 @@ impl<'a, K: Portable, V: Portable> View<'a, Entry<K, V>> {
     pub fn value(self) -> View<'a, V>
         ensures buffer { result.buf.now ≡ self.entry.buf.now }
         ensures position { result.pos ≡ self.entry.pos + value_offset K.kind V.kind }
-        ensures value { reads result ≡ (reads self.entry).1 }
+        ensures value { view_value result ≡ (view_value self.entry).1 }
     {
         View {
             buf: self.buf,

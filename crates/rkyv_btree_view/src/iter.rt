@@ -9,7 +9,7 @@ ghost use Rattle.rkyv_btree_walk.specs.EntryPlaces.{entry_places, place_of};
 ghost use Rattle.rkyv_btree_walk.specs.mirror.Along.{walk_left, IsWalk};
 ghost use Rattle.rkyv_btree_walk.specs.mirror.Node.{RunStands};
 ghost use Rattle.rkyv_btree_walk.specs.mirror.Range.{IsEnd};
-ghost use Rattle.rkyv_btree_view.specs.View.{reads_both, entries_of};
+ghost use Rattle.rkyv_btree_view.specs.View.{view_entry, entries_of};
 
 use crate::map_view::ShowsEntries;
 use crate::view::View;
@@ -32,7 +32,7 @@ pub(crate) fn entry<'a, K: Portable, V: Portable, M: ArchivedMap<Key = K, Mapped
 ) -> (View<'a, K>, View<'a, V>)
     requires map { IsTrue (stands M.kind buf.now pos) }
     requires entry { RunStands K.kind V.kind M.E buf.now place.node place.index (place.index + 1) }
-    ensures { reads_both result ≡ entry_at K.kind V.kind M.E buf.now (place_of place) }
+    ensures { view_entry result ≡ entry_at K.kind V.kind M.E buf.now (place_of place) }
 {
     M::opened(buf, pos);
     let key = View::<K>::at(buf, key_pos::<K, V, M>(place.node, place.index));
@@ -62,7 +62,7 @@ impl<'a, K: Portable, V: Portable, M: ArchivedMap<Key = K, Mapped = V>> Iterator
 
     type Item = (View<'a, K>, View<'a, V>);
 
-    ghost next_gives = { YieldsFirstBy reads_both entries_left };
+    ghost next_gives = { YieldsFirstBy view_entry entries_left };
 
     ghost remaining = { item_count entries_left };
 
@@ -107,7 +107,7 @@ impl<'a, K: Portable, V: Portable, M: ArchivedMap<Key = K, Mapped = V> + ShowsEn
     ///     .map(|entry| entry.1.to_native())
     /// ```
     pub fn iter(self) -> Iter<'a, M>
-        ensures yields { ShowsAll ⟦<Iter<'a, M> as Iterator>⟧.next_gives reads_both result
+        ensures yields { ShowsAll ⟦<Iter<'a, M> as Iterator>⟧.next_gives view_entry result
             (entries_of K.kind V.kind M.E self.entry) }
         ensures entries { entries_left result ≡ entries_of K.kind V.kind M.E self.entry }
         ensures ends { IsFinite (⟦<Iter<'a, M> as Iterator>⟧.remaining result) }

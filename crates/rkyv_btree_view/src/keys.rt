@@ -2,7 +2,7 @@
 ghost use Rattle.std.specs.Prelude.{◌≡◌, length, map};
 ghost use Rattle.std.specs.Iterator.{IsFinite};
 ghost use Rattle.rkyv_btree_view.specs.Items.{ShowsAll};
-ghost use Rattle.rkyv_btree_view.specs.View.{reads, entries_of};
+ghost use Rattle.rkyv_btree_view.specs.View.{view_value, entries_of};
 
 use crate::iter::Iter;
 use crate::view::View;
@@ -24,7 +24,7 @@ impl<'a, K: Portable, V: Portable, M: ArchivedMap<Key = K, Mapped = V>> Iterator
 
     type Item = View<'a, K>;
 
-    ghost next_gives = { YieldsFirstBy reads keys_left };
+    ghost next_gives = { YieldsFirstBy view_value keys_left };
 
     ghost remaining = { item_count keys_left };
 
@@ -71,7 +71,7 @@ impl<'a, K: Portable, V: Portable, M: ArchivedMap<Key = K, Mapped = V>> Iterator
 
     type Item = View<'a, V>;
 
-    ghost next_gives = { YieldsFirstBy reads values_left };
+    ghost next_gives = { YieldsFirstBy view_value values_left };
 
     ghost remaining = { item_count values_left };
 
@@ -107,7 +107,7 @@ impl<'a, K: Portable, V: Portable, M: ArchivedMap<Key = K, Mapped = V>> FusedIte
 impl<'a, K: Portable, V: Portable, M: ArchivedMap<Key = K, Mapped = V>> View<'a, M> {
     /// Returns an iterator over the keys, in order.
     pub fn keys(self) -> Keys<'a, M>
-        ensures yields { ShowsAll ⟦<Keys<'a, M> as Iterator>⟧.next_gives reads result
+        ensures yields { ShowsAll ⟦<Keys<'a, M> as Iterator>⟧.next_gives view_value result
             (map (λ e. e.0) (entries_of K.kind V.kind M.E self.entry)) }
         ensures ends { IsFinite (⟦<Keys<'a, M> as Iterator>⟧.remaining result) }
     {
@@ -118,7 +118,7 @@ impl<'a, K: Portable, V: Portable, M: ArchivedMap<Key = K, Mapped = V>> View<'a,
 
     /// Returns an iterator over the values, in the order of their keys.
     pub fn values(self) -> Values<'a, M>
-        ensures yields { ShowsAll ⟦<Values<'a, M> as Iterator>⟧.next_gives reads result
+        ensures yields { ShowsAll ⟦<Values<'a, M> as Iterator>⟧.next_gives view_value result
             (map (λ e. e.1) (entries_of K.kind V.kind M.E self.entry)) }
         ensures ends { IsFinite (⟦<Values<'a, M> as Iterator>⟧.remaining result) }
     {

@@ -13,9 +13,9 @@ ghost use Rattle.rkyv_btree_view.specs.Lookup.{ByComparison, ByNative};
 ghost use Rattle.rkyv_btree_view.specs.Lookup.{FoundIsEqual, IncreasingIsFound, SearchedIsSpelled, SearchedIsLow};
 ghost use Rattle.rkyv_btree_view.specs.Native.{ByReading};
 ghost use Rattle.rkyv_btree_view.specs.Query.{IsCut};
-ghost use Rattle.rkyv_btree_view.specs.View.{reads, reads_both, entries_of};
+ghost use Rattle.rkyv_btree_view.specs.View.{view_value, view_entry, entries_of};
 ghost use Rattle.rkyv_btree_walk.specs.mirror.Node.{RunStands};
-ghost use Rattle.rkyv_btree_walk.specs.Search.{AnyHit, IsHit, shown};
+ghost use Rattle.rkyv_btree_walk.specs.Search.{AnyHit, IsHit, shown_value};
 
 use crate::compare::ViewOrd;
 use crate::compare_native::CompareWith;
@@ -37,7 +37,7 @@ impl<'a, K: Portable, V: Portable, M: ArchivedMap<Key = K, Mapped = V>> View<'a,
     fn entry_found(self, found: Option<(u32, u32)>) -> Option<(View<'a, K>, View<'a, V>)>
         requires { IfSome found (λ e.
             RunStands K.kind V.kind M.E self.buf.now e.0 e.1 (e.1 + 1)) }
-        ensures { option_map reads_both result
+        ensures { option_map view_entry result
             ≡ option_map (entry_at K.kind V.kind M.E self.entry.buf.now) found }
     {
         match found {
@@ -71,20 +71,20 @@ impl<'a, K: Portable, V: Portable, M: ArchivedMap<Key = K, Mapped = V>> View<'a,
     ) -> Option<(View<'a, K>, View<'a, V>)>
         requires { C.IsAlwaysCallable cmp }
         // A result is an entry of the list whose key is equal.
-        ensures member { ByComparison (C.post cmp) (shown K.kind W.Shows) key.now (λ answer.
-            IfSome (option_map reads_both result)
-            (IsHit (λ e. answer e.0) (entries_of K.kind V.kind M.E self.entry))) }
+        ensures member { ByComparison (C.post cmp) (shown_value K.kind W.Shows) key.now (λ comparison.
+            IfSome (option_map view_entry result)
+            (IsHit (λ e. comparison e.0) (entries_of K.kind V.kind M.E self.entry))) }
         // If the keys increase, it is what std's map finds.
-        ensures sorted { ByComparison (C.post cmp) (shown K.kind W.Shows) key.now (λ answer.
-            IsCut K.kind.order answer →
+        ensures sorted { ByComparison (C.post cmp) (shown_value K.kind W.Shows) key.now (λ comparison.
+            IsCut K.kind.order comparison →
             Increasing K.kind.order (entries_of K.kind V.kind M.E self.entry) →
-            option_map reads_both result ≡ lookup_entry (is_at answer)
+            option_map view_entry result ≡ lookup_entry (is_at comparison)
             (entries_of K.kind V.kind M.E self.entry)) }
         // On each map it is the entry at which the search ends.
-        ensures found { ByComparison (C.post cmp) (shown K.kind W.Shows) key.now (λ answer.
-            option_map reads_both result ≡ found_in K.kind V.kind M.E self.entry answer) }
-        ensures complete { ByComparison (C.post cmp) (shown K.kind W.Shows) key.now (λ answer.
-            IsComplete K.kind V.kind M.E self.entry answer (IsSome result)) }
+        ensures found { ByComparison (C.post cmp) (shown_value K.kind W.Shows) key.now (λ comparison.
+            option_map view_entry result ≡ found_in K.kind V.kind M.E self.entry comparison) }
+        ensures complete { ByComparison (C.post cmp) (shown_value K.kind W.Shows) key.now (λ comparison.
+            IsComplete K.kind V.kind M.E self.entry comparison (IsSome result)) }
     {
         let compare = |query: &Q, key: W| Compared::of(cmp(query, key));
         let (found, _) = search::<Q, K, V, M, W, _>(self.buf, self.pos, key, &compare);
@@ -103,30 +103,30 @@ impl<'a, K: Portable, V: Portable, M: ArchivedMap<Key = K, Mapped = V>> View<'a,
         requires callable { C.IsAlwaysCallable cmp }
         requires room { steps.old ≤ 9223372036854775807 }
         // A result is an entry of the list whose key is equal.
-        ensures member { ByComparison (C.post cmp) (shown K.kind W.Shows) key.now (λ answer.
-            IfSome (option_map reads_both result)
-            (IsHit (λ e. answer e.0) (entries_of K.kind V.kind M.E self.entry))) }
+        ensures member { ByComparison (C.post cmp) (shown_value K.kind W.Shows) key.now (λ comparison.
+            IfSome (option_map view_entry result)
+            (IsHit (λ e. comparison e.0) (entries_of K.kind V.kind M.E self.entry))) }
         // If the keys increase, it is what std's map finds.
-        ensures sorted { ByComparison (C.post cmp) (shown K.kind W.Shows) key.now (λ answer.
-            IsCut K.kind.order answer →
+        ensures sorted { ByComparison (C.post cmp) (shown_value K.kind W.Shows) key.now (λ comparison.
+            IsCut K.kind.order comparison →
             Increasing K.kind.order (entries_of K.kind V.kind M.E self.entry) →
-            option_map reads_both result ≡ lookup_entry (is_at answer)
+            option_map view_entry result ≡ lookup_entry (is_at comparison)
             (entries_of K.kind V.kind M.E self.entry)) }
         // On each map it is the entry at which the search ends.
-        ensures found { ByComparison (C.post cmp) (shown K.kind W.Shows) key.now (λ answer.
-            option_map reads_both result ≡ found_in K.kind V.kind M.E self.entry answer) }
-        ensures complete { ByComparison (C.post cmp) (shown K.kind W.Shows) key.now (λ answer.
-            IsComplete K.kind V.kind M.E self.entry answer (IsSome result)) }
-        ensures counts { ByComparison (C.post cmp) (shown K.kind W.Shows) key.now (λ answer.
-            steps.new ≡ steps.old + comparisons_in K.kind V.kind M.E self.entry answer) }
-        ensures few { ByComparison (C.post cmp) (shown K.kind W.Shows) key.now (λ answer.
+        ensures found { ByComparison (C.post cmp) (shown_value K.kind W.Shows) key.now (λ comparison.
+            option_map view_entry result ≡ found_in K.kind V.kind M.E self.entry comparison) }
+        ensures complete { ByComparison (C.post cmp) (shown_value K.kind W.Shows) key.now (λ comparison.
+            IsComplete K.kind V.kind M.E self.entry comparison (IsSome result)) }
+        ensures counts { ByComparison (C.post cmp) (shown_value K.kind W.Shows) key.now (λ comparison.
+            steps.new ≡ steps.old + comparisons_in K.kind V.kind M.E self.entry comparison) }
+        ensures few { ByComparison (C.post cmp) (shown_value K.kind W.Shows) key.now (λ comparison.
             steps.new ≤ steps.old + M.E * height_of K.kind V.kind M.E self.entry) }
         ensures none { entries_of K.kind V.kind M.E self.entry ≡ [] → steps.new ≡ steps.old }
     {
         M::opened(self.buf, self.pos);
         let compare = |query: &Q, key: W| Compared::of(cmp(query, key));
-        let (found, asked) = search::<Q, K, V, M, W, _>(self.buf, self.pos, key, &compare);
-        steps.add(asked);
+        let (found, compared) = search::<Q, K, V, M, W, _>(self.buf, self.pos, key, &compare);
+        steps.add(compared);
         self.entry_found(found)
     }
 }
@@ -135,17 +135,17 @@ impl<'a, K: ViewOrd, V: Portable, M: ArchivedMap<Key = K, Mapped = V> + ShowsEnt
     /// Returns the entry whose key is equal to `key`, or `None`.
     pub fn get_key_value(self, key: View<'_, K>) -> Option<(View<'a, K>, View<'a, V>)>
         // A result is an entry of the list whose key is equal.
-        ensures member { IfSome (option_map reads_both result)
-            (IsHit (λ e. K.kind.order (reads key.entry) e.0)
+        ensures member { IfSome (option_map view_entry result)
+            (IsHit (λ e. K.kind.order (view_value key.entry) e.0)
             (entries_of K.kind V.kind M.E self.entry)) }
         // If the keys increase, it is what std's map finds.
         ensures sorted { Increasing K.kind.order (entries_of K.kind V.kind M.E self.entry) →
-            option_map reads_both result ≡ lookup_entry (is_at (K.kind.order (reads key.entry)))
+            option_map view_entry result ≡ lookup_entry (is_at (K.kind.order (view_value key.entry)))
             (entries_of K.kind V.kind M.E self.entry) }
         // On each map it is the entry at which the search ends.
-        ensures found { option_map reads_both result
-            ≡ found_in K.kind V.kind M.E self.entry (K.kind.order (reads key.entry)) }
-        ensures complete { IsComplete K.kind V.kind M.E self.entry (K.kind.order (reads key.entry))
+        ensures found { option_map view_entry result
+            ≡ found_in K.kind V.kind M.E self.entry (K.kind.order (view_value key.entry)) }
+        ensures complete { IsComplete K.kind V.kind M.E self.entry (K.kind.order (view_value key.entry))
             (IsSome result) }
     {
         let compare = |query: &View<'_, K>, key: View<K>| Compared::of(K::compare(query, &key));
@@ -156,16 +156,16 @@ impl<'a, K: ViewOrd, V: Portable, M: ArchivedMap<Key = K, Mapped = V> + ShowsEnt
     /// Returns the value stored for `key`, or `None`.
     pub fn get(self, key: View<'_, K>) -> Option<View<'a, V>>
         // A result is the value of an entry whose key is equal.
-        ensures member { IfSome result (λ value. IsValueOfEqualKey (K.kind.order (reads key.entry))
-            (entries_of K.kind V.kind M.E self.entry) (reads value)) }
+        ensures member { IfSome result (λ value. IsValueOfEqualKey (K.kind.order (view_value key.entry))
+            (entries_of K.kind V.kind M.E self.entry) (view_value value)) }
         // If the keys increase, it is what std's map finds.
         ensures sorted { Increasing K.kind.order (entries_of K.kind V.kind M.E self.entry) →
-            option_map reads result ≡ lookup (is_at (K.kind.order (reads key.entry)))
+            option_map view_value result ≡ lookup (is_at (K.kind.order (view_value key.entry)))
             (entries_of K.kind V.kind M.E self.entry) }
         // On each map it is the value of the entry at which the search ends.
-        ensures found { option_map reads result ≡ option_map (λ e. e.1)
-            (found_in K.kind V.kind M.E self.entry (K.kind.order (reads key.entry))) }
-        ensures complete { IsComplete K.kind V.kind M.E self.entry (K.kind.order (reads key.entry))
+        ensures found { option_map view_value result ≡ option_map (λ e. e.1)
+            (found_in K.kind V.kind M.E self.entry (K.kind.order (view_value key.entry))) }
+        ensures complete { IsComplete K.kind V.kind M.E self.entry (K.kind.order (view_value key.entry))
             (IsSome result) }
     {
         match self.get_key_value(key) {
@@ -177,16 +177,16 @@ impl<'a, K: ViewOrd, V: Portable, M: ArchivedMap<Key = K, Mapped = V> + ShowsEnt
     /// Returns whether `get` finds a value.
     pub fn contains_key(self, key: View<'_, K>) -> bool
         // If it is true, an entry of the list has an equal key.
-        ensures member { IsTrue result → AnyHit (λ e. K.kind.order (reads key.entry) e.0)
+        ensures member { IsTrue result → AnyHit (λ e. K.kind.order (view_value key.entry) e.0)
             (entries_of K.kind V.kind M.E self.entry) }
         // If the keys increase, it is whether std's map finds a value.
         ensures sorted { Increasing K.kind.order (entries_of K.kind V.kind M.E self.entry) →
-            result ≡ is_some (lookup (is_at (K.kind.order (reads key.entry)))
+            result ≡ is_some (lookup (is_at (K.kind.order (view_value key.entry)))
             (entries_of K.kind V.kind M.E self.entry)) }
         // On each map it is whether the search ends at an entry.
         ensures found { result
-            ≡ is_some (found_in K.kind V.kind M.E self.entry (K.kind.order (reads key.entry))) }
-        ensures complete { IsComplete K.kind V.kind M.E self.entry (K.kind.order (reads key.entry))
+            ≡ is_some (found_in K.kind V.kind M.E self.entry (K.kind.order (view_value key.entry))) }
+        ensures complete { IsComplete K.kind V.kind M.E self.entry (K.kind.order (view_value key.entry))
             (IsTrue result) }
     {
         self.get_key_value(key).is_some()
@@ -194,14 +194,14 @@ impl<'a, K: ViewOrd, V: Portable, M: ArchivedMap<Key = K, Mapped = V> + ShowsEnt
 
     /// Returns the value stored for `key`. Requires that there is one: `contains_key` is the test.
     pub fn index(self, key: View<'_, K>) -> View<'a, V>
-        requires { IsSome (found_in K.kind V.kind M.E self (K.kind.order (reads key))) }
-        ensures member { IsValueOfEqualKey (K.kind.order (reads key.entry))
-            (entries_of K.kind V.kind M.E self.entry) (reads result) }
+        requires { IsSome (found_in K.kind V.kind M.E self (K.kind.order (view_value key))) }
+        ensures member { IsValueOfEqualKey (K.kind.order (view_value key.entry))
+            (entries_of K.kind V.kind M.E self.entry) (view_value result) }
         ensures sorted { Increasing K.kind.order (entries_of K.kind V.kind M.E self.entry) →
-            Some (reads result) ≡ lookup (is_at (K.kind.order (reads key.entry)))
+            Some (view_value result) ≡ lookup (is_at (K.kind.order (view_value key.entry)))
             (entries_of K.kind V.kind M.E self.entry) }
-        ensures found { Some (reads result) ≡ option_map (λ e. e.1)
-            (found_in K.kind V.kind M.E self.entry (K.kind.order (reads key.entry))) }
+        ensures found { Some (view_value result) ≡ option_map (λ e. e.1)
+            (found_in K.kind V.kind M.E self.entry (K.kind.order (view_value key.entry))) }
     {
         match self.get(key) {
             Some(value) => value,
@@ -217,19 +217,19 @@ impl<'a, K: Portable, V: Portable, M: ArchivedMap<Key = K, Mapped = V> + ShowsEn
     where
         K: CompareWith<T>,
         // A result is an entry of the list whose key is equal.
-        ensures member { ByNative K.kind K.compared_at key (λ answer.
-            IfSome (option_map reads_both result)
-            (IsHit (λ e. answer e.0) (entries_of K.kind V.kind M.E self.entry))) }
+        ensures member { ByNative K.kind K.compared_at key (λ comparison.
+            IfSome (option_map view_entry result)
+            (IsHit (λ e. comparison e.0) (entries_of K.kind V.kind M.E self.entry))) }
         // If the keys increase, it is what std's map finds.
-        ensures sorted { ByNative K.kind K.compared_at key (λ answer.
+        ensures sorted { ByNative K.kind K.compared_at key (λ comparison.
             Increasing K.kind.order (entries_of K.kind V.kind M.E self.entry) →
-            option_map reads_both result ≡ lookup_entry (is_at answer)
+            option_map view_entry result ≡ lookup_entry (is_at comparison)
             (entries_of K.kind V.kind M.E self.entry)) }
         // On each map it is the entry at which the search ends.
-        ensures found { ByNative K.kind K.compared_at key (λ answer.
-            option_map reads_both result ≡ found_in K.kind V.kind M.E self.entry answer) }
-        ensures complete { ByNative K.kind K.compared_at key (λ answer.
-            IsComplete K.kind V.kind M.E self.entry answer (IsSome result)) }
+        ensures found { ByNative K.kind K.compared_at key (λ comparison.
+            option_map view_entry result ≡ found_in K.kind V.kind M.E self.entry comparison) }
+        ensures complete { ByNative K.kind K.compared_at key (λ comparison.
+            IsComplete K.kind V.kind M.E self.entry comparison (IsSome result)) }
     {
         let compare = |query: &T, key: View<K>| K::compared(query, &key);
         let (found, _) = search::<_, K, V, M, _, _>(self.buf, self.pos, &key, &compare);
@@ -247,18 +247,18 @@ impl<'a, K: Portable, V: Portable, M: ArchivedMap<Key = K, Mapped = V> + ShowsEn
     where
         K: CompareWith<T>,
         // A result is the value of an entry whose key is equal.
-        ensures member { ByNative K.kind K.compared_at key (λ answer. IfSome result (λ value.
-            IsValueOfEqualKey answer (entries_of K.kind V.kind M.E self.entry) (reads value))) }
+        ensures member { ByNative K.kind K.compared_at key (λ comparison. IfSome result (λ value.
+            IsValueOfEqualKey comparison (entries_of K.kind V.kind M.E self.entry) (view_value value))) }
         // If the keys increase, it is what std's map finds.
-        ensures sorted { ByNative K.kind K.compared_at key (λ answer.
+        ensures sorted { ByNative K.kind K.compared_at key (λ comparison.
             Increasing K.kind.order (entries_of K.kind V.kind M.E self.entry) →
-            option_map reads result ≡ lookup (is_at answer)
+            option_map view_value result ≡ lookup (is_at comparison)
             (entries_of K.kind V.kind M.E self.entry)) }
         // On each map it is the value of the entry at which the search ends.
-        ensures found { ByNative K.kind K.compared_at key (λ answer. option_map reads result
-            ≡ option_map (λ e. e.1) (found_in K.kind V.kind M.E self.entry answer)) }
-        ensures complete { ByNative K.kind K.compared_at key (λ answer.
-            IsComplete K.kind V.kind M.E self.entry answer (IsSome result)) }
+        ensures found { ByNative K.kind K.compared_at key (λ comparison. option_map view_value result
+            ≡ option_map (λ e. e.1) (found_in K.kind V.kind M.E self.entry comparison)) }
+        ensures complete { ByNative K.kind K.compared_at key (λ comparison.
+            IsComplete K.kind V.kind M.E self.entry comparison (IsSome result)) }
     {
         match self.get_key_value_by(key) {
             None => None,
@@ -277,18 +277,18 @@ impl<'a, K: Portable, V: Portable, M: ArchivedMap<Key = K, Mapped = V> + ShowsEn
     where
         K: CompareWith<T>,
         // If it is true, an entry of the list has an equal key.
-        ensures member { ByNative K.kind K.compared_at key (λ answer. IsTrue result →
-            AnyHit (λ e. answer e.0) (entries_of K.kind V.kind M.E self.entry)) }
+        ensures member { ByNative K.kind K.compared_at key (λ comparison. IsTrue result →
+            AnyHit (λ e. comparison e.0) (entries_of K.kind V.kind M.E self.entry)) }
         // If the keys increase, it is whether std's map finds a value.
-        ensures sorted { ByNative K.kind K.compared_at key (λ answer.
+        ensures sorted { ByNative K.kind K.compared_at key (λ comparison.
             Increasing K.kind.order (entries_of K.kind V.kind M.E self.entry) →
-            result ≡ is_some (lookup (is_at answer)
+            result ≡ is_some (lookup (is_at comparison)
             (entries_of K.kind V.kind M.E self.entry))) }
         // On each map it is whether the search ends at an entry.
-        ensures found { ByNative K.kind K.compared_at key (λ answer.
-            result ≡ is_some (found_in K.kind V.kind M.E self.entry answer)) }
-        ensures complete { ByNative K.kind K.compared_at key (λ answer.
-            IsComplete K.kind V.kind M.E self.entry answer (IsTrue result)) }
+        ensures found { ByNative K.kind K.compared_at key (λ comparison.
+            result ≡ is_some (found_in K.kind V.kind M.E self.entry comparison)) }
+        ensures complete { ByNative K.kind K.compared_at key (λ comparison.
+            IsComplete K.kind V.kind M.E self.entry comparison (IsTrue result)) }
     {
         self.get_key_value_by(key).is_some()
     }
@@ -309,16 +309,16 @@ impl<'a, K: Portable, V: ToNative, M: ArchivedMap<Key = K, Mapped = V> + ShowsEn
         K: CompareWith<T>,
         // If the keys increase, it is the native value of what std's map finds.
         ensures sorted { ByReading V.kind V.read_native (λ native.
-            ByNative K.kind K.compared_at key (λ answer.
+            ByNative K.kind K.compared_at key (λ comparison.
             Increasing K.kind.order (entries_of K.kind V.kind M.E self.entry) →
-            result ≡ option_map native (lookup (is_at answer)
+            result ≡ option_map native (lookup (is_at comparison)
             (entries_of K.kind V.kind M.E self.entry)))) }
         // On each map it is the native value of the entry at which the search ends.
         ensures found { ByReading V.kind V.read_native (λ native.
-            ByNative K.kind K.compared_at key (λ answer. result ≡ option_map native
-            (option_map (λ e. e.1) (found_in K.kind V.kind M.E self.entry answer)))) }
-        ensures complete { ByNative K.kind K.compared_at key (λ answer.
-            IsComplete K.kind V.kind M.E self.entry answer (IsSome result)) }
+            ByNative K.kind K.compared_at key (λ comparison. result ≡ option_map native
+            (option_map (λ e. e.1) (found_in K.kind V.kind M.E self.entry comparison)))) }
+        ensures complete { ByNative K.kind K.compared_at key (λ comparison.
+            IsComplete K.kind V.kind M.E self.entry comparison (IsSome result)) }
     {
         match self.get_by(key) {
             None => None,
@@ -327,20 +327,20 @@ impl<'a, K: Portable, V: ToNative, M: ArchivedMap<Key = K, Mapped = V> + ShowsEn
     }
 }
 
-/// What a search asks and finds equal, as `found` of the look-ups names it, is an entry of the list that is equal; and
+/// What a search asks and finds equal, as `found` of the lookups names it, is an entry of the list that is equal; and
 /// under an ordered comparison there is one exactly if some key is equal.
 pub fn what_is_found_is_equal<K: Portable, V: Portable, const E: usize>()
     ensures { FoundIsEqual K.kind V.kind E }
 {}
 
-/// The tree that a look-up searches is the tree that the accepted bytes spell. Its height is 32 at most, so a look-up compares
+/// The tree that a lookup searches is the tree that the accepted bytes spell. Its height is 32 at most, so a lookup compares
 /// no more than 32 times as many keys as a node has entries.
 pub fn searched_trees_are_spelled<K: Portable, V: Portable, const E: usize>()
     ensures tree { SearchedIsSpelled K.kind V.kind E }
     ensures height { SearchedIsLow K.kind V.kind E }
 {}
 
-/// In a map whose keys strictly increase, what a look-up finds is the only entry whose key is equal to the query, and
+/// In a map whose keys strictly increase, what a lookup finds is the only entry whose key is equal to the query, and
 /// where it finds nothing there is none: so by keys, and by native values.
 pub fn increasing_keys_are_found<K: ViewOrd, V: Portable, const E: usize>()
     ensures found { IncreasingIsFound K.kind V.kind E }

@@ -4,7 +4,7 @@ ghost use Rattle.rkyv_btree_base.specs.Refusal.{Refusal};
 ghost use Rattle.rkyv_btree_base.specs.Refusals.{RefusesMap};
 ghost use Rattle.rkyv_btree_base.specs.Layout.{are_fitting};
 ghost use Rattle.rkyv_btree_view.specs.Map.{IsMap};
-ghost use Rattle.rkyv_btree_view.specs.View.{reads, entries_of};
+ghost use Rattle.rkyv_btree_view.specs.View.{view_value, entries_of};
 
 use crate::view::View;
 use rkyv_btree_base::check::{CheckBytes, Portable};
@@ -58,7 +58,7 @@ pub fn access_valid<'a, K: Portable, V: Portable, const E: usize>(
     requires accepted { (m : _) × IsMap K.kind V.kind E buf.now pos m }
     ensures buffer { result.buf.now ≡ buf.now }
     ensures position { result.pos ≡ pos }
-    ensures reads { (m : _) → IsMap K.kind V.kind E buf.now pos m → reads result ≡ m }
+    ensures value { (m : _) → IsMap K.kind V.kind E buf.now pos m → view_value result ≡ m }
 {
     View {
         buf,

@@ -28,7 +28,7 @@ pub trait ToNative: Portable {
     fn native(view: &View<'_, Self>) -> Self::Native
         ensures { result ≡ read_native view.now.buf.now view.now.pos };
 
-    ghost reads: { ReadAs Self.kind read_native
+    ghost read_as: { ReadAs Self.kind read_native
         Self.Native.eq Self.Native.cmp Self.Native.hash_input };
 }
 
@@ -51,7 +51,7 @@ impl ToNative for u8 {
         view.buf[view.pos as usize]
     }
 
-    ghost reads = { as_itself u8_kind };
+    ghost read_as = { as_itself u8_kind };
 }
 
 impl ToNative for i8 {
@@ -63,7 +63,7 @@ impl ToNative for i8 {
         view.buf[view.pos as usize].cast_signed()
     }
 
-    ghost reads = { as_itself i8_kind };
+    ghost read_as = { as_itself i8_kind };
 }
 
 impl ToNative for bool {
@@ -75,7 +75,7 @@ impl ToNative for bool {
         view.buf[view.pos as usize] == 1
     }
 
-    ghost reads = { as_itself bool_kind };
+    ghost read_as = { as_itself bool_kind };
 }
 
 impl ToNative for () {
@@ -85,7 +85,7 @@ impl ToNative for () {
 
     fn native(_view: &View<'_, ()>) {}
 
-    ghost reads = { as_itself unit_kind };
+    ghost read_as = { as_itself unit_kind };
 }
 
 impl ToNative for ArchivedU16 {
@@ -97,7 +97,7 @@ impl ToNative for ArchivedU16 {
         num16(view.buf, view.pos)
     }
 
-    ghost reads = { as_itself u16_kind };
+    ghost read_as = { as_itself u16_kind };
 }
 
 impl ToNative for ArchivedI16 {
@@ -109,7 +109,7 @@ impl ToNative for ArchivedI16 {
         num16(view.buf, view.pos).cast_signed()
     }
 
-    ghost reads = { as_itself i16_kind };
+    ghost read_as = { as_itself i16_kind };
 }
 
 impl ToNative for ArchivedU32 {
@@ -122,7 +122,7 @@ impl ToNative for ArchivedU32 {
         num32(view.buf, view.pos)
     }
 
-    ghost reads = { as_itself u32_kind };
+    ghost read_as = { as_itself u32_kind };
 }
 
 impl ToNative for ArchivedI32 {
@@ -135,7 +135,7 @@ impl ToNative for ArchivedI32 {
         num32(view.buf, view.pos).cast_signed()
     }
 
-    ghost reads = { as_itself i32_kind };
+    ghost read_as = { as_itself i32_kind };
 }
 
 impl ToNative for ArchivedU64 {
@@ -147,7 +147,7 @@ impl ToNative for ArchivedU64 {
         num64(view.buf, view.pos)
     }
 
-    ghost reads = { as_itself u64_kind };
+    ghost read_as = { as_itself u64_kind };
 }
 
 impl ToNative for ArchivedI64 {
@@ -159,7 +159,7 @@ impl ToNative for ArchivedI64 {
         num64(view.buf, view.pos).cast_signed()
     }
 
-    ghost reads = { as_itself i64_kind };
+    ghost read_as = { as_itself i64_kind };
 }
 
 impl ToNative for ArchivedChar {
@@ -173,7 +173,7 @@ impl ToNative for ArchivedChar {
         unsafe { char::from_u32_unchecked(num32(view.buf, view.pos)) }
     }
 
-    ghost reads = { as_itself char_kind };
+    ghost read_as = { as_itself char_kind };
 }
 
 // A `NonZeroU32` isn't read of every four bytes, so it has no part in `ToNative`.

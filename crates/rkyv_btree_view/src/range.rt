@@ -7,10 +7,10 @@ ghost use Rattle.rkyv_btree_base.specs.Increasing.{Increasing};
 ghost use Rattle.rkyv_btree_base.specs.Layout.{layout_of};
 ghost use Rattle.rkyv_btree_base.specs.Views.{stands};
 ghost use Rattle.rkyv_btree_view.specs.Items.{ShowsAll};
-ghost use Rattle.rkyv_btree_view.specs.View.{reads, reads_both, entries_of};
+ghost use Rattle.rkyv_btree_view.specs.View.{view_value, view_entry, entries_of};
 ghost use Rattle.rkyv_btree_walk.specs.Bounds.{IsRun, OrderedFor, entries_within, ByBounds};
 ghost use Rattle.rkyv_btree_walk.specs.mirror.Along.{IsRangeWalk};
-ghost use Rattle.rkyv_btree_walk.specs.Search.{shown};
+ghost use Rattle.rkyv_btree_walk.specs.Search.{shown_value};
 
 use crate::compare::ViewOrd;
 use crate::compare_native::CompareWith;
@@ -45,7 +45,7 @@ impl<'a, K: Portable, V: Portable, M: ArchivedMap<Key = K, Mapped = V>> Iterator
 
     type Item = (View<'a, K>, View<'a, V>);
 
-    ghost next_gives = { YieldsFirstBy reads_both range_left };
+    ghost next_gives = { YieldsFirstBy view_entry range_left };
 
     ghost remaining = { item_count range_left };
 
@@ -84,14 +84,14 @@ impl<'a, K: Portable, V: Portable, M: ArchivedMap<Key = K, Mapped = V>> View<'a,
         cmp: C,
     ) -> Range<'a, M>
         requires { C.IsAlwaysCallable cmp }
-        ensures yields { ShowsAll ⟦<Range<'a, M> as Iterator>⟧.next_gives reads_both result
+        ensures yields { ShowsAll ⟦<Range<'a, M> as Iterator>⟧.next_gives view_entry result
             (range_left result) }
         ensures ends { IsFinite (⟦<Range<'a, M> as Iterator>⟧.remaining result) }
         ensures run { IsRun (range_left result) (entries_of K.kind V.kind M.E self.entry) }
         ensures whole { low.entry ≡ Unbounded → high.entry ≡ Unbounded
             → range_left result ≡ entries_of K.kind V.kind M.E self.entry }
         // If the entries are ordered for both bounds, these are all entries within them.
-        ensures within { ByBounds (C.post cmp) (shown K.kind W.Shows) low.entry high.entry (λ lo hi.
+        ensures within { ByBounds (C.post cmp) (shown_value K.kind W.Shows) low.entry high.entry (λ lo hi.
             OrderedFor lo (entries_of K.kind V.kind M.E self.entry) →
             OrderedFor hi (entries_of K.kind V.kind M.E self.entry) →
             range_left result ≡ entries_within lo hi (entries_of K.kind V.kind M.E self.entry)) }
@@ -110,7 +110,7 @@ impl<'a, K: ViewOrd, V: Portable, M: ArchivedMap<Key = K, Mapped = V> + ShowsEnt
 
     /// Returns an iterator over the entries whose keys are within the bounds, in order. No memory is allocated.
     pub fn range(self, low: Bound<View<'_, K>>, high: Bound<View<'_, K>>) -> Range<'a, M>
-        ensures yields { ShowsAll ⟦<Range<'a, M> as Iterator>⟧.next_gives reads_both result
+        ensures yields { ShowsAll ⟦<Range<'a, M> as Iterator>⟧.next_gives view_entry result
             (range_left result) }
         ensures ends { IsFinite (⟦<Range<'a, M> as Iterator>⟧.remaining result) }
         ensures run { IsRun (range_left result) (entries_of K.kind V.kind M.E self.entry) }
@@ -119,17 +119,17 @@ impl<'a, K: ViewOrd, V: Portable, M: ArchivedMap<Key = K, Mapped = V> + ShowsEnt
         // If the keys increase, these are all entries within the bounds.
         ensures sorted { Increasing K.kind.order (entries_of K.kind V.kind M.E self.entry) →
             range_left result
-            ≡ entries_within (bound_map (λ q. K.kind.order (reads q)) low.entry)
-            (bound_map (λ q. K.kind.order (reads q)) high.entry)
+            ≡ entries_within (bound_map (λ q. K.kind.order (view_value q)) low.entry)
+            (bound_map (λ q. K.kind.order (view_value q)) high.entry)
             (entries_of K.kind V.kind M.E self.entry) }
         // So they are if the entries are ordered for both bounds.
-        ensures within { OrderedFor (bound_map (λ q. K.kind.order (reads q)) low.entry)
+        ensures within { OrderedFor (bound_map (λ q. K.kind.order (view_value q)) low.entry)
             (entries_of K.kind V.kind M.E self.entry) →
-            OrderedFor (bound_map (λ q. K.kind.order (reads q)) high.entry)
+            OrderedFor (bound_map (λ q. K.kind.order (view_value q)) high.entry)
             (entries_of K.kind V.kind M.E self.entry) →
             range_left result
-            ≡ entries_within (bound_map (λ q. K.kind.order (reads q)) low.entry)
-            (bound_map (λ q. K.kind.order (reads q)) high.entry)
+            ≡ entries_within (bound_map (λ q. K.kind.order (view_value q)) low.entry)
+            (bound_map (λ q. K.kind.order (view_value q)) high.entry)
             (entries_of K.kind V.kind M.E self.entry) }
     {
         let compare = |query: &View<'_, K>, key: View<K>| K::compare(query, &key);
@@ -152,7 +152,7 @@ impl<'a, K: Portable, V: Portable, M: ArchivedMap<Key = K, Mapped = V> + ShowsEn
     pub fn range_by<T: Drop>(self, low: Bound<T>, high: Bound<T>) -> Range<'a, M>
     where
         K: CompareWith<T>,
-        ensures yields { ShowsAll ⟦<Range<'a, M> as Iterator>⟧.next_gives reads_both result
+        ensures yields { ShowsAll ⟦<Range<'a, M> as Iterator>⟧.next_gives view_entry result
             (range_left result) }
         ensures ends { IsFinite (⟦<Range<'a, M> as Iterator>⟧.remaining result) }
         ensures run { IsRun (range_left result) (entries_of K.kind V.kind M.E self.entry) }
@@ -192,7 +192,7 @@ impl<'a, K: Portable, V: Portable, M: ArchivedMap<Key = K, Mapped = V> + ShowsEn
     pub fn range_of<T: Drop, R: RangeBounds<T>>(self, range: R) -> Range<'a, M>
     where
         K: CompareWith<T>,
-        ensures yields { ShowsAll ⟦<Range<'a, M> as Iterator>⟧.next_gives reads_both result
+        ensures yields { ShowsAll ⟦<Range<'a, M> as Iterator>⟧.next_gives view_entry result
             (range_left result) }
         ensures ends { IsFinite (⟦<Range<'a, M> as Iterator>⟧.remaining result) }
         ensures run { IsRun (range_left result) (entries_of K.kind V.kind M.E self.entry) }

@@ -1,6 +1,6 @@
 //! Iterators over the keys of a range.
 ghost use Rattle.std.specs.Prelude.{◌≡◌, map};
-ghost use Rattle.rkyv_btree_view.specs.View.{reads};
+ghost use Rattle.rkyv_btree_view.specs.View.{view_value};
 
 use crate::range::Range;
 use crate::view::View;
@@ -35,7 +35,7 @@ impl<'a, K: Portable, V: Portable, M: ArchivedMap<Key = K, Mapped = V>> Iterator
 
     type Item = View<'a, K>;
 
-    ghost next_gives = { YieldsFirstBy reads range_keys_left };
+    ghost next_gives = { YieldsFirstBy view_value range_keys_left };
 
     ghost remaining = { item_count range_keys_left };
 

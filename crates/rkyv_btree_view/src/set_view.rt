@@ -16,7 +16,7 @@ ghost use Rattle.rkyv_btree_view.specs.Lookup.{ByNative};
 ghost use Rattle.rkyv_btree_view.specs.Map.{IsMap};
 ghost use Rattle.rkyv_btree_view.specs.Range.{ByNativeBounds};
 ghost use Rattle.rkyv_btree_view.specs.Set.{keys_of, key_in, IsCompleteOnKeys, KeysOrderedFor};
-ghost use Rattle.rkyv_btree_view.specs.View.{reads, entries_of};
+ghost use Rattle.rkyv_btree_view.specs.View.{view_value, entries_of};
 ghost use Rattle.rkyv_btree_walk.specs.Bounds.{IsRun, keys_within};
 ghost use Rattle.rkyv_btree_walk.specs.Search.{AnyHit, IsHit};
 
@@ -73,7 +73,7 @@ pub fn access_valid<'a, K: Portable, const E: usize>(
     requires accepted { (m : _) × IsMap K.kind unit_kind E buf.now pos m }
     ensures buffer { result.buf.now ≡ buf.now }
     ensures position { result.pos ≡ pos }
-    ensures reads { (m : _) → IsMap K.kind unit_kind E buf.now pos m → reads result ≡ m }
+    ensures value { (m : _) → IsMap K.kind unit_kind E buf.now pos m → view_value result ≡ m }
 {
     let map = map_valid::<K, (), E>(buf, pos);
     View {
@@ -113,7 +113,7 @@ impl<'a, K: Portable, const E: usize> View<'a, ArchivedBTreeSet<K, E>> {
 
     /// Returns an iterator over the keys, in order. No memory is allocated.
     pub fn iter(self) -> Iter<'a, K, E>
-        ensures yields { ShowsAll ⟦<Iter<'a, K, E> as Iterator>⟧.next_gives reads result
+        ensures yields { ShowsAll ⟦<Iter<'a, K, E> as Iterator>⟧.next_gives view_value result
             (keys_of K.kind E self.entry) }
         ensures ends { IsFinite (⟦<Iter<'a, K, E> as Iterator>⟧.remaining result) }
     {
@@ -126,15 +126,15 @@ impl<'a, K: ViewOrd, const E: usize> View<'a, ArchivedBTreeSet<K, E>> {
     pub fn contains_key(self, key: View<'_, K>) -> bool
         // If it is true, a key of the set is equal.
         ensures member { IsTrue result →
-            AnyHit (K.kind.order (reads key.entry)) (keys_of K.kind E self.entry) }
+            AnyHit (K.kind.order (view_value key.entry)) (keys_of K.kind E self.entry) }
         // If the keys increase, it is whether std's set finds a key.
         ensures sorted { IsStrictlySortedBy K.kind.order (keys_of K.kind E self.entry) →
-            result ≡ is_some (find (is_at (K.kind.order (reads key.entry)))
+            result ≡ is_some (find (is_at (K.kind.order (view_value key.entry)))
             (keys_of K.kind E self.entry)) }
         // On each set it is whether the search ends at a key.
         ensures found { result
-            ≡ is_some (key_in K.kind E self.entry (K.kind.order (reads key.entry))) }
-        ensures complete { IsCompleteOnKeys K.kind E self.entry (K.kind.order (reads key.entry))
+            ≡ is_some (key_in K.kind E self.entry (K.kind.order (view_value key.entry))) }
+        ensures complete { IsCompleteOnKeys K.kind E self.entry (K.kind.order (view_value key.entry))
             (IsTrue result) }
     {
         self.as_map().contains_key(key)
@@ -143,16 +143,16 @@ impl<'a, K: ViewOrd, const E: usize> View<'a, ArchivedBTreeSet<K, E>> {
     /// Returns the set's own key that is equal to `key`, or `None`.
     pub fn get(self, key: View<'_, K>) -> Option<View<'a, K>>
         // A result is a key of the set that is equal.
-        ensures member { IfSome (option_map reads result)
-            (IsHit (K.kind.order (reads key.entry)) (keys_of K.kind E self.entry)) }
+        ensures member { IfSome (option_map view_value result)
+            (IsHit (K.kind.order (view_value key.entry)) (keys_of K.kind E self.entry)) }
         // If the keys increase, it is what std's set finds.
         ensures sorted { IsStrictlySortedBy K.kind.order (keys_of K.kind E self.entry) →
-            option_map reads result ≡ find (is_at (K.kind.order (reads key.entry)))
+            option_map view_value result ≡ find (is_at (K.kind.order (view_value key.entry)))
             (keys_of K.kind E self.entry) }
         // On each set it is the key at which the search ends.
-        ensures found { option_map reads result
-            ≡ key_in K.kind E self.entry (K.kind.order (reads key.entry)) }
-        ensures complete { IsCompleteOnKeys K.kind E self.entry (K.kind.order (reads key.entry))
+        ensures found { option_map view_value result
+            ≡ key_in K.kind E self.entry (K.kind.order (view_value key.entry)) }
+        ensures complete { IsCompleteOnKeys K.kind E self.entry (K.kind.order (view_value key.entry))
             (IsSome result) }
     {
         match self.as_map().get_key_value(key) {
@@ -168,17 +168,17 @@ impl<'a, K: Portable, const E: usize> View<'a, ArchivedBTreeSet<K, E>> {
     where
         K: CompareWith<T>,
         // If it is true, a key of the set is equal.
-        ensures member { ByNative K.kind K.compared_at key (λ answer. IsTrue result →
-            AnyHit answer (keys_of K.kind E self.entry)) }
+        ensures member { ByNative K.kind K.compared_at key (λ comparison. IsTrue result →
+            AnyHit comparison (keys_of K.kind E self.entry)) }
         // If the keys increase, it is whether std's set finds a key.
-        ensures sorted { ByNative K.kind K.compared_at key (λ answer.
+        ensures sorted { ByNative K.kind K.compared_at key (λ comparison.
             IsStrictlySortedBy K.kind.order (keys_of K.kind E self.entry) →
-            result ≡ is_some (find (is_at answer) (keys_of K.kind E self.entry))) }
+            result ≡ is_some (find (is_at comparison) (keys_of K.kind E self.entry))) }
         // On each set it is whether the search ends at a key.
-        ensures found { ByNative K.kind K.compared_at key (λ answer.
-            result ≡ is_some (key_in K.kind E self.entry answer)) }
-        ensures complete { ByNative K.kind K.compared_at key (λ answer.
-            IsCompleteOnKeys K.kind E self.entry answer (IsTrue result)) }
+        ensures found { ByNative K.kind K.compared_at key (λ comparison.
+            result ≡ is_some (key_in K.kind E self.entry comparison)) }
+        ensures complete { ByNative K.kind K.compared_at key (λ comparison.
+            IsCompleteOnKeys K.kind E self.entry comparison (IsTrue result)) }
     {
         self.as_map().contains_by(key)
     }
@@ -188,17 +188,17 @@ impl<'a, K: Portable, const E: usize> View<'a, ArchivedBTreeSet<K, E>> {
     where
         K: CompareWith<T>,
         // A result is a key of the set that is equal.
-        ensures member { ByNative K.kind K.compared_at key (λ answer.
-            IfSome (option_map reads result) (IsHit answer (keys_of K.kind E self.entry))) }
+        ensures member { ByNative K.kind K.compared_at key (λ comparison.
+            IfSome (option_map view_value result) (IsHit comparison (keys_of K.kind E self.entry))) }
         // If the keys increase, it is what std's set finds.
-        ensures sorted { ByNative K.kind K.compared_at key (λ answer.
+        ensures sorted { ByNative K.kind K.compared_at key (λ comparison.
             IsStrictlySortedBy K.kind.order (keys_of K.kind E self.entry) →
-            option_map reads result ≡ find (is_at answer) (keys_of K.kind E self.entry)) }
+            option_map view_value result ≡ find (is_at comparison) (keys_of K.kind E self.entry)) }
         // On each set it is the key at which the search ends.
-        ensures found { ByNative K.kind K.compared_at key (λ answer.
-            option_map reads result ≡ key_in K.kind E self.entry answer) }
-        ensures complete { ByNative K.kind K.compared_at key (λ answer.
-            IsCompleteOnKeys K.kind E self.entry answer (IsSome result)) }
+        ensures found { ByNative K.kind K.compared_at key (λ comparison.
+            option_map view_value result ≡ key_in K.kind E self.entry comparison) }
+        ensures complete { ByNative K.kind K.compared_at key (λ comparison.
+            IsCompleteOnKeys K.kind E self.entry comparison (IsSome result)) }
     {
         match self.as_map().get_key_value_by(key) {
             None => None,
@@ -212,7 +212,7 @@ impl<'a, K: ViewOrd, const E: usize> View<'a, ArchivedBTreeSet<K, E>> {
 
     /// Returns an iterator over the keys within the bounds, in order. No memory is allocated.
     pub fn range(self, low: Bound<View<'_, K>>, high: Bound<View<'_, K>>) -> Range<'a, K, E>
-        ensures yields { ShowsAll ⟦<Range<'a, K, E> as Iterator>⟧.next_gives reads result
+        ensures yields { ShowsAll ⟦<Range<'a, K, E> as Iterator>⟧.next_gives view_value result
             (range_keys_left result) }
         ensures ends { IsFinite (⟦<Range<'a, K, E> as Iterator>⟧.remaining result) }
         ensures run { IsRun (range_keys_left result) (keys_of K.kind E self.entry) }
@@ -221,16 +221,16 @@ impl<'a, K: ViewOrd, const E: usize> View<'a, ArchivedBTreeSet<K, E>> {
         // If the keys increase, these are all keys within the bounds.
         ensures sorted { IsStrictlySortedBy K.kind.order (keys_of K.kind E self.entry) →
             range_keys_left result
-            ≡ keys_within (bound_map (λ q. K.kind.order (reads q)) low.entry)
-            (bound_map (λ q. K.kind.order (reads q)) high.entry) (keys_of K.kind E self.entry) }
+            ≡ keys_within (bound_map (λ q. K.kind.order (view_value q)) low.entry)
+            (bound_map (λ q. K.kind.order (view_value q)) high.entry) (keys_of K.kind E self.entry) }
         // So they are if the keys are ordered for both bounds.
-        ensures within { KeysOrderedFor (bound_map (λ q. K.kind.order (reads q)) low.entry)
+        ensures within { KeysOrderedFor (bound_map (λ q. K.kind.order (view_value q)) low.entry)
             (keys_of K.kind E self.entry) →
-            KeysOrderedFor (bound_map (λ q. K.kind.order (reads q)) high.entry)
+            KeysOrderedFor (bound_map (λ q. K.kind.order (view_value q)) high.entry)
             (keys_of K.kind E self.entry) →
             range_keys_left result
-            ≡ keys_within (bound_map (λ q. K.kind.order (reads q)) low.entry)
-            (bound_map (λ q. K.kind.order (reads q)) high.entry) (keys_of K.kind E self.entry) }
+            ≡ keys_within (bound_map (λ q. K.kind.order (view_value q)) low.entry)
+            (bound_map (λ q. K.kind.order (view_value q)) high.entry) (keys_of K.kind E self.entry) }
     {
         RangeKeys::of(self.as_map().range(low, high))
     }
@@ -244,7 +244,7 @@ impl<'a, K: Portable, const E: usize> View<'a, ArchivedBTreeSet<K, E>> {
     pub fn range_by<T: Drop>(self, low: Bound<T>, high: Bound<T>) -> Range<'a, K, E>
     where
         K: CompareWith<T>,
-        ensures yields { ShowsAll ⟦<Range<'a, K, E> as Iterator>⟧.next_gives reads result
+        ensures yields { ShowsAll ⟦<Range<'a, K, E> as Iterator>⟧.next_gives view_value result
             (range_keys_left result) }
         ensures ends { IsFinite (⟦<Range<'a, K, E> as Iterator>⟧.remaining result) }
         ensures run { IsRun (range_keys_left result) (keys_of K.kind E self.entry) }
@@ -267,7 +267,7 @@ impl<'a, K: Portable, const E: usize> View<'a, ArchivedBTreeSet<K, E>> {
     pub fn range_of<T: Drop, R: RangeBounds<T>>(self, range: R) -> Range<'a, K, E>
     where
         K: CompareWith<T>,
-        ensures yields { ShowsAll ⟦<Range<'a, K, E> as Iterator>⟧.next_gives reads result
+        ensures yields { ShowsAll ⟦<Range<'a, K, E> as Iterator>⟧.next_gives view_value result
             (range_keys_left result) }
         ensures ends { IsFinite (⟦<Range<'a, K, E> as Iterator>⟧.remaining result) }
         ensures run { IsRun (range_keys_left result) (keys_of K.kind E self.entry) }
@@ -296,7 +296,7 @@ impl<'a, K: Portable, const E: usize> IntoIterator for View<'a, ArchivedBTreeSet
     type IntoIter = Iter<'a, K, E>;
 
     ghost into_iter_gives = { λ set keys.
-        ShowsAll ⟦<Iter<'a, K, E> as Iterator>⟧.next_gives reads keys
+        ShowsAll ⟦<Iter<'a, K, E> as Iterator>⟧.next_gives view_value keys
         (keys_of K.kind E set) };
 
     /// Returns an iterator over the keys, in order.

@@ -45,7 +45,7 @@ impl<'a, T: Portable> View<'a, T> {
 }
 
 impl<'a, T: CheckBytes> View<'a, T> {
-    ghost use Rattle.rkyv_btree_view.specs.View.{reads};
+    ghost use Rattle.rkyv_btree_view.specs.View.{view_value};
 
     /// Returns the view of the value at position `pos`, if the bytes mean one in the window of all bytes before it.
     ///
@@ -58,7 +58,7 @@ impl<'a, T: CheckBytes> View<'a, T> {
         ensures position { IfOk result (λ view. view.pos ≡ pos) }
         // The result is a view exactly for bytes that mean a value, and the view reads that value.
         ensures accepts { IsOk result ↔ ((v : T.kind.Value) × MeansAt T.kind buf.now pos v) }
-        ensures value { IfOk result (λ view. MeansAt T.kind buf.now pos (reads view)) }
+        ensures value { IfOk result (λ view. MeansAt T.kind buf.now pos (view_value view)) }
         // The result is an error exactly for bytes with that error.
         ensures refuses { (refusal : Refusal) →
             (result ≡ Err refusal) ↔ T.Refuses buf.now 0 pos pos refusal }
@@ -85,11 +85,11 @@ impl<'a, T: Portable> Shows<'a, T> for View<'a, T> {
 }
 
 impl<'a> View<'a, ArchivedText> {
-    ghost use Rattle.rkyv_btree_view.specs.View.{reads};
+    ghost use Rattle.rkyv_btree_view.specs.View.{view_value};
 
     /// Returns the text, which stays in the buffer.
     pub fn as_str(self) -> &'a str
-        ensures { result.now ≡ reads self.entry }
+        ensures { result.now ≡ view_value self.entry }
     {
         // A view stands on a text whose bytes lie before it, and are UTF-8.
         let start = pointed_at(self.buf, self.pos) as usize;
@@ -99,9 +99,9 @@ impl<'a> View<'a, ArchivedText> {
 }
 
 impl<'a> AsStr for View<'a, ArchivedText> {
-    ghost use Rattle.rkyv_btree_view.specs.View.{reads};
+    ghost use Rattle.rkyv_btree_view.specs.View.{view_value};
 
-    ghost text = { λ view. reads view };
+    ghost text = { λ view. view_value view };
 
     /// Returns the text, which stays in the buffer.
     fn as_str(&self) -> &str {

@@ -1,6 +1,6 @@
 //! Visits of all entries of a map.
 ghost use Rattle.rkyv_btree_base.specs.Scalars.{unit_kind};
-ghost use Rattle.rkyv_btree_walk.specs.Search.{shown};
+ghost use Rattle.rkyv_btree_walk.specs.Search.{shown_value};
 ghost use Rattle.rkyv_btree_walk.specs.Visit.{Visited, shown_both};
 ghost use Rattle.rkyv_btree_view.specs.Set.{VisitedKeys};
 ghost use Rattle.rkyv_btree_view.specs.View.{entries_of};
@@ -39,8 +39,8 @@ impl<'a, K: Portable, V: Portable, M: ArchivedMap<Key = K, Mapped = V>> View<'a,
         visit: F,
     ) -> Option<T>
         requires { ((key : _) (value : _) → F.pre visit key value)
-            × ((before : F) (key : _) (value : _) (answer : _) (after : F) (next : _) (other : _)
-            → F.step before key value answer after → F.pre after next other) }
+            × ((before : F) (key : _) (value : _) (outcome : _) (after : F) (next : _) (other : _)
+            → F.step before key value outcome after → F.pre after next other) }
         ensures { Visited F.step (shown_both K.kind V.kind W.Shows X.Shows) visit
             (entries_of K.kind V.kind M.E self.entry) result }
     {
@@ -50,7 +50,7 @@ impl<'a, K: Portable, V: Portable, M: ArchivedMap<Key = K, Mapped = V>> View<'a,
 
 impl<'a, K: Portable, V: Portable, M: ArchivedMap<Key = K, Mapped = V> + ShowsEntries> View<'a, M> {
     /// Calls `visit` with the key and the value of each entry, in order, up to the first call that breaks, whose value
-    /// it answers. Where no call breaks, the answer is `None`. The walk takes no memory.
+    /// it returns. Where no call breaks, it returns `None`. The walk takes no memory.
     ///
     /// # Examples
     ///
@@ -76,14 +76,14 @@ impl<'a, K: Portable, V: Portable, M: ArchivedMap<Key = K, Mapped = V> + ShowsEn
 }
 
 impl<'a, K: Portable, S: ArchivedMap<Key = K, Mapped = ()>> View<'a, S> {
-    /// Calls `visit` with each key of a set, in order, up to the first call that breaks, whose value it answers. Where no
-    /// call breaks, the answer is `None`. The walk takes no memory.
+    /// Calls `visit` with each key of a set, in order, up to the first call that breaks, whose value it returns. Where no
+    /// call breaks, it returns `None`. The walk takes no memory.
     pub fn visit_keys<W: Shows<'a, K>, T, F: FnMut(W) -> ControlFlow<T, ()>>(
         self,
         mut visit: F,
     ) -> Option<T>
         requires { F.IsAlwaysCallable visit }
-        ensures { VisitedKeys F.step (shown K.kind W.Shows) visit
+        ensures { VisitedKeys F.step (shown_value K.kind W.Shows) visit
             (map (λ e. e.0) (entries_of K.kind unit_kind S.E self.entry)) result }
     {
         self.visit_on(

@@ -24,7 +24,7 @@ module _ (s : NodeLayout) (b : List ℕ) (root : Option ℕ) where
   below_parts d k (g ∷ fs) f is path = let r = below_parts (suc d) k fs f (omega arith) path.3 in ((path.0, path.1, path.2, r.0), r.1, r.2, r.3)
 
   module _ (p i : ℕ) (fs all : List (ℕ × ℕ)) (ends : all ≡ fs ++ (p, i) ∷ []) where
-    -- with a node put on it a path stays below the root, and there is the child behind it
+    -- with a node put on it a path stays below the root, and there is the child after it
     pub put_below : PathBelow s b root 0 fs → IsBelow s b root (length fs) p → is_leaf s b p ≡ false → i ≤ s.E → length all ≡ length fs + 1
         → PathBelow s b root 0 all × ((q : ℕ) → child_place s b p i ≡ Some q → IsBelow s b root (length all) q)
     put_below path below inner low len = (

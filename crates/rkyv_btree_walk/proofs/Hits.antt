@@ -8,7 +8,7 @@ use Rattle.std.specs.declared.cmp.Ordering.{Ordering}
 use Rattle.std.specs.declared.cmp.Ordering.TheVariants.{Less, Equal, Greater}
 use Rattle.rkyv_btree_base.specs.Tree.{Tree, leaf, inner, Row, last, step, Child, absent, child, list, row_list, child_list}
 use Rattle.std.specs.Ordering.{match_ordering}
-use Rattle.rkyv_btree_walk.specs.Search.{Answers, asked_in_leaf, asked, asked_in_row, asked_in_child, first_equal, probe, OrderedBy, AnyHit, IsHit}
+use Rattle.rkyv_btree_walk.specs.Search.{IsSearch, compared_in_leaf, compared_entries, compared_in_row, compared_in_child, first_equal, probe, OrderedBy, AnyHit, IsHit}
 
 abbrev pub rank : Ordering → ℕ
 rank Less = 0
@@ -91,34 +91,34 @@ module _ {X : Type 0} (c : X → Ordering) where
   all_less [] low h = h
   all_less (x ∷ xs) low h = elim h [ inl e ↦ let l : rank (c x) ≤ 0 = low.0 in let r = rw e at l in omega arith | inr r ↦ all_less xs low.1 r ]
 
-  leaf_finds : (xs : List X) → Falls xs → Exists xs → IsSome (first_equal c (asked_in_leaf c xs))
+  leaf_finds : (xs : List X) → Falls xs → Exists xs → IsSome (first_equal c (compared_in_leaf c xs))
   leaf_finds [] f h = absurd h
   leaf_finds (x ∷ xs) f h =
-      elim (c x) as (λ o. c x ≡ o → IsSome (match_ordering o (first_equal c (match_ordering o [] [] (asked_in_leaf c xs))) (Some x) (first_equal c (match_ordering o [] [] (asked_in_leaf c xs))))) [
+      elim (c x) as (λ o. c x ≡ o → IsSome (match_ordering o (first_equal c (match_ordering o [] [] (compared_in_leaf c xs))) (Some x) (first_equal c (match_ordering o [] [] (compared_in_leaf c xs))))) [
         | Less ↦ λ e. absurd (elim h [ inl q ↦ cc | inr r ↦ all_less xs (rw e at f.0) r ])
         | Equal ↦ λ e. refl
         | Greater ↦ λ e. leaf_finds xs f.1 (elim h [ inl q ↦ cc | inr r ↦ r ])
       ] refl
 
   mutual
-    tree_finds : (t : Tree X) → Falls (list t) → Exists (list t) → IsSome (first_equal c (asked c t))
+    tree_finds : (t : Tree X) → Falls (list t) → Exists (list t) → IsSome (first_equal c (compared_entries c t))
     tree_finds (leaf xs) f h = leaf_finds xs f h
     tree_finds (inner row) f h = row_finds row f h
 
-    row_finds : (r : Row X) → Falls (row_list r) → Exists (row_list r) → IsSome (first_equal c (asked_in_row c r))
+    row_finds : (r : Row X) → Falls (row_list r) → Exists (row_list r) → IsSome (first_equal c (compared_in_row c r))
     row_finds (last d) f h = child_finds d f h
     row_finds (step d x r) f h =
         let across = falls_across (child_list d) x (row_list r) f in
         let left = falls_left (child_list d) (x ∷ row_list r) f in
         let right = falls_right (child_list d) (x ∷ row_list r) f in
         let parts = exists_cases (child_list d) (x ∷ row_list r) h in
-        elim (c x) as (λ o. c x ≡ o → IsSome (match_ordering o (first_equal c (match_ordering o (asked_in_child c d) [] (asked_in_row c r))) (Some x) (first_equal c (match_ordering o (asked_in_child c d) [] (asked_in_row c r))))) [
+        elim (c x) as (λ o. c x ≡ o → IsSome (match_ordering o (first_equal c (match_ordering o (compared_in_child c d) [] (compared_in_row c r))) (Some x) (first_equal c (match_ordering o (compared_in_child c d) [] (compared_in_row c r))))) [
           | Less ↦ λ e. child_finds d left (elim parts [ inl q ↦ q | inr q ↦ absurd (elim q [ inl z ↦ cc | inr z ↦ all_less (row_list r) (rw e at right.0) z ]) ])
           | Equal ↦ λ e. refl
           | Greater ↦ λ e. row_finds r right.1 (elim parts [ inl q ↦ absurd (all_greater (child_list d) (rw e at across) q) | inr q ↦ elim q [ inl z ↦ cc | inr z ↦ z ] ])
         ] refl
 
-    child_finds : (d : Child X) → Falls (child_list d) → Exists (child_list d) → IsSome (first_equal c (asked_in_child c d))
+    child_finds : (d : Child X) → Falls (child_list d) → Exists (child_list d) → IsSome (first_equal c (compared_in_child c d))
     child_finds absent f h = absurd h
     child_finds (child t) f h = tree_finds t f h
 
@@ -158,33 +158,33 @@ module _ {X : Type 0} (c : X → Ordering) where
         | Greater ↦ λ e q. let r = first_sound xs x q in (r.0, inr r.1)
       ]) refl h
 
-  leaf_asks : (xs : List X) (x : X) → IsIn x (asked_in_leaf c xs) → IsIn x xs
+  leaf_asks : (xs : List X) (x : X) → IsIn x (compared_in_leaf c xs) → IsIn x xs
   leaf_asks [] x h = h
   leaf_asks (y ∷ xs) x h =
       elim h [
         | inl e ↦ inl e
-        | inr r ↦ inr ((elim (c y) as (λ o. IsIn x (match_ordering o [] [] (asked_in_leaf c xs)) → IsIn x xs) [ Less ↦ λ q. absurd q | Equal ↦ λ q. absurd q | Greater ↦ λ q. leaf_asks xs x q ]) r)
+        | inr r ↦ inr ((elim (c y) as (λ o. IsIn x (match_ordering o [] [] (compared_in_leaf c xs)) → IsIn x xs) [ Less ↦ λ q. absurd q | Equal ↦ λ q. absurd q | Greater ↦ λ q. leaf_asks xs x q ]) r)
       ]
 
   mutual
     -- what a search asks is in the list
-    tree_asks : (t : Tree X) (x : X) → IsIn x (asked c t) → IsIn x (list t)
+    tree_asks : (t : Tree X) (x : X) → IsIn x (compared_entries c t) → IsIn x (list t)
     tree_asks (leaf xs) x h = leaf_asks xs x h
     tree_asks (inner row) x h = row_asks row x h
 
-    row_asks : (r : Row X) (x : X) → IsIn x (asked_in_row c r) → IsIn x (row_list r)
+    row_asks : (r : Row X) (x : X) → IsIn x (compared_in_row c r) → IsIn x (row_list r)
     row_asks (last d) x h = child_asks d x h
     row_asks (step d y r) x h =
         elim h [
           | inl e ↦ in_right x (child_list d) (y ∷ row_list r) (inl e)
-          | inr q ↦ (elim (c y) as (λ o. IsIn x (match_ordering o (asked_in_child c d) [] (asked_in_row c r)) → IsIn x (child_list d ++ y ∷ row_list r)) [
+          | inr q ↦ (elim (c y) as (λ o. IsIn x (match_ordering o (compared_in_child c d) [] (compared_in_row c r)) → IsIn x (child_list d ++ y ∷ row_list r)) [
             | Less ↦ λ z. in_left x (child_list d) (y ∷ row_list r) (child_asks d x z)
             | Equal ↦ λ z. absurd z
             | Greater ↦ λ z. in_right x (child_list d) (y ∷ row_list r) (inr (row_asks r x z))
           ]) q
         ]
 
-    child_asks : (d : Child X) (x : X) → IsIn x (asked_in_child c d) → IsIn x (child_list d)
+    child_asks : (d : Child X) (x : X) → IsIn x (compared_in_child c d) → IsIn x (child_list d)
     child_asks absent x h = h
     child_asks (child t) x h = tree_asks t x h
 
@@ -203,7 +203,7 @@ module _ {X Y : Type 0} (f : X → Y) (c : Y → Ordering) where
 
   probe_hits : (t : Tree X) (x : X) → probe (λ x. c (f x)) t ≡ Some x → IsHit c (map f (list t)) (f x)
   probe_hits t x h =
-      let s = first_sound (λ x. c (f x)) (asked (λ x. c (f x)) t) x h in
+      let s = first_sound (λ x. c (f x)) (compared_entries (λ x. c (f x)) t) x h in
       let q = in_at (f x) (map f (list t)) (in_map f x (list t) (tree_asks (λ x. c (f x)) t x s.1)) in
       (s.0, q.0, q.1, q.2)
 
@@ -215,19 +215,19 @@ module _ {X Y : Type 0} (f : X → Y) (c : Y → Ordering) where
   none_there : false ≡ true → ⊥
   none_there s = cc
 
-  -- what the probe finds has all that a look-up promises
-  pub probe_answers : (t : Tree X) (found : Option X) → found ≡ probe (λ x. c (f x)) t → Answers c f t (option_map f found)
-  probe_answers t None is = record {
+  -- what the probe finds has all that a lookup promises
+  pub probe_finds : (t : Tree X) (found : Option X) → found ≡ probe (λ x. c (f x)) t → IsSearch c f t (option_map f found)
+  probe_finds t None is = record {
     probed = ap (option_map f) is;
     hit = tt;
     complete = λ o. (λ s. absurd (none_there s), λ h. absurd (none_there (rw (← is) at (probe_completes t o h))));
   }
-  probe_answers t (Some x) is = record {
+  probe_finds t (Some x) is = record {
     probed = ap (option_map f) is;
     hit = probe_hits t x (sym is);
     complete = λ o. (λ s. let h = probe_hits t x (sym is) in (h.1, h.2, λ d. rw (h.3 d) h.0), λ h. refl);
   }
 
 -- what a probe finds is an entry of the tree
-pub probe_is_entry : {X : Type 0} (answer : X → Ordering) (t : Tree X) (x : X) → probe answer t ≡ Some x → (i : ℕ) × (slice_get (list t) i ≡ Some x)
-probe_is_entry answer t x h = let s = first_sound answer (asked answer t) x h in in_get x (list t) (tree_asks answer t x s.1)
+pub probe_is_entry : {X : Type 0} (comparison : X → Ordering) (t : Tree X) (x : X) → probe comparison t ≡ Some x → (i : ℕ) × (slice_get (list t) i ≡ Some x)
+probe_is_entry comparison t x h = let s = first_sound comparison (compared_entries comparison t) x h in in_get x (list t) (tree_asks comparison t x s.1)

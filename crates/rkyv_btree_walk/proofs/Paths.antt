@@ -32,7 +32,7 @@ module _ (s : NodeLayout) (b : List ℕ) (m : ℕ) where
           | inr e ↦ let l : s.E ≤ i = rw e at h in let z : s.E - i ≡ 0 = omega arith in rw (e, z) refl
         ]
 
-    -- from an entry on, that entry is left, and the tree from the child behind it on
+    -- from an entry on, that entry is left, and the tree from the child after it on
     pub rest_more : (i : ℕ) → i < entry_count s b p → node_rest s b m p i ≡ (p, i) ∷ tree_rest s b (suc m) p (i + 1)
     unfolding node_rest tree_rest
     rest_more i h =
@@ -117,7 +117,7 @@ module _ (s : NodeLayout) (b : List ℕ) (p : ℕ) where
     pub walk_length : length (walk_rest s b p i n fs) ≡ (n - i) + length (path_rest s b 32 fs)
     walk_length = length-append (run s b p (n - i) i) (path_rest s b 32 fs) ∙ ap (λ k. k + length (path_rest s b 32 fs)) (run_length (n - i) i)
 
-  -- a path with an entry, a leaf behind it and a path left has as many entries
+  -- a path with an entry, a leaf after it and a path left has as many entries
   pub step_length : (e : ℕ × ℕ) (n : ℕ) (old new : List (ℕ × ℕ)) → path_rest s b 32 old ≡ e ∷ walk_rest s b p 0 n new → length (path_rest s b 32 old) ≡ suc (n + length (path_rest s b 32 new))
   step_length e n old new h = let same = walk_length 0 n new in ap length h ∙ omega arith
 
@@ -196,7 +196,7 @@ module _ (K V : Kind) (E : ℕ) (b : List ℕ) (n p i : ℕ) (fs all : List (ℕ
       let r = parts in
       ap (path_rest (layout_of K V E) b n) ends ∙ rest_snoc (layout_of K V E) b r.1 n fs (p, i) r.2 ∙ ap (λ xs. xs ++ path_rest (layout_of K V E) b n fs) (rest_end (layout_of K V E) b r.1 p i (rw r.4 h))
 
-  -- else its next entry is, and the tree from the child behind it on
+  -- else its next entry is, and the tree from the child after it on
   pub pop_more : i < E → path_rest (layout_of K V E) b n all ≡ (p, i) ∷ (tree_rest (layout_of K V E) b (n - length fs) p (i + 1) ++ path_rest (layout_of K V E) b n fs)
   pop_more h =
       let r = parts in

@@ -114,7 +114,7 @@ module _ (past : ℕ × ℕ → Bool) where
     pub within_before : (stop : Option (ℕ × ℕ)) → stop ≡ first_of (filter past rest) → take_before stop rest ≡ filter (λ e. from e && not (past e)) all
     within_before stop ends = kept_before rest stop (rises_right past front rest (rw is at rises)) ends ∙ within_both
 
--- an answer that ranks below one that reaches the query reaches it too
+-- a comparison that ranks below one that reaches the query reaches it too
 reached_below : (past : Bool) (o p : Ordering) → rank p ≤ rank o → is_reached past o ≡ true → is_reached past p ≡ true
 reached_below true o Less low h = refl
 reached_below false o Less low h = refl
@@ -169,24 +169,24 @@ module _ {X : Type 0} where
 
 -- of places, by what they mean
 module _ {A B X : Type 0} (means : X → A × B) (xs : List X) where
-  ordered_rises : (past : Bool) (answer : A → Ordering) → OrderedFor (Included answer) (map means xs) → Rises (λ x. is_reached past (answer (means x).0)) xs
-  ordered_rises past answer o = falls_rises past (λ x. answer (means x).0) xs (falls_map means (λ e. answer e.0) xs (ordered_falls (λ e. answer e.0) (map means xs) o))
+  ordered_rises : (past : Bool) (comparison : A → Ordering) → OrderedFor (Included comparison) (map means xs) → Rises (λ x. is_reached past (comparison (means x).0)) xs
+  ordered_rises past comparison o = falls_rises past (λ x. comparison (means x).0) xs (falls_map means (λ e. comparison e.0) xs (ordered_falls (λ e. comparison e.0) (map means xs) o))
 
   -- where a list is ordered for a bound, what isn't before it stands last, and what is past it
   pub from_rises : (low : Bound (A → Ordering)) → OrderedFor low (map means xs) → Rises (λ x. is_from low (means x).0) xs
   from_rises Unbounded o = rises_same true xs
-  from_rises (Included answer) o = ordered_rises false answer o
-  from_rises (Excluded answer) o = ordered_rises true answer o
+  from_rises (Included comparison) o = ordered_rises false comparison o
+  from_rises (Excluded comparison) o = ordered_rises true comparison o
 
   pub past_rises : (high : Bound (A → Ordering)) → OrderedFor high (map means xs) → Rises (λ x. is_past high (means x).0) xs
   past_rises Unbounded o = rises_same false xs
-  past_rises (Included answer) o = ordered_rises true answer o
-  past_rises (Excluded answer) o = ordered_rises false answer o
+  past_rises (Included comparison) o = ordered_rises true comparison o
+  past_rises (Excluded comparison) o = ordered_rises false comparison o
 
 to_is : {A : Type 0} (high : Bound (A → Ordering)) (key : A) → not (is_past high key) ≡ is_to high key
 to_is Unbounded key = refl
-to_is (Included answer) key = elim (answer key) as (λ o. not (is_lt o) ≡ is_ge o) [ Less ↦ refl | Equal ↦ refl | Greater ↦ refl ]
-to_is (Excluded answer) key = elim (answer key) as (λ o. not (is_le o) ≡ is_gt o) [ Less ↦ refl | Equal ↦ refl | Greater ↦ refl ]
+to_is (Included comparison) key = elim (comparison key) as (λ o. not (is_lt o) ≡ is_ge o) [ Less ↦ refl | Equal ↦ refl | Greater ↦ refl ]
+to_is (Excluded comparison) key = elim (comparison key) as (λ o. not (is_le o) ≡ is_gt o) [ Less ↦ refl | Equal ↦ refl | Greater ↦ refl ]
 
 -- and the places within both bounds mean the entries within both
 pub within_means : {A B X : Type 0} (means : X → A × B) (low high : Bound (A → Ordering)) (xs : List X)
@@ -199,7 +199,7 @@ pub first_test : {X : Type 0} (test : X → Bool) (x : X) (xs : List X) → Some
 first_test test x [] h = absurd (cc h)
 first_test test x (y ∷ xs) h = let same : x ≡ y = cc h in rw same refl
 
--- what places that stand one behind the other mean, does so too
+-- what places that stand one after the other mean, does so too
 pub run_means : {X Y : Type 0} (means : X → Y) (range all : List X) → IsRun range all → IsRun (map means range) (map means all)
 run_means means range all run = (
   map means run.0,

@@ -13,28 +13,28 @@ use Rattle.rkyv_btree_base.specs.Tree.{list, height}
 use Rattle.rkyv_btree_base.specs.Views.{stands}
 use Rattle.rkyv_btree_base.specs.laws.Views.{means_read, fitting_of}
 use Rattle.rkyv_btree_base.proofs.MapLaws.{map_laws, map_length, map_short}
-use Rattle.rkyv_btree_walk.specs.Search.{asked, probe}
+use Rattle.rkyv_btree_walk.specs.Search.{compared_entries, probe}
 use Rattle.rkyv_btree_walk.specs.mirror.Search.{searched, searched_map}
 use Rattle.rkyv_btree_walk.specs.mirror.Node.{natural, LeadsBefore, TreeStands, TreeCanBeRead}
 use Rattle.rkyv_btree_walk.specs.mirror.Path.{tree_rest}
 use Rattle.rkyv_btree_walk.proofs.Nodes.{starts_before, spelled_stands}
 use Rattle.rkyv_btree_walk.proofs.Paths.{tree_from}
-use Rattle.rkyv_btree_walk.proofs.Searches.{asked_bound}
+use Rattle.rkyv_btree_walk.proofs.Searches.{compared_bound}
 
 list_over : (s : NodeLayout) (b : List ℕ) (t : ℤ) (q : ℕ) → natural (Some t) ≡ Some q → tree_rest s b 32 q 0 ≡ list (tree_of s b t)
 unfolding tree_of
 list_over s b (negsuc n) q h = absurd (cc h)
 list_over s b (pos r) q h = let same : r ≡ q = cc h in rw same (sym (tree_from s b 31 q))
 
-search_over : (s : NodeLayout) (b : List ℕ) (answer : ℕ × ℕ → Ordering) (t : ℤ) (q : ℕ) → natural (Some t) ≡ Some q → searched s b answer 32 q ≡ (probe answer (tree_of s b t), length (asked answer (tree_of s b t)))
+search_over : (s : NodeLayout) (b : List ℕ) (comparison : ℕ × ℕ → Ordering) (t : ℤ) (q : ℕ) → natural (Some t) ≡ Some q → searched s b comparison 32 q ≡ (probe comparison (tree_of s b t), length (compared_entries comparison (tree_of s b t)))
 unfolding searched tree_of
-search_over s b answer (negsuc n) q h = absurd (cc h)
-search_over s b answer (pos r) q h = let same : r ≡ q = cc h in rw same refl
+search_over s b comparison (negsuc n) q h = absurd (cc h)
+search_over s b comparison (pos r) q h = let same : r ≡ q = cc h in rw same refl
 
-bound_over : (K V : Kind) (E : ℕ) (b : List ℕ) (answer : ℕ × ℕ → Ordering) (t : ℤ) (p : ℕ) → LeadsBefore p (Some t) → ((q : ℕ) → natural (Some t) ≡ Some q → TreeStands K V E b 32 q) → length (asked answer (tree_of (layout_of K V E) b t)) ≤ E * height (tree_of (layout_of K V E) b t)
+bound_over : (K V : Kind) (E : ℕ) (b : List ℕ) (comparison : ℕ × ℕ → Ordering) (t : ℤ) (p : ℕ) → LeadsBefore p (Some t) → ((q : ℕ) → natural (Some t) ≡ Some q → TreeStands K V E b 32 q) → length (compared_entries comparison (tree_of (layout_of K V E) b t)) ≤ E * height (tree_of (layout_of K V E) b t)
 unfolding tree_of
-bound_over K V E b answer (negsuc n) p leads tree = absurd leads
-bound_over K V E b answer (pos q) p leads tree = asked_bound K V E b answer 32 q (tree q refl)
+bound_over K V E b comparison (negsuc n) p leads tree = absurd leads
+bound_over K V E b comparison (pos q) p leads tree = compared_bound K V E b comparison 32 q (tree q refl)
 
 module _ (K V : Kind) (E : ℕ) (k : IsLawful K) (v : IsLawful V) (b : List ℕ) (at : ℕ) (h : IsTrue (stands (map_kind K V E) b at)) where
   -- a map with entries has a root
@@ -67,23 +67,23 @@ module _ (K V : Kind) (E : ℕ) (k : IsLawful K) (v : IsLawful V) (b : List ℕ)
       rw (ne_eqb (number_at b (at + 4) 4) 0 (omega arith)) (list_over (layout_of K V E) b (place_at b at) q to)
 
   -- a search of the map is one of its root
-  pub root_searched : 0 < length (read_map K V E b at) → (q : ℕ) → natural (Some (place_at b at)) ≡ Some q → (answer : ℕ × ℕ → Ordering) → searched (layout_of K V E) b answer 32 q ≡ searched_map (layout_of K V E) b answer at
-  root_searched some q to answer =
+  pub root_searched : 0 < length (read_map K V E b at) → (q : ℕ) → natural (Some (place_at b at)) ≡ Some q → (comparison : ℕ × ℕ → Ordering) → searched (layout_of K V E) b comparison 32 q ≡ searched_map (layout_of K V E) b comparison at
+  root_searched some q to comparison =
       let n = map_length K V E k v b at h in
-      rw (ne_eqb (number_at b (at + 4) 4) 0 (omega arith)) (search_over (layout_of K V E) b answer (place_at b at) q to)
+      rw (ne_eqb (number_at b (at + 4) 4) 0 (omega arith)) (search_over (layout_of K V E) b comparison (place_at b at) q to)
 
   -- and one of an empty map asks nothing
-  pub none_searched : length (read_map K V E b at) ≡ 0 → (answer : ℕ × ℕ → Ordering) → ◌≡◌ {A = Option (ℕ × ℕ) × ℕ} (None, 0) (searched_map (layout_of K V E) b answer at)
-  none_searched none answer =
+  pub none_searched : length (read_map K V E b at) ≡ 0 → (comparison : ℕ × ℕ → Ordering) → ◌≡◌ {A = Option (ℕ × ℕ) × ℕ} (None, 0) (searched_map (layout_of K V E) b comparison at)
+  none_searched none comparison =
       let n = map_length K V E k v b at h in
       rw (eq-eqb (number_at b (at + 4) 4) 0 (omega (arith, n, none))) refl
 
   -- a search of the map asks at most as many entries as there is room for on each level
-  pub map_asked_bound : (answer : ℕ × ℕ → Ordering) → length (asked answer (map_tree (layout_of K V E) b at)) ≤ E * height (map_tree (layout_of K V E) b at)
-  map_asked_bound answer =
+  pub map_compared_bound : (comparison : ℕ × ℕ → Ordering) → length (compared_entries comparison (map_tree (layout_of K V E) b at)) ≤ E * height (map_tree (layout_of K V E) b at)
+  map_compared_bound comparison =
       let n = map_length K V E k v b at h in
       elim (cases_lt 0 (number_at b (at + 4) 4)) [
         | inl some ↦
-            rw (ne_eqb (number_at b (at + 4) 4) 0 (omega arith)) (bound_over K V E b answer (place_at b at) _ (root_leads (omega (arith, n))) (λ q to. root_stands (omega (arith, n)) q to))
+            rw (ne_eqb (number_at b (at + 4) 4) 0 (omega arith)) (bound_over K V E b comparison (place_at b at) _ (root_leads (omega (arith, n))) (λ q to. root_stands (omega (arith, n)) q to))
         | inr none ↦ rw (eq-eqb (number_at b (at + 4) 4) 0 (omega arith)) (omega arith)
       ]

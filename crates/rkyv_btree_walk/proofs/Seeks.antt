@@ -48,7 +48,7 @@ module _ {X : Type 0} (test : X → Bool) where
         | inr e ↦ rw e (none_before xs y ys h.1 f)
       ]
 
-  -- what is left behind entries that fail is what passes
+  -- what is left after entries that fail is what passes
   pub kept_behind : (all front rest : List X) → all ≡ front ++ rest → filter test front ≡ [] → AllPass test rest → rest ≡ filter test all
   kept_behind all front rest is none pass = rw (is, filter-append test front rest, none) (sym (all_kept rest pass))
 
@@ -60,7 +60,7 @@ between_more P from i before here k low high =
       | inr h ↦ let same : k ≡ i = omega arith in rw same here
     ]
 
--- the keys are counted that fail, as long as none behind one that passes does
+-- the keys are counted that fail, as long as none after one that passes does
 module _ (test : ℕ → Bool) (from count i next : ℕ) (climbs : Climbs test from count) (low : from ≤ next) (high : next ≤ i) (less : i < count) (first : IsFirst test from i next) where
   pub count_same : test i ≡ true → IsFirst test from (i + 1) next
   count_same t = (

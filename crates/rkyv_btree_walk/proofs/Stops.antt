@@ -1,4 +1,4 @@
--- The first entry that passes a test, of what is left behind a way down.
+-- The first entry that passes a test, of what is left after a way down.
 use Rattle.std.proofs.Common.{◌≡◌, ℕ, zero, suc, ◌+◌, ◌-◌, ◌≤◌, ◌<◌, List, [], ◌∷◌, ◌++◌, length, refl, sym, ap, ◌∙◌, subst, arith, append_assoc, add-one, take, drop, get_or, Bool, true, false, inl, inr, Option, Some, None}
 use Rattle.std.specs.Prelude.{filter}
 use Rattle.std.proofs.lemmas.Bool.{cases_Bool, cases_lt}
@@ -140,7 +140,7 @@ module _ (s : NodeLayout) (b : List ℕ) (m : ℕ) where
           ∙ ap (first_or test (node_rest s b m f.0 f.1)) so_far
           ∙ node_first s b test f.0 f.1 count stop found entry m 0 counted passes
 
-      -- where it fails, the first one is behind it in the node's tree, or above
+      -- where it fails, the first one is after it in the node's tree, or above
       module _ (front below : List (ℕ × ℕ)) (more : f.1 < entry_count s b f.0) (rises : Rises test (front ++ path_rest s b n (above ++ f ∷ below))) (fails : test f ≡ false) where
         parts : front ++ path_rest s b n (above ++ f ∷ below) ≡ (front ++ path_rest s b m below) ++ f ∷ (tree_rest s b (suc m) f.0 (f.1 + 1) ++ path_rest s b n above)
         parts = ap (λ xs. front ++ xs) (path_splits n above f below is) ∙ rw (rest_more s b m f.0 f.1 more) (simp append_assoc)

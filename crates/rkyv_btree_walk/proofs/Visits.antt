@@ -1,4 +1,4 @@
--- One call of a visit, and the calls behind it.
+-- One call of a visit, and the calls after it.
 use Rattle.std.proofs.Common.{◌≡◌, List, ◌∷◌, Option, Some, refl}
 use Rattle.std.specs.declared.ops.ControlFlow.{ControlFlow}
 use Rattle.std.specs.declared.ops.ControlFlow.TheVariants.{Continue, Break}

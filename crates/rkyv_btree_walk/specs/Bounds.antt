@@ -1,4 +1,4 @@
--- Which entries are within two bounds. A bound holds what its query answers at each key: at Greater it is past the key.
+-- Which entries are within two bounds. A bound holds what its query's comparison gives at each key: at Greater it is past the key.
 use Rattle.std.specs.Prelude.{◌≡◌, List, ◌++◌, Bool, true, ◌&&◌, filter}
 use Rattle.std.specs.Borrow.{Bor}
 use Rattle.std.specs.Ordering.{is_le, is_lt, is_ge, is_gt}
@@ -8,7 +8,7 @@ use Rattle.std.specs.declared.ops.Bound.{Bound}
 use Rattle.std.specs.declared.ops.Bound.TheVariants.{Included, Excluded, Unbounded}
 use Rattle.rkyv_btree_walk.specs.Search.{OrderedBy, ComparesBy}
 
--- these entries stand in the list, one behind the other
+-- these entries stand in the list, one after the other
 abbrev pub IsRun : {X : Type 0} → List X → List X → Type 0
 IsRun {X} range all = (skipped later : List X) × (all ≡ skipped ++ (range ++ later))
 
@@ -16,14 +16,14 @@ module _ {A : Type 0} where
   -- whether a key isn't before a low bound
   abbrev pub is_from : Bound (A → Ordering) → A → Bool
   is_from Unbounded key = true
-  is_from (Included answer) key = is_le (answer key)
-  is_from (Excluded answer) key = is_lt (answer key)
+  is_from (Included comparison) key = is_le (comparison key)
+  is_from (Excluded comparison) key = is_lt (comparison key)
 
   -- whether it isn't past a high one
   abbrev pub is_to : Bound (A → Ordering) → A → Bool
   is_to Unbounded key = true
-  is_to (Included answer) key = is_ge (answer key)
-  is_to (Excluded answer) key = is_gt (answer key)
+  is_to (Included comparison) key = is_ge (comparison key)
+  is_to (Excluded comparison) key = is_gt (comparison key)
 
   -- the keys within two bounds
   abbrev pub keys_within : Bound (A → Ordering) → Bound (A → Ordering) → List A → List A
@@ -37,8 +37,8 @@ module _ {A : Type 0} where
     -- the entries are ordered for the query of a bound, if it has one
     abbrev pub OrderedFor : Bound (A → Ordering) → List (A × B) → Type 0
     OrderedFor Unbounded all = Unit {0}
-    OrderedFor (Included answer) all = OrderedBy (λ e. answer e.0) all
-    OrderedFor (Excluded answer) all = OrderedBy (λ e. answer e.0) all
+    OrderedFor (Included comparison) all = OrderedBy (λ e. comparison e.0) all
+    OrderedFor (Excluded comparison) all = OrderedBy (λ e. comparison e.0) all
 
     -- these entries are all that are within both bounds, where the entries are ordered for both
     abbrev pub IsWithin : Bound (A → Ordering) → Bound (A → Ordering) → List (A × B) → List (A × B) → Type 0

@@ -9,18 +9,18 @@ use Rattle.rkyv_btree_walk.specs.declared.shows.Shows
 abbrev pub shown_both : (K V : Kind) {R S W X : Type 0} → Shows.Ghosts W R → Shows.Ghosts X S → W → X → K.Value × V.Value
 shown_both K V ws xs w x = (K.read (ws.bytes w) (ws.place w), V.read (xs.bytes x) (xs.place x))
 
--- what follows an answer of the visitor: at `Continue` the rest, at `Break` nothing, and its value is the result
-abbrev pub AfterAnswer : {F T : Type 0} → ControlFlow T (Unit {0}) → (F → Type 0) → F → Option T → F → Type 0
-AfterAnswer (Continue u) goes_on after result last = goes_on after
-AfterAnswer (Break value) goes_on after result last = (result ≡ Some value) × (last ≡ after)
+-- what follows a result of the visitor: at `Continue` the rest, at `Break` nothing, and its value is the result
+abbrev pub AfterOutcome : {F T : Type 0} → ControlFlow T (Unit {0}) → (F → Type 0) → F → Option T → F → Type 0
+AfterOutcome (Continue u) goes_on after result last = goes_on after
+AfterOutcome (Break value) goes_on after result last = (result ≡ Some value) × (last ≡ after)
 
 module _ {F W X Y T : Type 0} (call : F → W → X → ControlFlow T (Unit {0}) → F → Type 0) (means : W → X → Y) where
   -- the visitor was called at each entry of the list in turn, up to the first that it broke off at, and went from
   -- `first` to `last`
   abbrev pub Visits : F → List Y → Option T → F → Type 0
   Visits first [] result last = (result ≡ None) × (last ≡ first)
-  Visits first (e ∷ es) result last = (key : W) × (value : X) × (answer : ControlFlow T (Unit {0})) × (after : F) × (means key value ≡ e)
-      × call first key value answer after × AfterAnswer answer (λ f. Visits f es result last) after result last
+  Visits first (e ∷ es) result last = (key : W) × (value : X) × (outcome : ControlFlow T (Unit {0})) × (after : F) × (means key value ≡ e)
+      × call first key value outcome after × AfterOutcome outcome (λ f. Visits f es result last) after result last
 
   -- such calls were made, whatever the visitor went to
   abbrev pub Visited : F → List Y → Option T → Type 0

@@ -42,7 +42,7 @@ pub(crate) fn leaf_count<K: Portable, V: Portable, M: ArchivedMap<Key = K, Mappe
     num32(buf, node + M::len_at())
 }
 
-/// The child before entry `i` of the inner node at `node`, or behind its last entry.
+/// The child before entry `i` of the inner node at `node`, or after its last entry.
 pub(crate) fn child<K: Portable, V: Portable, M: ArchivedMap<Key = K, Mapped = V>>(
     buf: &[u8],
     node: u32,

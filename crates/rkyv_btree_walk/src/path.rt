@@ -26,7 +26,7 @@ pub struct Leaf {
     pub count: u32,
 }
 
-/// An entry of an inner node, and the leaf behind it.
+/// An entry of an inner node, and the leaf after it.
 #[derive(Clone, Copy)]
 pub struct Step {
     /// Where the inner node stands.
@@ -75,7 +75,7 @@ pub(crate) fn descend<K: Portable, V: Portable, M: ArchivedMap<Key = K, Mapped =
     }
 }
 
-/// Takes the first entry that is left of the path, and finds the leaf behind it.
+/// Takes the first entry that is left of the path, and finds the leaf after it.
 #[inline(always)]
 pub(crate) fn climb<K: Portable, V: Portable, M: ArchivedMap<Key = K, Mapped = V>>(
     buf: &[u8],

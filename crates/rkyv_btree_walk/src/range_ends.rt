@@ -1,7 +1,7 @@
 //! Walks between two bounds: where they begin, and the entry before which they stop.
 ghost use Rattle.std.specs.Prelude.{◌≡◌, ℕ, ◌+◌, ◌≤◌, ◌<◌, List, [], length, IfSome, IsTrue, None, Some, false};
 ghost use Rattle.std.specs.Range.Bound.{bound_map};
-ghost use Rattle.std.specs.declared.cmp.Ordering.{Ordering as Answer};
+ghost use Rattle.std.specs.declared.cmp.Ordering.{Ordering as Comparison};
 ghost use Rattle.std.specs.declared.ops.Bound.TheVariants.{Unbounded};
 ghost use Rattle.rkyv_btree_base.specs.Bytes.{place_at};
 ghost use Rattle.rkyv_btree_base.specs.Layout.{layout_of, are_fitting};
@@ -10,7 +10,7 @@ ghost use Rattle.rkyv_btree_base.specs.Read.{map_tree, read_map};
 ghost use Rattle.rkyv_btree_base.specs.Tree.{list};
 ghost use Rattle.rkyv_btree_base.specs.Views.{stands};
 ghost use Rattle.rkyv_btree_walk.specs.Bounds.{IsRun, IsWithin, ByBounds};
-ghost use Rattle.rkyv_btree_walk.specs.Search.{ComparesBy, shown};
+ghost use Rattle.rkyv_btree_walk.specs.Search.{ComparesBy, shown_value};
 ghost use Rattle.rkyv_btree_walk.specs.mirror.Below.{root_place, PartBelow, PathStaysBelow, StepStaysBelow};
 ghost use Rattle.rkyv_btree_walk.specs.mirror.Node.{natural, RunStands, TreeCanBeRead};
 ghost use Rattle.rkyv_btree_walk.specs.mirror.Path.{path_rest, IsPath, LeafStands, StepStands, Steps};
@@ -95,8 +95,8 @@ fn seek_low<
     ensures whole { low.entry ≡ Unbounded
         → part_rest K.kind V.kind M.E buf.now result path.new.items
         ≡ tree_list K.kind V.kind M.E buf.now root }
-    ensures from { (c : Q → K.kind.Value → Answer)
-        → ComparesBy (C.post cmp.now) (shown K.kind W.Shows) c
+    ensures from { (c : Q → K.kind.Value → Comparison)
+        → ComparesBy (C.post cmp.now) (shown_value K.kind W.Shows) c
         → IsKept (from_at K.kind V.kind M.E buf.now (bound_map (λ q. c q.now) low.entry))
         (tree_list K.kind V.kind M.E buf.now root)
         (part_rest K.kind V.kind M.E buf.now result path.new.items) }
@@ -134,8 +134,8 @@ fn first_past<
     requires within { part.next ≤ part.end }
     requires stands { PartStands K.kind V.kind M.E buf.now part }
     ensures whole { high.entry ≡ Unbounded → result ≡ None }
-    ensures first { (c : Q → K.kind.Value → Answer)
-        → ComparesBy (C.post cmp.now) (shown K.kind W.Shows) c
+    ensures first { (c : Q → K.kind.Value → Comparison)
+        → ComparesBy (C.post cmp.now) (shown_value K.kind W.Shows) c
         → IsFound (past_at K.kind V.kind M.E buf.now (bound_map (λ q. c q.now) high.entry))
         (part_rest K.kind V.kind M.E buf.now part path.now.items) result }
 {
@@ -165,8 +165,8 @@ fn is_past<
     requires short { length buf.now ≤ 4294967295 }
     requires stands { RunStands K.kind V.kind M.E buf.now entry.0 entry.1 (entry.1 + 1) }
     ensures whole { high.entry ≡ Unbounded → result ≡ false }
-    ensures past { (c : Q → K.kind.Value → Answer)
-        → ComparesBy (C.post cmp.now) (shown K.kind W.Shows) c
+    ensures past { (c : Q → K.kind.Value → Comparison)
+        → ComparesBy (C.post cmp.now) (shown_value K.kind W.Shows) c
         → result
         ≡ past_at K.kind V.kind M.E buf.now (bound_map (λ q. c q.now) high.entry) entry }
 {
@@ -197,8 +197,8 @@ fn starts_past<
     ensures rest { let s = layout_of K.kind V.kind M.E in
         path_rest s buf.now 32 path.new.items ≡ path_rest s buf.now 32 path.old.items }
     ensures whole { high.entry ≡ Unbounded → result ≡ false }
-    ensures past { (c : Q → K.kind.Value → Answer)
-        → ComparesBy (C.post cmp.now) (shown K.kind W.Shows) c
+    ensures past { (c : Q → K.kind.Value → Comparison)
+        → ComparesBy (C.post cmp.now) (shown_value K.kind W.Shows) c
         → result ≡ first_passes
         (past_at K.kind V.kind M.E buf.now (bound_map (λ q. c q.now) high.entry))
         (part_rest K.kind V.kind M.E buf.now part path.old.items) }
@@ -288,7 +288,7 @@ fn before<K: Portable, V: Portable, M: ArchivedMap<Key = K, Mapped = V>>(
     })
 }
 
-/// Takes the first entry that is left of the path before the stop, and finds the part of the leaf behind it.
+/// Takes the first entry that is left of the path before the stop, and finds the part of the leaf after it.
 #[inline(never)]
 fn climb_before<K: Portable, V: Portable, M: ArchivedMap<Key = K, Mapped = V>>(
     buf: &[u8],
@@ -363,7 +363,7 @@ fn between_in<
     ensures whole { low.entry ≡ Unbounded → high.entry ≡ Unbounded
         → part_range K.kind V.kind M.E buf.now result.1 result.0 path.new.items
         ≡ tree_list K.kind V.kind M.E buf.now root }
-    ensures within { ByBounds (C.post cmp.now) (shown K.kind W.Shows) low.entry high.entry (λ lo hi.
+    ensures within { ByBounds (C.post cmp.now) (shown_value K.kind W.Shows) low.entry high.entry (λ lo hi.
         IsMiddle (from_at K.kind V.kind M.E buf.now lo) (past_at K.kind V.kind M.E buf.now hi)
         (tree_list K.kind V.kind M.E buf.now root)
         (part_range K.kind V.kind M.E buf.now result.1 result.0 path.new.items)) }
@@ -397,7 +397,7 @@ fn tree_root<K: Portable, V: Portable, M: ArchivedMap<Key = K, Mapped = V>>(
 }
 
 /// Begins a walk between the bounds, of the map at `pos` with an empty path. Where its keys are ordered for both queries,
-/// it goes along all entries within them; else along some that stand one behind the other.
+/// it goes along all entries within them; else along some that stand one after the other.
 pub fn between<
     'a,
     Q,
@@ -426,7 +426,7 @@ pub fn between<
     ensures whole { low.entry ≡ Unbounded → high.entry ≡ Unbounded
         → read_range K.kind V.kind M.E buf.now result.1 result.0 path.new.items
         ≡ read_map K.kind V.kind M.E buf.now pos }
-    ensures within { ByBounds (C.post cmp.now) (shown K.kind W.Shows) low.entry high.entry (λ lo hi.
+    ensures within { ByBounds (C.post cmp.now) (shown_value K.kind W.Shows) low.entry high.entry (λ lo hi.
         IsWithin lo hi (read_map K.kind V.kind M.E buf.now pos)
         (read_range K.kind V.kind M.E buf.now result.1 result.0 path.new.items)) }
     ensures below { PartBelow (layout_of K.kind V.kind M.E) buf.now (root_place buf.now pos)

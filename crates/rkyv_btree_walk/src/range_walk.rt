@@ -6,7 +6,7 @@ ghost use Rattle.rkyv_btree_base.specs.Read.{entry_at, read_map};
 ghost use Rattle.rkyv_btree_base.specs.Views.{stands};
 ghost use Rattle.rkyv_btree_walk.specs.Bounds.{IsRun, IsWithin, ByBounds};
 ghost use Rattle.rkyv_btree_walk.specs.EntryPlaces.{entry_places};
-ghost use Rattle.rkyv_btree_walk.specs.Search.{shown};
+ghost use Rattle.rkyv_btree_walk.specs.Search.{shown_value};
 ghost use Rattle.rkyv_btree_walk.specs.mirror.Along.{range_left, IsRangeWalk, Takes};
 ghost use Rattle.rkyv_btree_walk.specs.mirror.Node.{RunStands};
 
@@ -52,7 +52,7 @@ pub fn start_between<
         → map (entry_at K.kind V.kind M.E buf.now)
         (range_left (layout_of K.kind V.kind M.E) buf.now result)
         ≡ read_map K.kind V.kind M.E buf.now pos }
-    ensures within { ByBounds (C.post cmp.now) (shown K.kind W.Shows) low.entry high.entry (λ lo hi.
+    ensures within { ByBounds (C.post cmp.now) (shown_value K.kind W.Shows) low.entry high.entry (λ lo hi.
         IsWithin lo hi (read_map K.kind V.kind M.E buf.now pos)
         (map (entry_at K.kind V.kind M.E buf.now)
         (range_left (layout_of K.kind V.kind M.E) buf.now result))) }

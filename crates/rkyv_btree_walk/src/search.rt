@@ -1,14 +1,14 @@
 //! Searches of a map for an entry, by a comparison with its key.
 ghost use Rattle.std.specs.Prelude.{◌≡◌, ◌+◌, ◌*◌, ◌≤◌, length, IfSome, IsTrue};
-ghost use Rattle.std.specs.declared.cmp.Ordering.{Ordering as Answer};
+ghost use Rattle.std.specs.declared.cmp.Ordering.{Ordering as Comparison};
 ghost use Rattle.rkyv_btree_base.specs.Layout.{layout_of};
 ghost use Rattle.rkyv_btree_base.specs.Read.{read_map, map_tree};
 ghost use Rattle.rkyv_btree_base.specs.Tree.{list};
 ghost use Rattle.rkyv_btree_base.specs.Views.{stands};
-ghost use Rattle.rkyv_btree_walk.specs.Search.{compared_of, shown};
+ghost use Rattle.rkyv_btree_walk.specs.Search.{compared_of, shown_value};
 ghost use Rattle.rkyv_btree_walk.specs.mirror.Node.{RunStands, CanBeSearched, TreeCanBeRead};
 ghost use Rattle.rkyv_btree_walk.specs.mirror.Path.{tree_rest};
-ghost use Rattle.rkyv_btree_walk.specs.mirror.Search.{StopsAt, StopsWithin, IsListed, asked_by, answers_at, searched, searched_map, TellsBy};
+ghost use Rattle.rkyv_btree_walk.specs.mirror.Search.{StopsAt, StopsWithin, IsListed, comparisons_by, comparison_at, searched, searched_map, TellsBy};
 
 use crate::archived_map::{ArchivedMap, map_len};
 use crate::node::{child, is_leaf, key_pos, leaf_count, root};
@@ -16,7 +16,7 @@ use crate::shows::Shows;
 use rkyv_btree_base::check::Portable;
 use std::cmp::Ordering;
 
-/// What a search asks of a comparison. Two answers, so that it compiles to a test of each.
+/// What a search needs of a comparison: two results, so that it compiles to a test of each.
 #[derive(Clone, Copy, Drop)]
 pub struct Compared {
     /// Whether the query is past the key.
@@ -38,7 +38,7 @@ impl Compared {
     }
 }
 
-/// Where the search of a node stops: at an entry that gives Equal, or before the first that gives Less, or behind all.
+/// Where the search of a node stops: at an entry that gives Equal, or before the first that gives Less, or after all.
 #[derive(Clone, Copy)]
 pub(crate) enum Stop {
     At(u32),
@@ -48,9 +48,9 @@ pub(crate) enum Stop {
 impl Stop {
     /// How many entries were asked, of `count`.
     #[inline(always)]
-    fn asked(self, count: u32) -> u32
+    fn comparisons(self, count: u32) -> u32
         requires { StopsWithin count self }
-        ensures value { result ≡ asked_by count self }
+        ensures value { result ≡ comparisons_by count self }
         ensures within { result ≤ count }
     {
         match self {
@@ -70,7 +70,7 @@ fn compare_at<'a, Q, K: Portable, W: Shows<'a, K>, C: Fn(&Q, W) -> Compared>(
 ) -> Compared
     requires callable { C.IsAlwaysCallable cmp.now }
     requires stands { IsTrue (stands K.kind buf.now pos) }
-    ensures { (c : Q → K.kind.Value → Answer) → TellsBy (C.post cmp.now) (shown K.kind W.Shows) c
+    ensures { (c : Q → K.kind.Value → Comparison) → TellsBy (C.post cmp.now) (shown_value K.kind W.Shows) c
         → result ≡ compared_of (c key.now (K.kind.read buf.now pos)) }
 {
     cmp(key, W::at(buf, pos))
@@ -90,9 +90,9 @@ fn search_node<
     requires callable { C.IsAlwaysCallable cmp.now }
     requires node { CanBeSearched K.kind V.kind M.E buf.now node count }
     ensures within { StopsWithin count result }
-    ensures stops { (c : Q → K.kind.Value → Answer)
-        → TellsBy (C.post cmp.now) (shown K.kind W.Shows) c
-        → StopsAt (λ i. answers_at K.kind V.kind M.E buf.now (c key.now) (node, i)) count result }
+    ensures stops { (c : Q → K.kind.Value → Comparison)
+        → TellsBy (C.post cmp.now) (shown_value K.kind W.Shows) c
+        → StopsAt (λ i. comparison_at K.kind V.kind M.E buf.now (c key.now) (node, i)) count result }
 {
     for i in 0..count {
         let pos = key_pos::<K, V, M>(node, i as usize);
@@ -123,34 +123,34 @@ fn search_tree<
     requires callable { C.IsAlwaysCallable cmp.now }
     requires tree { TreeCanBeRead K.kind V.kind M.E buf.now from }
     ensures stands { IfSome result.0 (λ e. RunStands K.kind V.kind M.E buf.now e.0 e.1 (e.1 + 1)) }
-    ensures found { (c : Q → K.kind.Value → Answer)
-        → TellsBy (C.post cmp.now) (shown K.kind W.Shows) c
+    ensures found { (c : Q → K.kind.Value → Comparison)
+        → TellsBy (C.post cmp.now) (shown_value K.kind W.Shows) c
         → result ≡ searched (layout_of K.kind V.kind M.E) buf.now
-        (answers_at K.kind V.kind M.E buf.now (c key.now)) 32 from }
+        (comparison_at K.kind V.kind M.E buf.now (c key.now)) 32 from }
     ensures listed { let s = layout_of K.kind V.kind M.E in
         IfSome result.0 (λ e. IsListed e (tree_rest s buf.now 32 from 0)) }
     ensures few { result.1 ≤ M.E * 32 }
 {
     let mut node = from;
-    let mut asked = 0u64;
+    let mut compared = 0u64;
     'down: loop {
         if is_leaf::<K, V, M>(buf, node) {
             let count = leaf_count::<K, V, M>(buf, node);
             let stop = search_node::<Q, K, V, M, W, C>(buf, node, count, key, cmp);
-            asked += u64::from(stop.asked(count));
+            compared += u64::from(stop.comparisons(count));
             return match stop {
-                Stop::At(i) => (Some((node, i)), asked),
-                Stop::Before(_) => (None, asked),
+                Stop::At(i) => (Some((node, i)), compared),
+                Stop::Before(_) => (None, compared),
             };
         }
         // An inner node's number of entries is known when this is compiled, so its search has no loop.
         let count = M::entries_per_node() as u32;
         let stop = search_node::<Q, K, V, M, W, C>(buf, node, count, key, cmp);
-        asked += u64::from(stop.asked(count));
+        compared += u64::from(stop.comparisons(count));
         match stop {
-            Stop::At(i) => return (Some((node, i)), asked),
+            Stop::At(i) => return (Some((node, i)), compared),
             Stop::Before(i) => match child::<K, V, M>(buf, node, i as usize) {
-                None => return (None, asked),
+                None => return (None, compared),
                 Some(below) => node = below,
             },
         }
@@ -171,10 +171,10 @@ pub fn search<
     requires callable { C.IsAlwaysCallable cmp.now }
     requires stands { IsTrue (stands M.kind buf.now pos) }
     ensures stands { IfSome result.0 (λ e. RunStands K.kind V.kind M.E buf.now e.0 e.1 (e.1 + 1)) }
-    ensures found { (c : Q → K.kind.Value → Answer)
-        → TellsBy (C.post cmp.now) (shown K.kind W.Shows) c
+    ensures found { (c : Q → K.kind.Value → Comparison)
+        → TellsBy (C.post cmp.now) (shown_value K.kind W.Shows) c
         → result ≡ searched_map (layout_of K.kind V.kind M.E) buf.now
-        (answers_at K.kind V.kind M.E buf.now (c key.now)) pos }
+        (comparison_at K.kind V.kind M.E buf.now (c key.now)) pos }
     ensures listed { let s = layout_of K.kind V.kind M.E in
         IfSome result.0 (λ e. IsListed e (list (map_tree s buf.now pos))) }
     ensures none { length (read_map K.kind V.kind M.E buf.now pos) ≡ 0 → result.1 ≡ 0 }

@@ -1,10 +1,10 @@
 //! Ways down to the first entry of a tree that reaches a query, beside which a range begins or stops.
 ghost use Rattle.std.specs.Prelude.{◌≡◌, ℕ, ◌+◌, ◌≤◌, ◌<◌, [], length, IsTrue, Some, true, false};
-ghost use Rattle.std.specs.declared.cmp.Ordering.{Ordering as Answer};
+ghost use Rattle.std.specs.declared.cmp.Ordering.{Ordering as Comparison};
 ghost use Rattle.rkyv_btree_base.specs.Bytes.{number_at};
 ghost use Rattle.rkyv_btree_base.specs.Layout.{layout_of, len_at, are_fitting};
 ghost use Rattle.rkyv_btree_base.specs.Views.{stands};
-ghost use Rattle.rkyv_btree_walk.specs.Search.{ComparesBy, shown};
+ghost use Rattle.rkyv_btree_walk.specs.Search.{ComparesBy, shown_value};
 ghost use Rattle.rkyv_btree_walk.specs.mirror.Below.{PartBelow};
 ghost use Rattle.rkyv_btree_walk.specs.mirror.Node.{is_leaf as is_leaf_at, NodeStands, RunStands, RunCanBeRead, TreeStands, TreeCanBeRead};
 ghost use Rattle.rkyv_btree_walk.specs.mirror.Path.{tree_rest, IsPath};
@@ -25,11 +25,11 @@ pub struct Part {
     pub node: u32,
     /// The number of the first entry left.
     pub next: u32,
-    /// The number behind the last one.
+    /// The number after the last one.
     pub end: u32,
 }
 
-/// Whether the key at `pos` reaches the query: it isn't before it, or where `past` is true, it is behind it.
+/// Whether the key at `pos` reaches the query: it isn't before it, or where `past` is true, it is after it.
 #[inline(always)]
 pub(crate) fn reaches<'a, Q, K: Portable, W: Shows<'a, K>, C: Fn(&Q, W) -> Ordering>(
     buf: &'a [u8],
@@ -40,7 +40,7 @@ pub(crate) fn reaches<'a, Q, K: Portable, W: Shows<'a, K>, C: Fn(&Q, W) -> Order
 ) -> bool
     requires callable { C.IsAlwaysCallable cmp.now }
     requires stands { IsTrue (stands K.kind buf.now pos) }
-    ensures { (c : Q → K.kind.Value → Answer) → ComparesBy (C.post cmp.now) (shown K.kind W.Shows) c
+    ensures { (c : Q → K.kind.Value → Comparison) → ComparesBy (C.post cmp.now) (shown_value K.kind W.Shows) c
         → result ≡ is_reached past (c key.now (K.kind.read buf.now pos)) }
 {
     let order = cmp(key, W::at(buf, pos));
@@ -67,8 +67,8 @@ fn scan_node<
     requires ends { from ≤ count }
     ensures begins { from ≤ result }
     ensures within { result ≤ count }
-    ensures first { (c : Q → K.kind.Value → Answer)
-        → ComparesBy (C.post cmp.now) (shown K.kind W.Shows) c
+    ensures first { (c : Q → K.kind.Value → Comparison)
+        → ComparesBy (C.post cmp.now) (shown_value K.kind W.Shows) c
         → IsFirst (λ i. reached_at K.kind V.kind M.E buf.now past (c key.now) (node, i)) from count
         result }
 {
@@ -98,8 +98,8 @@ fn count_node<
     requires ends { from ≤ count }
     ensures begins { from ≤ result }
     ensures within { result ≤ count }
-    ensures first { (c : Q → K.kind.Value → Answer)
-        → ComparesBy (C.post cmp.now) (shown K.kind W.Shows) c
+    ensures first { (c : Q → K.kind.Value → Comparison)
+        → ComparesBy (C.post cmp.now) (shown_value K.kind W.Shows) c
         → let test = λ (i : ℕ). reached_at K.kind V.kind M.E buf.now past (c key.now) (node, i) in
         Climbs test from count → IsFirst test from count result }
 {
@@ -136,8 +136,8 @@ fn seek_node<
     requires ends { from ≤ count }
     ensures begins { from ≤ result }
     ensures within { result ≤ count }
-    ensures first { (c : Q → K.kind.Value → Answer)
-        → ComparesBy (C.post cmp.now) (shown K.kind W.Shows) c
+    ensures first { (c : Q → K.kind.Value → Comparison)
+        → ComparesBy (C.post cmp.now) (shown_value K.kind W.Shows) c
         → let test = λ (i : ℕ). reached_at K.kind V.kind M.E buf.now past (c key.now) (node, i) in
         Climbs test from count → IsFirst test from count result }
 {
@@ -179,7 +179,7 @@ fn inner_end<K: Portable, V: Portable, M: ArchivedMap<Key = K, Mapped = V>>(
 }
 
 /// Goes down from the node at `root` beside the first entry whose key reaches the query, and puts the inner nodes met on
-/// the empty path: left are that entry and all behind it, where the keys are ordered for the query.
+/// the empty path: left are that entry and all after it, where the keys are ordered for the query.
 pub(crate) fn seek<
     'a,
     Q,
@@ -197,8 +197,8 @@ pub(crate) fn seek<
     ensures stands { PartStands K.kind V.kind M.E buf.now result }
     ensures run { IsEnd (part_rest K.kind V.kind M.E buf.now result path.new.items)
         (tree_list K.kind V.kind M.E buf.now root) }
-    ensures from { (c : Q → K.kind.Value → Answer)
-        → ComparesBy (C.post cmp.now) (shown K.kind W.Shows) c
+    ensures from { (c : Q → K.kind.Value → Comparison)
+        → ComparesBy (C.post cmp.now) (shown_value K.kind W.Shows) c
         → IsKept (reached_at K.kind V.kind M.E buf.now past (c key.now))
         (tree_list K.kind V.kind M.E buf.now root)
         (part_rest K.kind V.kind M.E buf.now result path.new.items) }
@@ -263,7 +263,7 @@ fn first_below<
     requires short { length buf.now ≤ 4294967295 }
     requires tree { (levels : ℕ) × TreeStands K.kind V.kind M.E buf.now levels top }
     ensures { (levels : ℕ) → TreeStands K.kind V.kind M.E buf.now levels top
-        → (c : Q → K.kind.Value → Answer) → ComparesBy (C.post cmp.now) (shown K.kind W.Shows) c
+        → (c : Q → K.kind.Value → Comparison) → ComparesBy (C.post cmp.now) (shown_value K.kind W.Shows) c
         → IsFoundOr (reached_at K.kind V.kind M.E buf.now past (c key.now))
         (tree_rest (layout_of K.kind V.kind M.E) buf.now levels top 0) other result }
 {
@@ -302,7 +302,7 @@ pub(crate) fn first_reaching<
     requires path { IsPath K.kind V.kind M.E buf.now 32 path.now.items }
     requires within { part.next ≤ part.end }
     requires stands { PartStands K.kind V.kind M.E buf.now part }
-    ensures { (c : Q → K.kind.Value → Answer) → ComparesBy (C.post cmp.now) (shown K.kind W.Shows) c
+    ensures { (c : Q → K.kind.Value → Comparison) → ComparesBy (C.post cmp.now) (shown_value K.kind W.Shows) c
         → IsFound (reached_at K.kind V.kind M.E buf.now past (c key.now))
         (part_rest K.kind V.kind M.E buf.now part path.now.items) result }
 {

@@ -23,7 +23,7 @@ archived_where kind meaning IsIn own Refuses is_own meant x from at writes r byt
 
 -- native values of a faithful form, of which none refuses itself
 pub native_archived : {X : Type 0} (form : NativeForm X) → IsFaithful form → IsArchived (native_archival form)
-native_archived form faithful = archived_where (plain_kind form.plain) form.meaning form.IsIn form.own (λ x from fault. ⊥) (λ x is_in. faithful.is_own x) faithful.means
+native_archived form faithful = archived_where (plain_kind form.plain) form.meaning form.IsIn form.own_bytes (λ x from fault. ⊥) (λ x is_in. faithful.is_own x) faithful.means
 
 -- they tell of nothing that lies elsewhere, and their writes are none
 pub own_causes : {X : Type 0} (kind : Kind) (meaning : X → kind.Value) (IsIn : X → Type 0) (own : X → List ℕ) (Refuses : X → ℕ → EntryFault → Type 0) → HasCauses (own_archival kind meaning IsIn own Refuses)
@@ -38,4 +38,4 @@ own_causes kind meaning IsIn own Refuses = record {
 }
 
 pub native_causes : {X : Type 0} (form : NativeForm X) → HasCauses (native_archival form)
-native_causes form = own_causes (plain_kind form.plain) form.meaning form.IsIn form.own (λ x from fault. ⊥)
+native_causes form = own_causes (plain_kind form.plain) form.meaning form.IsIn form.own_bytes (λ x from fault. ⊥)

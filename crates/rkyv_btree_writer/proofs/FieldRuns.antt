@@ -1,4 +1,4 @@
--- Fields one behind another.
+-- Fields one after another.
 use Rattle.std.specs.Prelude.{ℕ, ◌+◌, ◌≤◌, ◌⊎◌, List, [], ◌∷◌, ◌++◌}
 use Rattle.std.proofs.Common.{inl, inr, arith}
 use Rattle.rkyv_btree_writer.specs.Fields.{Field, a_length, a_pointer, AllFit, FirstUnfit, HasLong, lengths_of, AllInside, AllHeld}

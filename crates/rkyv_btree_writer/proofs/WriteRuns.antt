@@ -70,7 +70,7 @@ stopped-behind s xs m ys fault t a h = record {
   refused = h.refused;
 }
 
--- a refused position lies behind what the writes append, and a refused offset is in one of them
+-- a refused position lies after what the writes append, and a refused offset is in one of them
 pub stopped_past : {E : Type 0} (s : Writing) (writes : List Write) (t : Writing) → Stopped {E = E} s writes PositionOverflow t → last_end < position s + length (appended writes)
 stopped_past s writes t h =
     let split = ap appended h.parts ∙ appended-append h.made (h.next ∷ h.rest) in

@@ -44,7 +44,7 @@ pub record Archival (X R : Type 0) : Type 1 where
   pub Refuses : X → ℕ → EntryFault → Type 0
 
 -- a value that was serialised from a position on, each pointer of its writes in reach, and resolved at an aligned place
--- behind that, means itself in the window of what was written, in every buffer that holds these bytes, where the type fits
+-- after that, means itself in the window of what was written, in every buffer that holds these bytes, where the type fits
 abbrev pub IsArchived : {X R : Type 0} → Archival X R → Type 0
 IsArchived {X} {R} T =
     (x : X) (from at : ℕ) (writes : List Write) (r : R) (own : List ℕ) → T.IsIn x → T.Writes x from writes r
@@ -105,4 +105,4 @@ plain_archival kind meaning IsIn own = own_archival kind meaning IsIn own (λ x 
 
 -- native values, as their form says
 abbrev pub native_archival : {X : Type 0} → NativeForm X → Archival X (Unit {0})
-native_archival form = plain_archival (plain_kind form.plain) form.meaning form.IsIn form.own
+native_archival form = plain_archival (plain_kind form.plain) form.meaning form.IsIn form.own_bytes

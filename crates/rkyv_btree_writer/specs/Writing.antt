@@ -13,13 +13,13 @@ pub record Writing : Type 0 where
 abbrev pub position : Writing → ℕ
 position s = s.base + length s.contents
 
--- state t is s with these bytes behind it
+-- state t is s with these bytes after it
 pub record Appended (s : Writing) (bytes : List ℕ) (t : Writing) : Type 0 where
   pub base : t.base ≡ s.base
   pub contents : t.contents ≡ s.contents ++ bytes
   pub failures : t.failures ≡ s.failures
 
--- a write of these bytes failed: state t is s with a beginning of them behind it
+-- a write of these bytes failed: state t is s with a beginning of them after it
 pub record Failed (s : Writing) (bytes : List ℕ) (t : Writing) : Type 0 where
   pub front : List ℕ
   pub rest : List ℕ

@@ -52,7 +52,7 @@ module _ (K V : Kind) (E : ℕ) where
   spelled_inside b lo hi p (leaf m) h = let at = h.0 in (at.start, omega arith, omega arith)
   spelled_inside b lo hi p (inner row) h = let at = h.0 in (at.start, omega arith, omega arith)
 
-  -- the map over a root node at a position behind it, in the window of what was written
+  -- the map over a root node at a position after it, in the window of what was written
   pub accepted_within : (b : List ℕ) (from to : Writing) (m : List (K.Value × V.Value)) (root at : ℕ) (spelled : Spelled K V E from m root to) → 0 < length m → length m ≤ last_end → root_reaches at root (length m) ≡ true →
       length b ≤ 4294967295 → Holds b (position from) spelled.appended → position to ≤ at → at % 4 ≡ 0 → at + 8 ≤ length b → Holds b at (root_bytes at root (length m)) → (left : ℕ) × Accepted K V E b (position from) (position to) at left m
   accepted_within b from to m root at spelled some few reaches short held behind aligned room own =
@@ -123,7 +123,7 @@ archive_length mid to root n zero wrote =
       length-padding 4 (position mid) (omega arith),
     )
 
--- what a writer in memory holds from position 0 on, once a map was written behind state `mid`
+-- what a writer in memory holds from position 0 on, once a map was written after state `mid`
 module _ (mid to : Writing) (root n : ℕ) (zero : mid.base ≡ 0) (wrote : Wrote mid (root_image (position mid) root n) to) where
   abbrev at : ℕ
   at = round_up (position mid) 4

@@ -115,7 +115,7 @@ stopped_root root len s m t (Memory error) wrote r = r
 stopped_root root len s m t (Entry fault) wrote r = r
 stopped_root root len s m t (OutOfOrder index) wrote r = r
 
--- a map that isn't written behind its padding
+-- a map that isn't written after its padding
 pub root_refused : {X : Type 0} (root len : ℕ) (s m t : Writing) (bytes : List ℕ) (fault : Fault X) → bytes ≡ root_bytes (round_up (position s) 4) root len → Wrote s (padding 4 (position s)) m → ((reaches : Bool) → Refused fault m (record { bytes = bytes; reaches = reaches }) t) → RootFault root len s fault t
 root_refused root len s m t bytes fault is wrote refused =
     let at = round_up (position s) 4 in

@@ -15,13 +15,13 @@ use Rattle.rkyv_btree_format.proofs.Aligned.{key_aligned, value_aligned}
 use Rattle.rkyv_btree_portable.specs.laws.Holding.{Holds-front, Holds-back, Holds-at}
 use Rattle.rkyv_btree_writing_laws.proofs.Leaves.{keys_of, values_of}
 
--- state t has more behind the contents of s
+-- state t has more after the contents of s
 pub record Grown (s t : Writing) : Type 0 where
   pub more : List ℕ
   pub base : t.base ≡ s.base
   pub contents : t.contents ≡ s.contents ++ more
 
--- a buffer holds what t has behind the contents of s
+-- a buffer holds what t has after the contents of s
 abbrev pub HeldSince : List ℕ → Writing → Writing → Type 0
 HeldSince b s t = Holds b (position s) (drop (length s.contents) t.contents)
 

@@ -109,7 +109,7 @@ module _ {M N : Type 0} (K V : Kind) (E : ℕ) (k : IsLawful K) (v : IsLawful V)
         h.end,
       )
 
-  -- a node's write stands behind its padding, and has the node's size
+  -- a node's write stands after its padding, and has the node's size
   node_stopped : {F : Type 0} (image : ℕ → List OwnBytes → List Write) (write : ℕ → List OwnBytes → Write) (size : ℕ) (s : Writing) (xs : List (M × N)) (fault : Fault F) (t : Writing) → ((at : ℕ) (owns : List OwnBytes) → image at owns ≡ padding (align (layout_of K V E)) at ++ write at owns ∷ []) →
       ((at : ℕ) → length (write at (map own_of xs)).bytes ≡ size) → NodeStopped (layout_of K V E) KA VA image size s xs fault t → Stopped s (image (position s) (map own_of xs)) fault t
   node_stopped image write size s xs fault t is long (in_entries h) = absurd (entries_never s xs fault t h)

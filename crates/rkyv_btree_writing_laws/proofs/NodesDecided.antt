@@ -41,7 +41,7 @@ fields_fit (f ∷ fs) = both (field_fits f) (fields_fit fs)
     both (inl fits) (inl all) = inl (fits, all)
     both (inl fits) (inr unfit) = inr (unfit.0, inr (fits, unfit.1))
 
--- values are resolved one behind another, or one of them isn't
+-- values are resolved one after another, or one of them isn't
 values_decided : {X R : Type 0} (T : Archival X R) → HasCauses T → (at : ℕ) (xs : List X) (rs : List R) → length rs ≡ length xs → ((owns : List (List ℕ)) × AreResolved T at xs rs owns) ⊎ ((cause : ResolveFault) × AreUnresolved T at xs rs cause)
 values_decided T causes at [] [] same = inl ([], (refl, refl))
 values_decided T causes at [] (r ∷ rs) same = absurd (omega arith)
@@ -82,7 +82,7 @@ module _ {M N R S : Type 0} (s : NodeLayout) (K : Archival M R) (V : Archival N 
           )
 
 module _ {M N R S : Type 0} (K V : Kind) (E : ℕ) (k : IsLawful K) (v : IsLawful V) (fits : IsTrue (are_fitting K V E)) (KA : Archival M R) (VA : Archival N S) (key : Matches KA.kind K) (value : Matches VA.kind V) (ka : IsArchived KA) (va : IsArchived VA) where
-  -- the bytes of a leaf and of an inner node, behind their entries
+  -- the bytes of a leaf and of an inner node, after their entries
   module _ (from : Writing) (xs : List (M × N)) (root : ℕ) (owns : List OwnBytes) (mid : Writing) (there : AreInNode (layout_of K V E) KA VA from xs root owns mid) where
     pub leaf_sized : length xs ≤ E → length (leaf_bytes (layout_of K V E) owns) ≡ leaf_size (layout_of K V E)
     leaf_sized few =

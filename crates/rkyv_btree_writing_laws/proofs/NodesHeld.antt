@@ -1,4 +1,4 @@
--- The pointers and the length of a node, and where it stands behind its padding.
+-- The pointers and the length of a node, and where it stands after its padding.
 use Rattle.std.proofs.Common.{◌≡◌, ℕ, ◌+◌, ◌*◌, ◌<◌, Bool, true, ◌&&◌, IsTrue, List, [], ◌∷◌, ◌++◌, length, refl, subst, arith, Option, Some, None}
 use Rattle.std.proofs.lemmas.Bool.Decides.{nat_tests}
 use Rattle.std.proofs.lemmas.List.{length-append}
@@ -50,7 +50,7 @@ module _ (K V : Kind) (E : ℕ) (k : IsLawful K) (v : IsLawful V) (fits : IsTrue
       let room = (room_of K V E k v fits).parts.pointers in
       tail_length (entry_bytes s 1 xs) (pointers (at + len_at s) roots) (len_at s) (inner_size s) (entries_end K V E k v fits 1 xs own (omega arith)) (omega (arith, length-pointers (at + len_at s) roots))
 
-  -- a node behind its padding
+  -- a node after its padding
   pub node_there : (b : List ℕ) (w : ℕ) (node : Write) → Holds b w (appended (padding (align (layout_of K V E)) w ++ node ∷ [])) → Holds b (round_up w (align (layout_of K V E))) node.bytes
   node_there b w node held =
       let pad = padding (align (layout_of K V E)) w in

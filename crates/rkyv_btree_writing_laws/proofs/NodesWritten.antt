@@ -1,4 +1,4 @@
--- Nodes behind the padding before them.
+-- Nodes after the padding before them.
 use Rattle.std.proofs.Common.{◌≡◌, ℕ, ◌∙◌, true, List, [], ◌∷◌, ◌++◌, length, sym, subst, arith}
 use Rattle.rkyv_btree_writer.specs.Archiving.{Archival}
 use Rattle.rkyv_btree_writer.specs.Padding.{padding}

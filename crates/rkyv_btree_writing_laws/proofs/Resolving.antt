@@ -1,4 +1,4 @@
--- Values resolved one behind another.
+-- Values resolved one after another.
 use Rattle.std.proofs.Common.{◌≡◌, ℕ, suc, Bor, ◌+◌, ◌<◌, ◌≤◌, List, [], ◌∷◌, ◌++◌, length, map, take, drop, get_or, inl, inr, refl, sym, ap, subst, ◌∙◌}
 use Rattle.std.proofs.lemmas.List.{append_assoc, append-nil, drop_more, drop_all, nil_from_length, take_at, length-append, length-map}
 use Rattle.std.proofs.lemmas.Grind.{flat_map-append}
@@ -13,7 +13,7 @@ use Rattle.rkyv_btree_format.specs.Layout.{NodeLayout, keys_at, values_at, key_a
 use Rattle.rkyv_btree_writing_laws.specs.Entries.{AreResolved, AreUnresolved, EntriesResolved, EntriesUnresolved, now_of}
 use Rattle.rkyv_btree_writer.specs.declared.fault.ResolveFault.{ResolveFault}
 
--- a part that was written behind the old bytes
+-- a part that was written after the old bytes
 pub placed : (old whole own post tail : List ℕ) (n start : ℕ) → take start whole ≡ old → n ≡ length old + length own → take n ((take start whole ++ (own ++ post)) ++ tail) ≡ old ++ own
 placed old whole own post tail n start front len =
     ap (λ z. take n ((z ++ (own ++ post)) ++ tail)) front
@@ -118,7 +118,7 @@ filled_columns s kind k v kowns vowns b0 b1 b2 b3 b4 b5 same ek ev e0 e1 e2 e3 e
 pub entries_length : {M N R S : Type 0} (s : NodeLayout) (K : Archival M R) (V : Archival N S) (pos : ℕ) (xs : List (M × N)) (keys : List R) (values : List S) (owns : List OwnBytes) → EntriesResolved s K V pos xs keys values owns → length owns ≡ length xs
 entries_length s K V pos xs keys values owns h = sym (length-map owns (λ o. o.0)) ∙ (resolved_length K (pos + key_at s 0) (map (λ x. x.0) xs) keys (map (λ o. o.0) owns) h.own_keys ∙ length-map xs (λ x. x.0))
 
--- a leaf's bytes, behind its kind and entries
+-- a leaf's bytes, after its kind and entries
 pub filled_leaf : (s : NodeLayout) (owns : List OwnBytes) (count len size : ℕ) (b0 b1 b2 b3 : List ℕ) → count ≡ length owns → len ≡ len_at s → size ≡ leaf_size s → b0 ≡ entry_bytes s 0 owns → b1 ≡ filled b0 len → b2 ≡ b1 ++ to_le_bytes w32 count → b3 ≡ filled b2 size → b3 ≡ leaf_bytes s owns
 filled_leaf s owns count len size b0 b1 b2 b3 ec el es e0 e1 e2 e3 =
     e3 ∙ ap (filled b2) es ∙ ap (λ z. filled z (leaf_size s))

@@ -35,7 +35,7 @@ module _ {M N R S : Type 0} (E : ℕ) (K : Archival M R) (V : Archival N S) (k :
   abbrev means : M × N → K.kind.Value × V.kind.Value
   means e = (K.meaning e.0, V.meaning e.1)
 
-  -- what a buffer means that holds the writes of a tree, and the map's own bytes behind them
+  -- what a buffer means that holds the writes of a tree, and the map's own bytes after them
   image_means : IsTrue (are_fitting K.kind V.kind E) → (xs : List (M × N)) (from at : ℕ) (writes : List Write) (place : Option ℕ) (root : ℕ) (own : List ℕ) → All (EntryIn K V) xs → ChildImage (nodes E K V) K V from (planned_alone E xs) writes place → root ≡ unwrap_or place 0 → IsRoot at root (length xs) own →
       (b : List ℕ) → AllReach writes → length b ≤ 4294967295 → at % 4 ≡ 0 → from + length (appended writes) ≤ at → at + 8 ≤ length b → Holds b from (appended writes) → Holds b at own → (left : ℕ) × Accepted K.kind V.kind E b from (from + length (appended writes)) at left (map means xs)
   image_means fits [] from at writes place root own is_in image is_root is b reach short aligned before inside held there =

@@ -29,7 +29,7 @@ pub image_roots : {M N R S : Type 0} (s : NodeLayout) (K : Archival M R) (V : Ar
 image_roots s K V from (last c) writes roots h = ap length h.2
 image_roots s K V from (step c x row) writes roots h = omega (arith, ap length h.7, image_roots s K V (end_of from h.0) row h.1 h.3 h.5)
 
--- what is known of the writes before a stop stays known behind other writes
+-- what is known of the writes before a stop stays known after other writes
 module _ {X M N R S : Type 0} (s : NodeLayout) (K : Archival M R) (V : Archival N S) (fault : Fault X) (Leaves : Writing → List Write → Writing → Type 0) (behind : (from : Writing) (first : List Write) (mid : Writing) (rest : List Write) (to : Writing) → Wrote from first mid → Leaves mid rest to → Leaves from (first ++ rest) to) where
   -- entries, by what stops a key or a value
   module _ (Key : M → ℕ → List Write → Type 0) (Value : N → ℕ → List Write → Type 0) (at_key : (x : M) (from to : Writing) → IsUnserialised K x from fault to → (writes : List Write) × Key x (position from) writes × Leaves from writes to) (at_value : (x : N) (from to : Writing) → IsUnserialised V x from fault to → (writes : List Write) × Value x (position from) writes × Leaves from writes to) where

@@ -1,4 +1,4 @@
--- What was serialised from position 0 on, and its own bytes behind that, are an archive.
+-- What was serialised from position 0 on, and its own bytes after that, are an archive.
 use Rattle.std.proofs.Common.{◌≡◌, ℕ, ◌+◌, ◌-◌, ◌<◌, ◌≤◌, ◌∙◌, Bool, true, false, nat_eq, if◌then◌else◌, IsTrue, List, [], ◌∷◌, ◌++◌, length, refl, sym, ap, subst, arith}
 use Rattle.std.proofs.lemmas.List.{append_assoc, length-append}
 use Rattle.rkyv_btree_writing_laws.proofs.Accepting.{held_between}
@@ -21,17 +21,17 @@ module _ {X R : Type 0} (T : Archival X R) (kind : Kind) (k : IsLawful kind) (sa
   archive_of_placed x s t r at h p =
       let pads = appended (padding kind.align (position s)) in
       let positive = alignment_positive k.alignment in
-      let size = law x 0 at h.0 r p.own h.3 h.1 p.resolved in
+      let size = law x 0 at h.0 r p.own_bytes h.3 h.1 p.resolved in
       let start : s.contents ≡ appended h.0 = h.2.done.contents in
-      let more : t.contents ≡ s.contents ++ (pads ++ (p.own ++ [])) = p.wrote.done.contents ∙ ap (λ z. s.contents ++ z) (appended-append (padding kind.align (position s)) _) in
-      let grouped : t.contents ≡ (s.contents ++ pads) ++ (p.own ++ []) = more ∙ sym (append_assoc s.contents pads (p.own ++ [])) in
+      let more : t.contents ≡ s.contents ++ (pads ++ (p.own_bytes ++ [])) = p.wrote.done.contents ∙ ap (λ z. s.contents ++ z) (appended-append (padding kind.align (position s)) _) in
+      let grouped : t.contents ≡ (s.contents ++ pads) ++ (p.own_bytes ++ []) = more ∙ sym (append_assoc s.contents pads (p.own_bytes ++ [])) in
       let padded = length-padding kind.align (position s) positive in
       let long : length t.contents ≡ at + kind.size = omega (
         arith,
         ap length grouped,
-        length-append (s.contents ++ pads) (p.own ++ []),
+        length-append (s.contents ++ pads) (p.own_bytes ++ []),
         length-append s.contents pads,
-        length-append p.own [],
+        length-append p.own_bytes [],
         padded,
         p.place,
         size.0,
@@ -39,8 +39,8 @@ module _ {X R : Type 0} (T : Archival X R) (kind : Kind) (k : IsLawful kind) (sa
         h.2.done.base,
       ) in
       let here : own_at kind t.contents ≡ at = omega (arith, long) in
-      let front : Holds t.contents 0 (appended h.0) = subst (λ (z : List ℕ). Holds z 0 (appended h.0)) (sym (more ∙ ap (λ z. z ++ (pads ++ (p.own ++ []))) start)) (held_between [] (appended h.0) (pads ++ (p.own ++ [])) 0 refl) in
-      let there : Holds t.contents at p.own = subst (λ (z : List ℕ). Holds z at p.own) (sym grouped) (held_between (s.contents ++ pads) p.own [] at (omega (arith, length-append s.contents pads, padded, p.place, h.2.done.base))) in
+      let front : Holds t.contents 0 (appended h.0) = subst (λ (z : List ℕ). Holds z 0 (appended h.0)) (sym (more ∙ ap (λ z. z ++ (pads ++ (p.own_bytes ++ []))) start)) (held_between [] (appended h.0) (pads ++ (p.own_bytes ++ [])) 0 refl) in
+      let there : Holds t.contents at p.own_bytes = subst (λ (z : List ℕ). Holds z at p.own_bytes) (sym grouped) (held_between (s.contents ++ pads) p.own_bytes [] at (omega (arith, length-append s.contents pads, padded, p.place, h.2.done.base))) in
       let aligned : IsAligned kind.align at = subst (IsAligned kind.align) (sym p.place) (round_up-aligned (position s) kind.align) in
       let up = le-round_up (position s) kind.align positive in
       let short : length t.contents ≤ 4294967295 = omega (arith, p.end, p.wrote.done.base, h.2.done.base) in

@@ -1,4 +1,4 @@
--- What was serialised is accepted, once the map is written behind it.
+-- What was serialised is accepted, once the map is written after it.
 use Rattle.std.specs.Prelude.{◌≡◌, ℕ, ◌+◌, ◌%◌, ◌<◌, ◌≤◌, true, List, [], ◌++◌, length}
 use Rattle.rkyv_btree_portable.specs.Bytes.{Holds}
 use Rattle.rkyv_btree_writing_laws.specs.Image.{root_bytes, root_reaches, root_image}
@@ -16,7 +16,7 @@ pub record HoldsRoot (b : List ℕ) (at root len : ℕ) : Type 0 where
   pub room : at + 8 ≤ length b
   pub held : Holds b at (root_bytes at root len)
 
--- a buffer holds what was appended between two states, and behind it a map of this length over the root node
+-- a buffer holds what was appended between two states, and after it a map of this length over the root node
 pub record HoldsArchive (b : List ℕ) (from to : Writing) (root at len : ℕ) : Type 0 where
   pub appended : List ℕ
   pub contents : to.contents ≡ from.contents ++ appended
@@ -32,7 +32,7 @@ WrittenIsHeld =
     → Wrote mid (root_image (position mid) root len) to → position to ≤ last_end
     → HoldsArchive to.contents from mid root (round_up (position mid) 4) len
 
--- a buffer that holds a serialised tree, and behind it the map with its length, is a map of the tree's list there
+-- a buffer that holds a serialised tree, and after it the map with its length, is a map of the tree's list there
 abbrev pub SerialisedIsAccepted : Kind → Kind → ℕ → Type 0
 SerialisedIsAccepted K V E =
     (b : List ℕ) (from to : Writing) (m : List (K.Value × V.Value)) (root at : ℕ) (spelled : Spelled K V E from m root to)

@@ -20,7 +20,7 @@ pub record IsSerialised {X R : Type 0} (T : Archival X R) (from : Writing) (x : 
   pub is_in : T.IsIn x
   pub end : EndInReach writes to
 
--- the own bytes of values that stand one behind another from a position on
+-- the own bytes of values that stand one after another from a position on
 abbrev pub AreResolved : {X R : Type 0} → Archival X R → ℕ → List X → List R → List (List ℕ) → Type 0
 AreResolved T at [] rs owns = (rs ≡ []) × (owns ≡ [])
 AreResolved {X} {R} T at (x ∷ xs) rs owns =

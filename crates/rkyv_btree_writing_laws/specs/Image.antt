@@ -15,7 +15,7 @@ use Rattle.rkyv_btree_writer.specs.Writing.{Write}
 abbrev pub entry_bytes : NodeLayout → ℕ → List OwnBytes → List ℕ
 entry_bytes s kind xs = filled (filled (kind ∷ []) (keys_at s) ++ flat_map (λ x. x.0) xs) (values_at s) ++ flat_map (λ x. x.1) xs
 
--- a leaf: behind its entries the number of them, and zeros wherever nothing stands
+-- a leaf: after its entries the number of them, and zeros wherever nothing stands
 abbrev pub leaf_bytes : NodeLayout → List OwnBytes → List ℕ
 leaf_bytes s xs = filled (filled (entry_bytes s 0 xs) (len_at s) ++ to_le_bytes w32 (length xs)) (leaf_size s)
 
@@ -35,14 +35,14 @@ pointers_reach at [] = true
 pointers_reach at (None ∷ roots) = pointers_reach (at + 4) roots
 pointers_reach at (Some root ∷ roots) = offset_fits at root && pointers_reach (at + 4) roots
 
--- an inner node at a position: behind its entries the pointers to its children, and zeros wherever nothing stands
+-- an inner node at a position: after its entries the pointers to its children, and zeros wherever nothing stands
 abbrev pub inner_bytes : NodeLayout → ℕ → List OwnBytes → List (Option ℕ) → List ℕ
 inner_bytes s at xs roots = filled (filled (entry_bytes s 1 xs) (len_at s) ++ pointers (at + len_at s) roots) (inner_size s)
 
 abbrev pub inner_write : NodeLayout → ℕ → List OwnBytes → List (Option ℕ) → Write
 inner_write s at xs roots = record { bytes = inner_bytes s at xs roots; reaches = pointers_reach (at + len_at s) roots }
 
--- the writes of an inner node at a position, behind its children
+-- the writes of an inner node at a position, after its children
 abbrev pub inner_image : NodeLayout → ℕ → List OwnBytes → List (Option ℕ) → List Write
 inner_image s at xs roots = padding (align s) at ++ inner_write s (round_up at (align s)) xs roots ∷ []
 

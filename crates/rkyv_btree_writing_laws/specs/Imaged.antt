@@ -38,7 +38,7 @@ module _ {M N R S : Type 0} (K : Archival M R) (V : Archival N S) where
     pub value : V.Writes x.1 (end_of from first) second q
     pub both : writes ≡ first ++ second
 
-  -- the writes of entries, one behind another
+  -- the writes of entries, one after another
   abbrev pub EntriesImage : ℕ → List (M × N) → List Write → List R → List S → Type 0
   EntriesImage from [] writes keys values = (writes ≡ []) × (keys ≡ []) × (values ≡ [])
   EntriesImage from (x ∷ xs) writes keys values =
@@ -61,12 +61,12 @@ module _ {M N R S : Type 0} (K : Archival M R) (V : Archival N S) where
   abbrev pub EntriesBegin : ℕ → List (M × N) → List Write → Type 0
   EntriesBegin = EntriesUpTo K.Begins V.Begins
 
-  -- a key or value refuses itself behind these writes
+  -- a key or value refuses itself after these writes
   abbrev pub EntriesRefuse : EntryFault → ℕ → List (M × N) → List Write → Type 0
   EntriesRefuse fault = EntriesUpTo (λ x from writes. K.Refuses x from fault × (writes ≡ [])) (λ x from writes. V.Refuses x from fault × (writes ≡ []))
 
 module _ {M N R S : Type 0} (s : NodeLayout) (K : Archival M R) (V : Archival N S) where
-  -- the writes of a node's entries, and behind them its image, whose place is the root
+  -- the writes of a node's entries, and after them its image, whose place is the root
   pub record NodeImage (image : ℕ → List OwnBytes → List Write) (from : ℕ) (xs : List (M × N)) (writes : List Write) (root : ℕ) : Type 0 where
     pub keys : List R
     pub values : List S
@@ -134,6 +134,6 @@ module _ {M N R S : Type 0} (s : NodeLayout) (K : Archival M R) (V : Archival N 
   abbrev pub ChildBegins : ℕ → Child (M × N) → List Write → Type 0
   ChildBegins = ChildUpTo NodeBegins
 
-  -- an entry of a child refuses itself, behind all that is written before it
+  -- an entry of a child refuses itself, after all that is written before it
   abbrev pub ChildRefuses : ℕ → Child (M × N) → EntryFault → Type 0
   ChildRefuses from c fault = (writes : List Write) × ChildUpTo (λ image size start xs begun. EntriesRefuse K V fault start xs begun) from c writes

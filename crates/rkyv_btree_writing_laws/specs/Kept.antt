@@ -4,7 +4,7 @@ use Rattle.std.specs.Prelude.{ℕ, List}
 use Rattle.rkyv_btree_writer.specs.Archiving.{Archival}
 use Rattle.rkyv_btree_writer.specs.Writing.{Writing, Appended}
 
--- t is s with bytes behind it, and no write has failed between them
+-- t is s with bytes after it, and no write has failed between them
 abbrev pub OnlyAppended : Writing → Writing → Type 0
 OnlyAppended s t = (bytes : List ℕ) × Appended s bytes t
 

@@ -1,4 +1,4 @@
--- What building answers to claims of their own: one past 32 bits, and one of nothing.
+-- What building returns for claims of their own: one past 32 bits, and one of nothing.
 use Rattle.rkyv_btree_writer.specs.declared.fault.Fault.{Fault}
 use Rattle.rkyv_btree_writer.specs.declared.fault.Fault.TheVariants.{Length}
 

@@ -27,9 +27,9 @@ module _ {X R : Type 0} (T : Archival X R) (kind : Kind) where
   -- the own bytes of a serialised value were written at the next multiple of its alignment
   pub record IsPlaced (x : X) (r : R) (s : Writing) (at : ℕ) (t : Writing) : Type 0 where
     pub place : at ≡ round_up (position s) kind.align
-    pub own : List ℕ
-    pub resolved : T.Resolves x r at own
-    pub wrote : Wrote s (padding kind.align (position s) ++ record { bytes = own; reaches = true } ∷ []) t
+    pub own_bytes : List ℕ
+    pub resolved : T.Resolves x r at own_bytes
+    pub wrote : Wrote s (padding kind.align (position s) ++ record { bytes = own_bytes; reaches = true } ∷ []) t
     pub end : position t ≤ last_end
 
   -- why they aren't at that place
@@ -52,7 +52,7 @@ module _ {X R : Type 0} (T : Archival X R) (kind : Kind) where
   abbrev pub LeftUnplaced : {E : Type 0} → X → R → Writing → Fault E → Writing → Type 0
   LeftUnplaced x r s fault t = Stopped s (padding kind.align (position s)) fault t ⊎ ((mid : Writing) × Wrote s (padding kind.align (position s)) mid × IsUnwritten x r mid fault t)
 
-  -- why a value has no archive: it isn't serialised, or its own bytes aren't written behind what it writes
+  -- why a value has no archive: it isn't serialised, or its own bytes aren't written after what it writes
   abbrev pub IsUnarchived : {E : Type 0} → X → Fault E → Type 0
   IsUnarchived x fault =
       ((t : Writing) × IsUnserialised T x fresh fault t)

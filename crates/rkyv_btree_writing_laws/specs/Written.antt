@@ -14,7 +14,7 @@ use Rattle.rkyv_btree_writer.specs.declared.fault.ResolveFault.{ResolveFault}
 use Rattle.rkyv_btree_writing_laws.specs.Entries.{as_fault, AreSerialised, AreUnserialised, EntriesResolved, EntriesUnresolved}
 
 module _ {M N R S : Type 0} (s : NodeLayout) (K : Archival M R) (V : Archival N S) where
-  -- entries were serialised, and resolved in the node behind them, whose place is this
+  -- entries were serialised, and resolved in the node after them, whose place is this
   pub record AreInNode (from : Writing) (xs : List (M × N)) (root : ℕ) (owns : List OwnBytes) (to : Writing) : Type 0 where
     pub keys : List R
     pub values : List S

@@ -1,4 +1,4 @@
--- What a look-up of a number says of a list of entries.
+-- What a lookup of a number says of a list of entries.
 use Rattle.std.specs.Prelude.{◌≡◌, ◌↔◌, ℕ, List, Option, Some, map}
 use Rattle.std.specs.List.{Contains}
 use Rattle.std.specs.List.Sorted.{IsStrictlySortedBy}

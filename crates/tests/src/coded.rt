@@ -73,7 +73,7 @@ impl Deserialize<u8> for ArchivedCode {
         Ok(code)
     }
 
-    ghost by_meaning = { record { of_value = of_code; reads = λ b at. refl } };
+    ghost by_meaning = { record { of_value = of_code; by_value = λ b at. refl } };
 
     ghost model_whole = { Prim.search rules };
 }

@@ -12,7 +12,7 @@ use std::alloc::{AllocError, Global};
 use std::process::Abort;
 use std::test::Fail;
 
-/// Archives entries that are claimed to be so many, and answers where their map stands.
+/// Archives entries that are claimed to be so many, and returns where their map stands.
 pub(crate) fn archive_claimed<KU, VU, K, V, const E: usize>(
     rt: &impl Abort,
     alloc: Global,
@@ -36,7 +36,7 @@ where
     ArchivedBTreeMap::<K, V, E>::write_root(claim, root, writer)
 }
 
-/// Archives entries, and answers where their map stands.
+/// Archives entries, and returns where their map stands.
 pub(crate) fn archive<KU, VU, K, V, const E: usize>(
     rt: &impl Abort,
     alloc: Global,

@@ -21,7 +21,7 @@ fn entries_compare_key_first(rt: HostRuntime) {
     assert!(rt; entry(1, 1) != entry(1, 2));
 }
 
-/// Takes down what it is fed: behind what it holds the bytes of each write, and then 255. It keeps the last eight bytes.
+/// Takes down what it is fed: after what it holds the bytes of each write, and then 255. It keeps the last eight bytes.
 #[derive(Drop)]
 pub(crate) struct Recorder(pub(crate) u64);
 

@@ -50,6 +50,8 @@ mod seals;
 #[cfg(test)]
 mod sets;
 #[cfg(test)]
+mod sources;
+#[cfg(test)]
 mod std_writers;
 #[cfg(test)]
 mod texts;

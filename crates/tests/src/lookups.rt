@@ -1,7 +1,7 @@
-//! Look-ups in built maps of numbers.
+//! Lookups in built maps of numbers.
 ghost use Rattle.std.specs.Prelude.{◌≡◌};
 ghost use Rattle.std.specs.Ordering.{nat_cmp};
-ghost use Rattle.rkyv_btree.specs.View.{reads};
+ghost use Rattle.rkyv_btree.specs.View.{view_value};
 
 use crate::lookups_counted::nine;
 use crate::read::{number, numbers};
@@ -15,12 +15,12 @@ use std::test::Fail;
 
 /// How a number compares with the one that a view reads.
 pub(crate) fn compare(query: &u32, key: View<ArchivedU32>) -> Ordering
-    ensures { result ≡ nat_cmp query.now (reads key.entry) }
+    ensures { result ≡ nat_cmp query.now (view_value key.entry) }
 {
     query.cmp(&key.to_native())
 }
 
-/// Asserts that each look-up finds this entry of the key, or none.
+/// Asserts that each lookup finds this entry of the key, or none.
 fn finds_entry<const E: usize>(
     rt: &impl Abort,
     map: &View<ArchivedBTreeMap<ArchivedU32, ArchivedU32, E>>,
@@ -34,7 +34,7 @@ fn finds_entry<const E: usize>(
     assert_eq!(rt; compared.map(numbers), want, "{key}");
 }
 
-/// Asserts that each look-up finds this value of the key, and that the key is there, or neither.
+/// Asserts that each lookup finds this value of the key, and that the key is there, or neither.
 fn finds_value<const E: usize>(
     rt: &impl Abort,
     map: &View<ArchivedBTreeMap<ArchivedU32, ArchivedU32, E>>,

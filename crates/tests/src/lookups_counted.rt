@@ -1,4 +1,4 @@
-//! How many comparisons look-ups take, and look-ups by comparisons of one's own.
+//! How many comparisons lookups take, and lookups by comparisons of one's own.
 
 use crate::lookups::compare;
 use crate::numbers::{Numbers, archive, tens};
@@ -17,7 +17,7 @@ use std::cmp::Ordering;
 use std::process::Abort;
 use std::test::Fail;
 
-/// The value that is found and how many comparisons that takes, as the look-up and as the comparison count them.
+/// The value that is found and how many comparisons that takes, as the lookup and as the comparison count them.
 pub(crate) fn counted<const E: usize>(
     rt: &impl Abort,
     map: View<ArchivedBTreeMap<ArchivedU32, ArchivedU32, E>>,

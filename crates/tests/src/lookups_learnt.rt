@@ -1,10 +1,10 @@
-//! What callers learn of look-ups: each function calls some and says what it answers.
+//! What callers learn of lookups: each function calls some and says what it returns.
 ghost use Rattle.std.specs.Prelude.{◌≡◌, ◌*◌, ◌≤◌};
 ghost use Rattle.std.specs.Option.{option_map};
 ghost use Rattle.std.specs.Ordering.{nat_cmp};
 ghost use Rattle.rkyv_btree_base.specs.Scalars.{u32_kind};
 ghost use Rattle.rkyv_btree.specs.Lookup.{found_in, height_of};
-ghost use Rattle.rkyv_btree.specs.View.{reads, entries_of};
+ghost use Rattle.rkyv_btree.specs.View.{view_value, entries_of};
 ghost use Rattle.tests.specs.Lookups.{IsValueOf};
 
 use crate::lookups::compare;
@@ -20,7 +20,7 @@ use std::test::Fail;
 /// The value of a key, by a test and then by an index.
 fn indexed(numbers: View<Numbers>, key: View<ArchivedU32>) -> Option<u32>
     ensures { result ≡ option_map (λ e. e.1)
-        (found_in u32_kind u32_kind 5 numbers.entry (nat_cmp (reads key.entry))) }
+        (found_in u32_kind u32_kind 5 numbers.entry (nat_cmp (view_value key.entry))) }
 {
     if numbers.contains_key(key) {
         Some(numbers.index(key).to_native())
@@ -29,7 +29,7 @@ fn indexed(numbers: View<Numbers>, key: View<ArchivedU32>) -> Option<u32>
     }
 }
 
-/// The value of a key, by one look-up.
+/// The value of a key, by one lookup.
 fn value_of(numbers: View<Numbers>, key: u32) -> Option<u32>
     ensures { IsValueOf (entries_of u32_kind u32_kind 5 numbers.entry) key result }
 {

@@ -1,4 +1,4 @@
-//! Look-ups of keys of several types, by their views and by native values.
+//! Lookups of keys of several types, by their views and by native values.
 
 use crate::convert::{archive, opened};
 use crate::read::number;
@@ -19,7 +19,7 @@ use std::num::NonZeroU32;
 use std::process::Abort;
 use std::test::Fail;
 
-/// Asserts that look-ups of a key, by its view and by a native value, find this number.
+/// Asserts that lookups of a key, by its view and by a native value, find this number.
 fn finds<N, K>(
     rt: &impl Abort,
     map: &View<ArchivedBTreeMap<K, ArchivedU32, 2>>,

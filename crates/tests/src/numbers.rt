@@ -19,7 +19,7 @@ use std::test::Fail;
 
 pub(crate) type Numbers = ArchivedBTreeMap<ArchivedU32, ArchivedU32, 5>;
 
-/// The archive of numbers behind what a writer holds already.
+/// The archive of numbers after what a writer holds already.
 pub(crate) fn archive<const E: usize>(
     rt: &impl Abort,
     alloc: Global,

@@ -56,7 +56,7 @@ fn ranges_of_texts(rt: HostRuntime) -> Result<(), Fail> {
     Ok(())
 }
 
-// A bar is behind all letters.
+// A bar is after all letters.
 #[test]
 fn ranges_of_characters(rt: HostRuntime) -> Result<(), Fail> {
     let mut entries = Vec::new(rt.alloc());

@@ -1,5 +1,5 @@
 //! The assertion that two values are equal, as a call: what borrows at a call is checked sooner than the macro written out.
-//! What it asserts isn't known behind it. Where a later line needs it, `assert!` says it in place.
+//! What it asserts isn't known after it. Where a later line needs it, `assert!` says it in place.
 
 use std::alloc::{AllocError, Global};
 use std::fmt::Debug;

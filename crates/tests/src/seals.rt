@@ -58,7 +58,7 @@ fn an_empty_map_lends_nothing(rt: HostRuntime) {
     same(&rt, bytes, root);
 }
 
-/// Replaces the value of a key by 7, and answers the key and the value that were met.
+/// Replaces the value of a key by 7, and returns the key and the value that were met.
 fn replaced<const E: usize>(
     rt: &impl Abort,
     bytes: &mut [u8],

@@ -20,7 +20,7 @@ use std::ops::{Bound, ControlFlow};
 use std::process::Abort;
 use std::test::Fail;
 
-/// Writes the tree and the root of a set, and answers where the root stands.
+/// Writes the tree and the root of a set, and returns where the root stands.
 fn archive<KU, K, const E: usize>(
     rt: &impl Abort,
     alloc: Global,
@@ -197,7 +197,7 @@ fn a_range_between_archived_keys(rt: HostRuntime) -> Result<(), Fail> {
     Ok(())
 }
 
-/// Whether the sets of two lists of keys, of which the second stands behind some bytes, are equal, and so are their hashes.
+/// Whether the sets of two lists of keys, of which the second stands after some bytes, are equal, and so are their hashes.
 fn are_equal(
     rt: &impl Abort,
     alloc: Global,

@@ -97,7 +97,7 @@ fn a_failed_write_leaves_a_beginning(rt: HostRuntime) -> Result<(), Fail> {
     let (outcome, writer) = fails_at(&rt, rt.alloc(), 0);
     assert!(rt; outcome.is_ok());
     same(&rt, writer.bytes.as_slice(), whole.as_slice());
-    // The first leaf has 48 bytes. The inner node behind it has 68, of which the last two are taken by call 78.
+    // The first leaf has 48 bytes. The inner node after it has 68, of which the last two are taken by call 78.
     let rows = [
         (1, 0),
         (2, 0),
@@ -125,7 +125,7 @@ fn a_failed_write_leaves_a_beginning(rt: HostRuntime) -> Result<(), Fail> {
     Ok(())
 }
 
-/// Two bytes behind one that a vector holds already.
+/// Two bytes after one that a vector holds already.
 fn behind_a_header(header: Vec<u8>) -> io::Result<Vec<u8>>
     requires { header.items ≡ 7 ∷ [] }
     ensures { IfOk result (λ bytes. bytes.items ≡ 7 ∷ 1 ∷ 2 ∷ []) }

@@ -29,7 +29,7 @@ fn values_that_a_stranger_wrote_are_viewed(rt: HostRuntime) {
     );
 }
 
-/// What a hasher answers that was fed a value.
+/// What a hasher returns that was fed a value.
 pub(crate) fn hashed<T: Hash>(value: &T) -> u64 {
     let mut state = DefaultHasher::new();
     value.hash(&mut state);

@@ -27,7 +27,7 @@ fn key_of(map: View<Numbers>, value: u32) -> Option<u32>
     })
 }
 
-// A root with no child before its entry from 0 to 5, and behind it an inner node with the entry from 2 to 20 between a
+// A root with no child before its entry from 0 to 5, and after it an inner node with the entry from 2 to 20 between a
 // leaf with the entry from 1 to 10 and an empty leaf.
 #[test]
 fn a_tree_is_walked(rt: HostRuntime) {

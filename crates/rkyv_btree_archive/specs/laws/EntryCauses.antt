@@ -16,7 +16,7 @@ use Rattle.rkyv_btree_portable.specs.laws.Holding.{tail_held}
 use Rattle.rkyv_btree_archive.specs.declared.util.EntryResolver.{EntryResolver}
 
 module _ {X M N R S : Type 0} (K : Archival M R) (V : Archival N S) (pair : X → M × N) (key : HasCauses K) (value : HasCauses V) where
-  -- the value goes on behind the key's writes
+  -- the value goes on after the key's writes
   behind : (x : X) (from : ℕ) (first begun : List Write) (r : R) → K.Writes (pair x).0 from first r → GoesOn V (pair x).1 (from + length (appended first)) begun → GoesOn (entry_archival K V pair) x from (first ++ begun)
   behind x from first begun r w (inl h) = inl (h.0, record { key = r; value = h.1 }, record { first = first; second = begun ++ h.0; key = w; value = h.2; both = append_assoc first begun h.0 })
   behind x from first begun r w (inr (inl h)) = inr (inl (h.0, inr (first, r, w, h.1)))

@@ -41,7 +41,7 @@ module _ {M N R S P : Type 0} (s : NodeLayout) (K : Archival M R) (V : Archival 
     pub taken : Yields steps iter items rest
     pub filled : FilledPairs (Filled s.E g) (most s.E g) (min first (most s.E (suc g))) pairs
     pub entries : pairs_list pairs ≡ map now_of items
-    pub own : map (λ p. p.1) pairs ≡ xs
+    pub pair_entries : map (λ p. p.1) pairs ≡ xs
     pub written : PairsWritten s K V from pairs roots to
     pub left_is : left ≡ first - length pairs * most s.E g
 

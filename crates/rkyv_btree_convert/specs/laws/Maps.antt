@@ -28,7 +28,7 @@ pub map_by_meaning : {K V : Kind} {A B : Type 0} {key : List ℕ → ℕ → Res
     → IsByMeaning (map_kind K V E) (native_map K V E key value order)
 map_by_meaning {K} {V} k v E order = record {
   of_value = λ entries. map_given order (map (λ e. both (k.of_value e.0) (v.of_value e.1)) entries);
-  reads = λ b at. ap (map_given order) (given_by_meaning K V E k.of_value v.of_value k.reads v.reads b (list (map_tree (layout_of K V E) b at)));
+  by_value = λ b at. ap (map_given order) (given_by_meaning K V E k.of_value v.of_value k.by_value v.by_value b (list (map_tree (layout_of K V E) b at)));
 }
 
 -- maps with the same model are equal

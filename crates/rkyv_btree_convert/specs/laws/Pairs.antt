@@ -12,7 +12,7 @@ pub pair_by_meaning : {K V : Kind} {A B : Type 0} {key : List ℕ → ℕ → Re
     → IsByMeaning (entry_kind K V) (λ b at. both (key b at) (value b (at + value_offset K V)))
 pair_by_meaning {K} {V} k v = record {
   of_value = λ e. both (k.of_value e.0) (v.of_value e.1);
-  reads = λ b at. rw (k.reads b at, v.reads b (at + value_offset K V)) refl;
+  by_value = λ b at. rw (k.by_value b at, v.by_value b (at + value_offset K V)) refl;
 }
 
 -- pairs with the same model are equal

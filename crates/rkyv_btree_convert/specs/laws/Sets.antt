@@ -15,12 +15,12 @@ use Rattle.rkyv_btree_convert.specs.laws.Maps.{map_by_meaning}
 
 -- a () gives itself
 abbrev pub unit_by_meaning : IsByMeaning unit_kind (λ b at. unit_given)
-unit_by_meaning = record { of_value = λ unit. unit_given; reads = λ b at. refl }
+unit_by_meaning = record { of_value = λ unit. unit_given; by_value = λ b at. refl }
 
 pub set_by_meaning : {K : Kind} {A : Type 0} {key : List ℕ → ℕ → Result A EntryFault} → IsByMeaning K key → (E : ℕ) (order : A → A → Ordering) → IsByMeaning (map_kind K unit_kind E) (native_set K E key order)
 set_by_meaning {K} k E order =
     let m = map_by_meaning k unit_by_meaning E order in
-    record { of_value = λ keys. result_map_both keys_of (λ fault. fault) (m.of_value keys); reads = λ b at. ap (result_map_both keys_of (λ fault. fault)) (m.reads b at) }
+    record { of_value = λ keys. result_map_both keys_of (λ fault. fault) (m.of_value keys); by_value = λ b at. ap (result_map_both keys_of (λ fault. fault)) (m.by_value b at) }
 
 -- sets with the same model are equal
 pub set_model_whole : {T A : Type 0} {same : T → T → Bool} {key : T → A} → ((x y : T) → key x ≡ key y → same x y ≡ true) → (xs ys : List T) → map key xs ≡ map key ys → pointwise same xs ys ≡ true

@@ -110,7 +110,7 @@ module _ (K V : Kind) (k : IsLawful K) (v : IsLawful V) where
     decides = λ fits. record { found = entry_found fits; only = entry_only fits; within = λ b lo hi at left e m. (m.lies.forward, m.lies.kept) };
   }
 
-  -- where an entry stands, its value stands behind its key
+  -- where an entry stands, its value stands after its key
   pub value_stands : (b : List ℕ) (at : ℕ) → IsTrue (stands (entry_kind K V) b at) → IsTrue (stands V b (at + value_offset K V))
   value_stands b at h =
       let m = means_read entry_laws b at h in

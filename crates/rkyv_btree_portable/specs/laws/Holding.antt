@@ -31,7 +31,7 @@ length-zeros n = length-replicate {A = ℕ} n 0
 pub length-filled : (bytes : List ℕ) (len : ℕ) → length bytes ≤ len → length (filled bytes len) ≡ len
 length-filled bytes len h = omega (arith, length-append bytes (zeros (len - length bytes)), length-zeros (len - length bytes))
 
--- bytes, and behind them others at a place, with zeros behind both
+-- bytes, and after them others at a place, with zeros after both
 module _ (a tail : List ℕ) (n size : ℕ) (first : length a ≤ n) (room : n + length tail ≤ size) where
   pub tail_length : length (filled (filled a n ++ tail) size) ≡ size
   tail_length = length-filled (filled a n ++ tail) size (omega (arith, length-append (filled a n) tail, length-filled a n first))

@@ -33,7 +33,7 @@ pub scalar_in_place : {X : Type 0} {form : NativeForm X} → IsFaithful form →
 scalar_in_place {X} {form} faithful = record {
   alone = record {
     unmoved = λ b lo hi at left v m. m.unmoved;
-    own = λ b lo hi at left v m. plain_own form.plain (bytes_at b at form.plain.size) (length-bytes_at b at form.plain.size m.lies.inside) m.is_value;
+    is_own = λ b lo hi at left v m. plain_own form.plain (bytes_at b at form.plain.size) (length-bytes_at b at form.plain.size m.lies.inside) m.is_value;
   };
   written = faithful.is_own;
   same_model = λ _ b c p q. (λ e. plain_value form.plain b p ∙ (e ∙ sym (plain_value form.plain c q)), λ e. sym (plain_value form.plain b p) ∙ (e ∙ plain_value form.plain c q));
@@ -73,36 +73,36 @@ module _ (K V : Kind) (k : IsLawful K) (v : IsLawful V) where
     alone : LiesAlone (entry_kind K V)
     alone = record {
       unmoved = λ b lo hi at left e m. vi.alone.unmoved _ _ _ _ _ _ m.parts.value ∙ ki.alone.unmoved _ _ _ _ _ _ m.parts.key;
-      own = λ b lo hi at left e m.
+      is_own = λ b lo hi at left e m.
           let key_room = key_inside K V k v in
           let value_room = value_inside K V k v in
           own_of_parts (bytes_at b at (entry_size K V)) (length-bytes_at b at (entry_size K V) m.lies.inside)
-          (subst (IsOwn K) (ap (λ n. bytes_at b n K.size) (omega arith) ∙ sym (bytes_at-bytes_at b at (entry_size K V) 0 K.size (omega arith))) (ki.alone.own _ _ _ _ _ _ m.parts.key))
-          (subst (IsOwn V) (sym (bytes_at-bytes_at b at (entry_size K V) (value_offset K V) V.size (omega arith))) (vi.alone.own _ _ _ _ _ _ m.parts.value));
+          (subst (IsOwn K) (ap (λ n. bytes_at b n K.size) (omega arith) ∙ sym (bytes_at-bytes_at b at (entry_size K V) 0 K.size (omega arith))) (ki.alone.is_own _ _ _ _ _ _ m.parts.key))
+          (subst (IsOwn V) (sym (bytes_at-bytes_at b at (entry_size K V) (value_offset K V) V.size (omega arith))) (vi.alone.is_own _ _ _ _ _ _ m.parts.value));
     }
 
     module _ (x : X × Y) where
       abbrev own : List ℕ
-      own = (pair_form K V key value).own x
+      own = (pair_form K V key value).own_bytes x
 
       -- a pair's own bytes are so many, and hold those of its parts
-      held : (length own ≡ entry_size K V) × (bytes_at own 0 K.size ≡ key.own x.0) × (bytes_at own (value_offset K V) V.size ≡ value.own x.1)
+      held : (length own ≡ entry_size K V) × (bytes_at own 0 K.size ≡ key.own_bytes x.0) × (bytes_at own (value_offset K V) V.size ≡ value.own_bytes x.1)
       held =
           let first = (ki.written x.0).size in
           let second = (vi.written x.1).size in
-          let front : length (key.own x.0) ≤ value_offset K V = omega (arith, first, key_inside K V k v) in
-          let back : value_offset K V + length (value.own x.1) ≤ entry_size K V = omega (arith, second, value_inside K V k v) in
-          let parts = tail_held (key.own x.0) (value.own x.1) (value_offset K V) (entry_size K V) front back own 0 (take_all (length own) own (omega arith)) in (
-            tail_length (key.own x.0) (value.own x.1) (value_offset K V) (entry_size K V) front back,
+          let front : length (key.own_bytes x.0) ≤ value_offset K V = omega (arith, first, key_inside K V k v) in
+          let back : value_offset K V + length (value.own_bytes x.1) ≤ entry_size K V = omega (arith, second, value_inside K V k v) in
+          let parts = tail_held (key.own_bytes x.0) (value.own_bytes x.1) (value_offset K V) (entry_size K V) front back own 0 (take_all (length own) own (omega arith)) in (
+            tail_length (key.own_bytes x.0) (value.own_bytes x.1) (value_offset K V) (entry_size K V) front back,
             ap (bytes_at own 0) (sym first) ∙ parts.0,
-            ap (bytes_at own (value_offset K V)) (sym second) ∙ (ap (λ n. bytes_at own n (length (value.own x.1))) (omega arith) ∙ parts.1),
+            ap (bytes_at own (value_offset K V)) (sym second) ∙ (ap (λ n. bytes_at own n (length (value.own_bytes x.1))) (omega arith) ∙ parts.1),
           )
 
       written : IsOwn (entry_kind K V) own
       written = own_of_parts own held.0 (subst (IsOwn K) (sym held.1) (ki.written x.0)) (subst (IsOwn V) (sym held.2) (vi.written x.1))
 
       -- where own bytes have the models of the parts, they have that of the pair
-      pub model_of_pair : key.model_of_bytes (key.own x.0) ≡ key.model x.0 → value.model_of_bytes (value.own x.1) ≡ value.model x.1 → (pair_form K V key value).model_of_bytes own ≡ (pair_form K V key value).model x
+      pub model_of_pair : key.model_of_bytes (key.own_bytes x.0) ≡ key.model x.0 → value.model_of_bytes (value.own_bytes x.1) ≡ value.model x.1 → (pair_form K V key value).model_of_bytes own ≡ (pair_form K V key value).model x
       model_of_pair p q = both_models _ _ _ _ (ap key.model_of_bytes held.1 ∙ p) (ap value.model_of_bytes held.2 ∙ q)
 
     -- an entry's own bytes are those of its key and of its value, and mean what these mean
@@ -113,8 +113,8 @@ module _ (K V : Kind) (k : IsLawful K) (v : IsLawful V) where
         let value_room = value_inside K V k v in
         let short : length own ≤ 4294967295 = omega (arith, is.size, (fitting_entry K V fits).size) in
         let m = alone_means is short in
-        let first = ki.alone.own _ _ _ _ _ _ m.parts.key in
-        let second : IsOwn V (bytes_at own (value_offset K V) V.size) = subst (λ n. IsOwn V (bytes_at own n V.size)) (omega arith) (vi.alone.own _ _ _ _ _ _ m.parts.value) in
+        let first = ki.alone.is_own _ _ _ _ _ _ m.parts.key in
+        let second : IsOwn V (bytes_at own (value_offset K V) V.size) = subst (λ n. IsOwn V (bytes_at own n V.size)) (omega arith) (vi.alone.is_own _ _ _ _ _ _ m.parts.value) in
         let key_alone = first.means own 0 0 0 short (omega arith) (omega arith) (zero-mod K.align) (omega (arith, is.size)) refl in
         let value_alone = second.means own 0 0 (0 + value_offset K V) short (omega arith) (omega arith) (subst (IsAligned V.align) (omega arith) (round_up-aligned K.size V.align)) (omega (arith, is.size)) (ap (λ n. bytes_at own n V.size) (omega arith)) in
         (first, second, pair _ _ _ _ (sym (k.is_read _ _ _ _ _ _ key_alone)) (sym (v.is_read _ _ _ _ _ _ value_alone)))

@@ -1,4 +1,4 @@
--- The first children of a row, each with the entry behind it.
+-- The first children of a row, each with the entry after it.
 use Rattle.std.specs.Prelude.{◌≡◌, ℕ, ◌-◌, min, List, [], ◌∷◌, ◌++◌}
 use Rattle.rkyv_btree_shape.specs.Tree.{Row, last, step, Child, child_list}
 

@@ -39,11 +39,11 @@ HaltStands K V E b p count (Found i) = EntryStands K V E b (p, i) × (i < count)
 HaltStands K V E b p count (Below i) = i ≤ count
 
 -- how many of the entries were asked by then
-abbrev pub asked_by : ℕ → Halt → ℕ
-asked_by count (Found i) = i + 1
-asked_by count (Below i) = min (i + 1) count
+abbrev pub comparisons_by : ℕ → Halt → ℕ
+comparisons_by count (Found i) = i + 1
+comparisons_by count (Below i) = min (i + 1) count
 
--- what is known of where a search goes on behind the node at p
+-- what is known of where a search goes on after the node at p
 abbrev pub NextStands : (K V : Kind) → ℕ → List ℕ → ℕ → Next → Type 0
 NextStands K V E b p (Hit i) = RunStands K V E b p i (i + 1)
 NextStands K V E b p Miss = Unit {0}
@@ -52,11 +52,11 @@ NextStands K V E b p (Down q) = HasRoom K V E p q
 -- what the search of the node's tree returns, in front of hi and with m levels below the node
 abbrev pub NextGives : (K V : Kind) (E : ℕ) → List ℕ → (K.Value → Ordering) → (KRefuses VRefuses : List ℕ → ℕ → ℕ → ℕ → Refusal → Type 0)
     → ℕ → ℕ → ℕ → Result Next Refusal → Type 0
-NextGives K V E b answer KR VR m hi p (Err e) = TreeGives K V E b answer KR VR (suc m) hi p (Err e)
-NextGives K V E b answer KR VR m hi p (Ok (Hit i)) = TreeGives K V E b answer KR VR (suc m) hi p (Ok (Some (p, i)))
-NextGives K V E b answer KR VR m hi p (Ok Miss) = TreeGives K V E b answer KR VR (suc m) hi p (Ok None)
-NextGives K V E b answer KR VR m hi p (Ok (Down q)) =
-    (r : Result (Option (ℕ × ℕ)) Refusal) → TreeGives K V E b answer KR VR m p q r → TreeGives K V E b answer KR VR (suc m) hi p r
+NextGives K V E b comparison KR VR m hi p (Err e) = TreeGives K V E b comparison KR VR (suc m) hi p (Err e)
+NextGives K V E b comparison KR VR m hi p (Ok (Hit i)) = TreeGives K V E b comparison KR VR (suc m) hi p (Ok (Some (p, i)))
+NextGives K V E b comparison KR VR m hi p (Ok Miss) = TreeGives K V E b comparison KR VR (suc m) hi p (Ok None)
+NextGives K V E b comparison KR VR m hi p (Ok (Down q)) =
+    (r : Result (Option (ℕ × ℕ)) Refusal) → TreeGives K V E b comparison KR VR m p q r → TreeGives K V E b comparison KR VR (suc m) hi p r
 
 -- where the node's tree passes, with m levels below the node, so does the tree in which the search goes on
 abbrev pub NextPasses : (K V : Kind) → ℕ → List ℕ → ℕ → ℕ → Next → Type 0
@@ -66,18 +66,18 @@ NextPasses K V E b m p (Down q) = Passes K V E b m p q
 
 -- and this is what the search of the node's tree finds
 abbrev pub NextFinds : (s : NodeLayout) → List ℕ → (ℕ × ℕ → Ordering) → ℕ → ℕ → Option (ℕ × ℕ) → Next → Type 0
-NextFinds s b answer m p found (Hit i) = found ≡ Some (p, i)
-NextFinds s b answer m p found Miss = found ≡ None
-NextFinds s b answer m p found (Down q) = found ≡ (searched s b answer m q).0
+NextFinds s b comparison m p found (Hit i) = found ≡ Some (p, i)
+NextFinds s b comparison m p found Miss = found ≡ None
+NextFinds s b comparison m p found (Down q) = found ≡ (searched s b comparison m q).0
 
 -- an entry that is found gives Equal
 abbrev pub NextEqual : (ℕ × ℕ → Ordering) → ℕ → Next → Type 0
-NextEqual answer p (Hit i) = answer (p, i) ≡ Equal
-NextEqual answer p Miss = Unit {0}
-NextEqual answer p (Down q) = Unit {0}
+NextEqual comparison p (Hit i) = comparison (p, i) ≡ Equal
+NextEqual comparison p Miss = Unit {0}
+NextEqual comparison p (Down q) = Unit {0}
 
 -- where the node's tree passes, these are all that its search asks, or the tree in which it goes on asks the rest
 abbrev pub NextCounts : (s : NodeLayout) → List ℕ → (ℕ × ℕ → Ordering) → ℕ → ℕ → ℕ → ℕ → Next → Type 0
-NextCounts s b answer m before after all (Hit i) = after ≡ before + all
-NextCounts s b answer m before after all Miss = after ≡ before + all
-NextCounts s b answer m before after all (Down q) = after + (searched s b answer m q).1 ≡ before + all
+NextCounts s b comparison m before after all (Hit i) = after ≡ before + all
+NextCounts s b comparison m before after all Miss = after ≡ before + all
+NextCounts s b comparison m before after all (Down q) = after + (searched s b comparison m q).1 ≡ before + all

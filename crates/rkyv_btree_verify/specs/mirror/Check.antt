@@ -1,4 +1,4 @@
--- What the check of a map answers, as a function of its bytes that mirrors the code: the contracts of the code's private
+-- What the check of a map returns, as a function of its bytes that mirrors the code: the contracts of the code's private
 -- functions cite it, and the laws of maps need that it decides the relations of `Spells`.
 use Rattle.std.specs.Prelude.{ℕ, zero, suc, ◌+◌, ◌%◌, ◌||◌, List, length, Option, Some, None, Result, Ok, Err, ℤ, pos, negsuc}
 use Rattle.std.specs.Prelude.{slice_index, nat_eq, nat_lt, if◌then◌else◌}

@@ -63,16 +63,16 @@ module _ {X Y : Type 0} {first : X → X → Ordering} {second : Y → Y → Ord
 
 -- as archived types owe them
 pub order_compares : {N : Type 0} (kind : Kind) → IsTotalOrder kind.order → (value : N → kind.Value) → ComparesAs kind (λ (n : N) b at. kind.order (value n) (kind.read b at))
-order_compares kind total value = record { compared = λ n. kind.order (value n); reads = λ n b at. refl; cuts = λ n. order_cuts total (value n) }
+order_compares kind total value = record { compared = λ n. kind.order (value n); by_value = λ n b at. refl; cuts = λ n. order_cuts total (value n) }
 
 pub native_compares : {N : Type 0} {kind : Kind} {read_native : List ℕ → ℕ → N} {native_same : N → N → Bool} {native_order : N → N → Ordering} {native_input : N → List (List ℕ)} (r : ReadAs kind read_native native_same native_order native_input)
     → IsTotalOrder native_order → ComparesAs kind (λ n b at. native_order n (read_native b at))
-native_compares {native_order} r total = record { compared = λ n x. native_order n (r.native x); reads = λ n b at. ap (native_order n) (r.reads b at); cuts = native_cuts r total }
+native_compares {native_order} r total = record { compared = λ n x. native_order n (r.native x); by_value = λ n b at. ap (native_order n) (r.by_value b at); cuts = native_cuts r total }
 
 pub pair_compares : {S T : Type 0} {K V : Kind} {first : S → List ℕ → ℕ → Ordering} {second : T → List ℕ → ℕ → Ordering} → ComparesAs K first → ComparesAs V second
     → ComparesAs (entry_kind K V) (λ (n : S × T) b at. ordering_then (first n.0 b at) (second n.1 b (at + value_offset K V)))
 pair_compares {K} {V} F G = record {
   compared = λ n e. ordering_then (F.compared n.0 e.0) (G.compared n.1 e.1);
-  reads = λ n b at. rw (F.reads n.0 b at, G.reads n.1 b (at + value_offset K V)) refl;
+  by_value = λ n b at. rw (F.by_value n.0 b at, G.by_value n.1 b (at + value_offset K V)) refl;
   cuts = λ n. pair_cuts (F.cuts n.0) (G.cuts n.1);
 }

@@ -21,14 +21,14 @@ one_class e n x y is = e.symm y n ∙ sym (e.congr x n y is)
 
 -- a native value that has a value of the kind
 pub same_tests : {N : Type 0} (kind : Kind) → IsEquivalence kind.same → (value : N → kind.Value) → TestsSame kind (λ (n : N) b at. kind.same (kind.read b at) (value n))
-same_tests kind equivalence value = record { same = λ x n. kind.same x (value n); reads = λ n b at. refl; alike = λ n. one_class equivalence (value n) }
+same_tests kind equivalence value = record { same = λ x n. kind.same x (value n); by_value = λ n b at. refl; alike = λ n. one_class equivalence (value n) }
 
 -- a native value, where values are read as native ones and compared as these
 pub native_tests : {N : Type 0} {kind : Kind} {read_native : List ℕ → ℕ → N} {native_same : N → N → Bool} {native_order : N → N → Ordering} {native_input : N → List (List ℕ)} (r : ReadAs kind read_native native_same native_order native_input)
     → IsEquivalence native_same → TestsSame kind (λ n b at. native_same (read_native b at) n)
 native_tests {native_same} r equivalence = record {
   same = λ x n. native_same (r.native x) n;
-  reads = λ n b at. ap (λ x. native_same x n) (r.reads b at);
+  by_value = λ n b at. ap (λ x. native_same x n) (r.by_value b at);
   alike = λ n x y is. one_class equivalence n (r.native x) (r.native y) is ∙ sym (r.same x y);
 }
 
@@ -46,7 +46,7 @@ module _ {K V : Kind} {T U : Type 0} {same_key_at : T → List ℕ → ℕ → B
   pub pair_tests : {N : Type 0} (parts : N → T × U) → TestsSame (entry_kind K V) (λ n b at. same_key_at (parts n).0 b at && same_value_at (parts n).1 b (at + value_offset K V))
   pair_tests parts = record {
     same = λ e n. k.same e.0 (parts n).0 && v.same e.1 (parts n).1;
-    reads = λ n b at. rw (k.reads (parts n).0 b at, v.reads (parts n).1 b (at + value_offset K V)) refl;
+    by_value = λ n b at. rw (k.by_value (parts n).0 b at, v.by_value (parts n).1 b (at + value_offset K V)) refl;
     alike = λ n. parts_alike (parts n);
   }
 
@@ -78,13 +78,13 @@ module _ (K V : Kind) (E : ℕ) {T U : Type 0} {same_key_at : T → List ℕ →
   pub map_tests : {N : Type 0} → TestsSame K same_key_at → TestsSame V same_value_at → (entries : N → List (T × U)) → TestsSame (map_kind K V E) (λ n b at. map_same_at K V E same_key_at same_value_at (entries n) b at)
   map_tests k v entries = record {
     same = λ es n. pointwise (λ e n. k.same e.0 n.0 && v.same e.1 n.1) es (entries n);
-    reads = λ n b at. places_tested k.same v.same k.reads v.reads b (list (map_tree (layout_of K V E) b at)) (entries n);
+    by_value = λ n b at. places_tested k.same v.same k.by_value v.by_value b (list (map_tree (layout_of K V E) b at)) (entries n);
     alike = λ n. lists_alike k v (entries n);
   }
 
 -- a () is the same as each other
 unit_tests : TestsSame unit_kind (λ (unit : Unit {0}) b at. true)
-unit_tests = record { same = λ x n. true; reads = λ n b at. refl; alike = λ n x y is. refl }
+unit_tests = record { same = λ x n. true; by_value = λ n b at. refl; alike = λ n x y is. refl }
 
 pub set_tests : (K : Kind) (E : ℕ) {T N : Type 0} {same_key_at : T → List ℕ → ℕ → Bool} → TestsSame K same_key_at → (keys : N → List T) → TestsSame (map_kind K unit_kind E) (λ n b at. set_same_at K E same_key_at (keys n) b at)
 set_tests K E k keys = map_tests K unit_kind E k unit_tests (λ n. with_units (keys n))

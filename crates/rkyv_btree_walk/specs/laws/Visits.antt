@@ -1,20 +1,20 @@
--- What a visit answers, by what its calls answer.
+-- What a visit returns, by what its calls return.
 use Rattle.std.specs.Prelude.{◌≡◌, List, [], ◌∷◌, Option}
 use Rattle.std.proofs.Common.{refl, ◌∙◌}
 use Rattle.std.specs.declared.ops.ControlFlow.{ControlFlow}
 use Rattle.std.specs.declared.ops.ControlFlow.TheVariants.{Continue, Break}
-use Rattle.rkyv_btree_walk.specs.Visit.{AfterAnswer, Visits, broken, or_else, first_given}
+use Rattle.rkyv_btree_walk.specs.Visit.{AfterOutcome, Visits, broken, or_else, first_given}
 
 module _ {F W X Y T : Type 0} (call : F → W → X → ControlFlow T (Unit {0}) → F → Type 0) (means : W → X → Y) where
   module _ (Keeps : F → Type 0) (gives : Y → Option T)
       (each : (f : F) (w : W) (x : X) (r : ControlFlow T (Unit {0})) (g : F) → Keeps f → call f w x r g → Keeps g × (broken r ≡ gives (means w x))) where
     after : (rest : Option T) (e : Y) (r : ControlFlow T (Unit {0})) (g : F) (result : Option T) (last : F) (goes_on : F → Type 0) → broken r ≡ gives e → Keeps g → (goes_on g → (result ≡ rest) × Keeps last)
-        → AfterAnswer r goes_on g result last → (result ≡ or_else (gives e) rest) × Keeps last
+        → AfterOutcome r goes_on g result last → (result ≡ or_else (gives e) rest) × Keeps last
     after rest e (Continue u) g result last goes_on a k tail h = rw (← a) (tail h)
     after rest e (Break v) g result last goes_on a k tail h = rw (← a) (h.0, rw h.1 k)
 
     -- where each call keeps something of the visitor and breaks with the value that `gives` has at its entry, the
-    -- visit answers the first value given
+    -- visit returns the first value given
     pub visits_keep : (m : List Y) (first : F) (result : Option T) (last : F) → Keeps first → Visits call means first m result last → (result ≡ first_given gives m) × Keeps last
     visits_keep [] first result last kept h = (h.0, rw h.1 kept)
     visits_keep (e ∷ es) first result last kept h =

@@ -39,7 +39,7 @@ module _ (s : NodeLayout) (b : List ℕ) (root : Option ℕ) where
   abbrev pub PartBelow : Part → List (ℕ × ℕ) → Type 0
   PartBelow part fs = WalkBelow part.node part.next part.end fs
 
-  -- the entry that a step takes is below the root, and so is the walk behind it
+  -- the entry that a step takes is below the root, and so is the walk after it
   abbrev pub StepBelow : Option Step → List (ℕ × ℕ) → Type 0
   StepBelow None fs = PathBelow 0 fs
   StepBelow (Some e) fs = RunBelow e.node e.index (e.index + 1) × LeafBelow e.leaf fs

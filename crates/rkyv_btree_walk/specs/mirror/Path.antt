@@ -11,7 +11,7 @@ use Rattle.rkyv_btree_walk.specs.declared.path.Step.{Step}
 use Rattle.rkyv_btree_walk.specs.mirror.Node.{is_leaf, child_place, TreeStands, RunStands}
 
 module _ (s : NodeLayout) (b : List ℕ) where
-  -- what is left of an inner node's row at entry i, with n entries left: the entries, and the children behind them
+  -- what is left of an inner node's row at entry i, with n entries left: the entries, and the children after them
   abbrev pub row_rest : (ℕ → Tree (ℕ × ℕ)) → ℕ → ℕ → ℕ → List (ℕ × ℕ)
   row_rest below p zero i = []
   row_rest below p (suc n) i = (p, i) ∷ row_list (row_at s b below p n (i + 1))

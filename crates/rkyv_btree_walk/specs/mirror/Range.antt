@@ -13,21 +13,21 @@ use Rattle.rkyv_btree_walk.specs.declared.path.Step.{Step}
 use Rattle.rkyv_btree_walk.specs.declared.seek.Part.{Part}
 use Rattle.rkyv_btree_walk.specs.mirror.Node.{RunStands}
 use Rattle.rkyv_btree_walk.specs.mirror.Path.{tree_rest, path_rest, walk_rest}
-use Rattle.rkyv_btree_walk.specs.mirror.Search.{answers_at}
+use Rattle.rkyv_btree_walk.specs.mirror.Search.{comparison_at}
 
--- whether a key with this answer reaches the query: it isn't before it, or where `past` is true, it is behind it
+-- whether a key that compares so reaches the query: it isn't before it, or where `past` is true, it is after it
 abbrev pub is_reached : Bool → Ordering → Bool
-is_reached past answer = if past then is_lt answer else is_le answer
+is_reached past comparison = if past then is_lt comparison else is_le comparison
 
 -- whether an entry reaches the query, by its key
 abbrev pub reached_at : (K V : Kind) → ℕ → List ℕ → Bool → (K.Value → Ordering) → ℕ × ℕ → Bool
-reached_at K V E b past answer e = is_reached past (answers_at K V E b answer e)
+reached_at K V E b past comparison e = is_reached past (comparison_at K V E b comparison e)
 
 -- the first number from `from` to before `count` that passes the test, or `count`
 abbrev pub IsFirst : (ℕ → Bool) → ℕ → ℕ → ℕ → Type 0
 IsFirst test from count i = ((k : ℕ) → from ≤ k → k < i → test k ≡ false) × (i < count → test i ≡ true)
 
--- once a number from `from` to before `count` passes the test, all behind it do
+-- once a number from `from` to before `count` passes the test, all after it do
 abbrev pub Climbs : (ℕ → Bool) → ℕ → ℕ → Type 0
 Climbs test from count = (k l : ℕ) → from ≤ k → k < l → l < count → test k ≡ true → test l ≡ true
 
@@ -36,7 +36,7 @@ module _ {X : Type 0} (test : X → Bool) where
   AllPass [] = Unit {0}
   AllPass (x ∷ xs) = (test x ≡ true) × AllPass xs
 
-  -- once an entry of the list passes, all behind it do
+  -- once an entry of the list passes, all after it do
   abbrev pub Rises : List X → Type 0
   Rises [] = Unit {0}
   Rises (x ∷ xs) = (test x ≡ true → AllPass xs) × Rises xs
@@ -52,8 +52,8 @@ IsEnd {X} rest all = (skipped : List X) × (all ≡ skipped ++ rest)
 -- whether a key is past a high bound
 abbrev pub is_past : {A : Type 0} → Bound (A → Ordering) → A → Bool
 is_past Unbounded key = false
-is_past (Included answer) key = is_lt (answer key)
-is_past (Excluded answer) key = is_le (answer key)
+is_past (Included comparison) key = is_lt (comparison key)
+is_past (Excluded comparison) key = is_le (comparison key)
 
 module _ (K V : Kind) (E : ℕ) (b : List ℕ) (bound : Bound (K.Value → Ordering)) where
   -- whether an entry isn't before a low bound, by its key
@@ -72,7 +72,7 @@ first_of (x ∷ xs) = Some x
 abbrev pub IsFound : {X : Type 0} → (X → Bool) → List X → Option X → Type 0
 IsFound test all found = Rises test all → found ≡ first_of (filter test all)
 
--- the same of a list behind which another entry may stand
+-- the same of a list after which another entry may stand
 abbrev pub IsFoundOr : {X : Type 0} → (X → Bool) → List X → Option X → Option X → Type 0
 IsFoundOr test all other found = Rises test all → found ≡ or_else (first_of (filter test all)) other
 

@@ -6,19 +6,19 @@ use Rattle.std.specs.declared.cmp.Ordering.TheVariants.{Less, Equal, Greater}
 use Rattle.rkyv_btree_base.specs.Kind.{Kind}
 use Rattle.rkyv_btree_base.specs.Layout.{NodeLayout, layout_of, key_at}
 use Rattle.rkyv_btree_base.specs.Read.{tree_at, map_tree}
-use Rattle.rkyv_btree_walk.specs.Search.{asked, probe, compared_of}
+use Rattle.rkyv_btree_walk.specs.Search.{compared_entries, probe, compared_of}
 use Rattle.rkyv_btree_walk.specs.declared.search.Compared.{Compared}
 use Rattle.rkyv_btree_walk.specs.declared.search.Stop.{Stop}
 use Rattle.rkyv_btree_walk.specs.declared.search.Stop.TheVariants.{At, Before}
 
--- each answer of a comparison tells that of `compared`, for the query and what is read of the view
+-- each result of a comparison is that of `compared`, for the query and what is read of the view
 abbrev pub TellsBy : {Q W A : Type 0} → (Bor Q → W → Compared → Type 0) → (W → A) → (Q → A → Ordering) → Type 0
-TellsBy {Q} {W} post reads compared = (q : Bor Q) (w : W) (r : Compared) → post q w r → r ≡ compared_of (compared q.now (reads w))
+TellsBy {Q} {W} post read compared = (q : Bor Q) (w : W) (r : Compared) → post q w r → r ≡ compared_of (compared q.now (read w))
 
--- a search along the answers of a node's entries, of which there are `count`, stops here
+-- a search along the comparisons of a node's entries, of which there are `count`, stops here
 abbrev pub StopsAt : (ℕ → Ordering) → ℕ → Stop → Type 0
-StopsAt answer count (At i) = (i < count) × ((k : ℕ) → k < i → answer k ≡ Greater) × (answer i ≡ Equal)
-StopsAt answer count (Before i) = (i ≤ count) × ((k : ℕ) → k < i → answer k ≡ Greater) × (i < count → answer i ≡ Less)
+StopsAt comparison count (At i) = (i < count) × ((k : ℕ) → k < i → comparison k ≡ Greater) × (comparison i ≡ Equal)
+StopsAt comparison count (Before i) = (i ≤ count) × ((k : ℕ) → k < i → comparison k ≡ Greater) × (i < count → comparison i ≡ Less)
 
 -- a stop among `count` entries
 abbrev pub StopsWithin : ℕ → Stop → Type 0
@@ -26,23 +26,23 @@ StopsWithin count (At i) = i < count
 StopsWithin count (Before i) = i ≤ count
 
 -- how many of them were asked by then
-abbrev pub asked_by : ℕ → Stop → ℕ
-asked_by count (At i) = i + 1
-asked_by count (Before i) = min (i + 1) count
+abbrev pub comparisons_by : ℕ → Stop → ℕ
+comparisons_by count (At i) = i + 1
+comparisons_by count (Before i) = min (i + 1) count
 
 -- an entry stands in a list
 abbrev pub IsListed : {X : Type 0} → X → List X → Type 0
 IsListed x xs = (i : ℕ) × (slice_get xs i ≡ Some x)
 
--- what an entry answers, where its key answers so
-abbrev pub answers_at : (K V : Kind) → ℕ → List ℕ → (K.Value → Ordering) → ℕ × ℕ → Ordering
-answers_at K V E b answer e = answer (K.read b (e.0 + key_at (layout_of K V E) e.1))
+-- how an entry compares, where its key compares so
+abbrev pub comparison_at : (K V : Kind) → ℕ → List ℕ → (K.Value → Ordering) → ℕ × ℕ → Ordering
+comparison_at K V E b comparison e = comparison (K.read b (e.0 + key_at (layout_of K V E) e.1))
 
-module _ (s : NodeLayout) (b : List ℕ) (answer : ℕ × ℕ → Ordering) where
+module _ (s : NodeLayout) (b : List ℕ) (comparison : ℕ × ℕ → Ordering) where
   -- what a search of the tree at p finds, of so many levels, and how many entries it asks
   unfoldable pub searched : ℕ → ℕ → Option (ℕ × ℕ) × ℕ
-  searched levels p = (probe answer (tree_at s b levels p), length (asked answer (tree_at s b levels p)))
+  searched levels p = (probe comparison (tree_at s b levels p), length (compared_entries comparison (tree_at s b levels p)))
 
   -- the same of the map at a position
   abbrev pub searched_map : ℕ → Option (ℕ × ℕ) × ℕ
-  searched_map at = (probe answer (map_tree s b at), length (asked answer (map_tree s b at)))
+  searched_map at = (probe comparison (map_tree s b at), length (compared_entries comparison (map_tree s b at)))

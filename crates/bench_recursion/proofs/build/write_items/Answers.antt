@@ -1,7 +1,7 @@
 use Rattle.std.proofs.Common.{◌≡◌, ℕ, ◌+◌, ◌≤◌, ◌∙◌, length, ap, sym, arith}
 use Rattle.bench_recursion.proofs.build.write_items.Goals as goal
 
--- behind nothing
+-- after nothing
 room_alone : (len count room : ℕ) → len ≡ 0 → count ≤ room → len + count ≤ room
 room_alone len count room none low = omega arith
 

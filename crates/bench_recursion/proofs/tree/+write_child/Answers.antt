@@ -43,7 +43,7 @@ behind m n = omega arith
 taken_low : (taken rest full : ℕ) → taken ≡ min rest full → taken ≤ rest
 taken_low taken rest full is = omega arith
 
--- behind the last child that waits nothing more is to come
+-- after the last child that waits nothing more is to come
 none_to_come : (n left first E : ℕ) → n + left ≡ first + E → left ≤ 0 → n ≡ first + E
 none_to_come n left first E is none = omega arith
 
@@ -69,7 +69,7 @@ still_passed E start left m some before = omega arith
 one_waits : (m n left first E : ℕ) → 0 < left → m ≡ n + 1 → n + left ≡ first + E → m + (left - 1) ≡ first + E
 one_waits m n left first E some more is = omega arith
 
--- a level's entries find room, one after another, behind those of the levels above
+-- a level's entries find room, one after another, after those of the levels above
 room_for_one : (E top below room0 room1 room2 start first n m left : ℕ) → first ≡ start → start + top ≤ room0 → below + E ≤ top → n + left ≡ first + E → 0 < left → room0 ≤ room1 → room1 ≤ room2 → m ≡ n → m < room2
 room_for_one E top below room0 room1 room2 start first n m left begin room lower is some more0 more1 same = omega arith
 

@@ -1,4 +1,4 @@
--- A number is at the front of its own digits, with nothing behind it.
+-- A number is at the front of its own digits, with nothing after it.
 use Rattle.std.proofs.Common.{◌≡◌, [], sym, rules}
 use Rattle.btreearc_lines.proofs.Digits.{number_once, whole_first, if_none}
 use Rattle.btreearc_lines.proofs.lines.whole_number.Goals as goal

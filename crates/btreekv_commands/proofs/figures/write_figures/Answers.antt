@@ -1,4 +1,4 @@
--- Four lines, one behind the other.
+-- Four lines, one after the other.
 use Rattle.std.proofs.Common.{◌≡◌, ℕ, List, ◌++◌, ap, ◌∙◌, append_assoc, string_bytes, codes}
 use Rattle.btreekv_commands.specs.Figures.{figure}
 use Rattle.btreekv_commands.proofs.figures.write_figures.Goals as goal

@@ -27,5 +27,5 @@ pub returns-in-Some : goal.returns-in-Some
 returns-in-Some c m is =
     let finds : FindsPlace u32_kind u32_kind 5 c.args.buf.now c.args.pos (nat_cmp c.args.key) (Some (place_of c.in-Some.place)) = rw (c.at.ensures.buffer, c.at.ensures.position) at (rw c.in-Some.is at (c.find_by-found.ensures.finds nat_cmp (λ n b at. refl))) in
     let same : c.seal_at-seal.result.buf.now ≡ c.args.buf.now = search rules in
-    let puts : PutsEntry u32_kind u32_kind 5 c.args.buf.now c.args.pos (place_of c.in-Some.place) (u32_form.own c.args.value) c.write.new.self.buf.now = rw (c.write.ensures.bytes, same) (rw (← c.seal_at-seal.ensures.buffer, same) at (c.seal_at-seal.ensures.puts (u32_form.own c.args.value) (u32_faithful.is_own c.args.value))) in
+    let puts : PutsEntry u32_kind u32_kind 5 c.args.buf.now c.args.pos (place_of c.in-Some.place) (u32_form.own_bytes c.args.value) c.write.new.self.buf.now = rw (c.write.ensures.bytes, same) (rw (← c.seal_at-seal.ensures.buffer, same) at (c.seal_at-seal.ensures.puts (u32_form.own_bytes c.args.value) (u32_faithful.is_own c.args.value))) in
     subst (λ (x : List ℕ). Changed c.args.buf.now x c.args.pos m c.args.key c.args.value true) (search rules) (found_changed c.args.buf.now c.write.new.self.buf.now c.args.pos c.args.key c.args.value m (place_of c.in-Some.place) c.ranges.value.fits is finds puts)

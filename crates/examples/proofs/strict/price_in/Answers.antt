@@ -1,8 +1,8 @@
--- A strict view finds what std's look-up finds.
+-- A strict view finds what std's lookup finds.
 use Rattle.std.proofs.Common.{◌∙◌, arith, refl, rules}
 use Rattle.std.specs.Cmp.Lexicographic.{slice_cmp}
 use Rattle.std.specs.Ordering.{nat_cmp}
-use Rattle.rkyv_btree.specs.View.{entries_of, reads}
+use Rattle.rkyv_btree.specs.View.{entries_of, view_value}
 use Rattle.rkyv_btree_base.specs.Layout.{are_fitting, inner_size, len_at, node_size, values_at, keys_at, node_align, align}
 use Rattle.rkyv_btree_base.specs.Rounding.{round_up}
 use Rattle.rkyv_btree_base.specs.Scalars.{u32_kind}
@@ -20,5 +20,5 @@ returns c =
     let found = c.get_by-price.ensures (λ n. slice_cmp nat_cmp n.now) (λ n b at. refl) in (
       entries_of text_kind u32_kind 5 file.view,
       record { archive = c.in_ok-prices.ensures.entries.0; increasing = file.increasing },
-      mapped reads _ (λ x y h. search rules) c.get_by-price.result c.map.result c.map.ensures.cases ∙ found,
+      mapped view_value _ (λ x y h. search rules) c.get_by-price.result c.map.result c.map.ensures.cases ∙ found,
     )

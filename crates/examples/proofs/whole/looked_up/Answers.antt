@@ -9,7 +9,7 @@ use Rattle.rkyv_btree_base.specs.Layout.{are_fitting, inner_size, len_at, node_s
 use Rattle.rkyv_btree_base.specs.Rounding.{round_up}
 use Rattle.rkyv_btree_base.specs.Map.{map_kind}
 use Rattle.rkyv_btree_base.specs.Read.{read_map}
-use Rattle.rkyv_btree.specs.View.{reads}
+use Rattle.rkyv_btree.specs.View.{view_value}
 use Rattle.rkyv_btree_base.specs.Scalars.{u32_kind}
 use Rattle.rkyv_btree_base.specs.laws.Scalars.{u32_laws}
 use Rattle.rkyv_btree_base.proofs.MapLaws.{map_laws}
@@ -42,4 +42,4 @@ returns c =
     let same : read_map u32_kind u32_kind 5 view.buf.now view.pos ≡ meant = rw (c.in-Ok.ensures.buffer, c.in-Ok.ensures.position) read in
     let found = c.look_ups_find_as_std.ensures (λ n. n) (λ n. n) (λ x y. refl) view.buf.now view.pos c.args.map.now.entries c.args.key same c.len-len.ensures.ordered in
     let value = c.get_by-value.ensures.found nat_cmp (λ n b at. refl) in
-    mapped reads _ (λ x y h. search rules) c.get_by-value.result c.map.result c.map.ensures.cases ∙ value ∙ found ∙ itself_mapped (lookup (is_at (nat_cmp c.args.key)) c.args.map.now.entries)
+    mapped view_value _ (λ x y h. search rules) c.get_by-value.result c.map.result c.map.ensures.cases ∙ value ∙ found ∙ itself_mapped (lookup (is_at (nat_cmp c.args.key)) c.args.map.now.entries)

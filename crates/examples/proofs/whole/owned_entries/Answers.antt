@@ -1,4 +1,4 @@
--- Each entry that is made comes behind those before it.
+-- Each entry that is made comes after those before it.
 use Rattle.std.proofs.Common.{◌≡◌, ◌∙◌, ap, rules, sym, true}
 use Rattle.std.specs.Prelude.{is_ok}
 use Rattle.rkyv_btree.specs.Maps.{model_both}

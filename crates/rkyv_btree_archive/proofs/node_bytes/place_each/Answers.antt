@@ -9,7 +9,7 @@ use Rattle.rkyv_btree_archive.proofs.Numbers.{as_much}
 use Rattle.rkyv_btree_archive.proofs.Pieces.{splice_more, nothing_put}
 use Rattle.rkyv_btree_archive.proofs.node_bytes.place_each.Goals as goal
 
--- what is there, behind so many parts of one size, has room for one more
+-- what is there, after so many parts of one size, has room for one more
 one_more_part : (i n size : ℕ) → i < n → i * size + size ≤ n * size
 one_more_part i n size more =
     let up : i + 1 ≤ n = omega arith in

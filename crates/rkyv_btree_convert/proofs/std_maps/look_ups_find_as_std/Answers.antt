@@ -7,7 +7,7 @@ use Rattle.rkyv_btree_convert.proofs.StdMaps.{ascending_meant, lookup_meant, onl
 use Rattle.rkyv_btree_view.specs.Lookup.{found_at}
 use Rattle.rkyv_btree_view.specs.laws.Cuts.{order_cuts}
 use Rattle.rkyv_btree_view.specs.laws.Increasing.{increasing_finds}
-use Rattle.rkyv_btree_walk.proofs.Hits.{probe_answers}
+use Rattle.rkyv_btree_walk.proofs.Hits.{probe_finds}
 use Rattle.rkyv_btree_convert.proofs.std_maps.look_ups_find_as_std.Goals as goal
 
 pub returns : goal.returns
@@ -15,10 +15,10 @@ returns g c key value alike b at m q read sorted =
     let K = g.K.Portable.kind in
     let V = g.V.Portable.kind in
     let E = g.row.E in
-    let answer = K.order (key q) in
+    let comparison = K.order (key q) in
     let tree = map_tree (layout_of K V E) b at in
     let meant = ascending_meant g.T.Ord.cmp K.order key value alike m sorted in
     let rises = subst (λ (es : List (K.Value × V.Value)). IsStrictlySortedBy K.order (map (λ e. e.0) es)) (sym read) meant in
-    let found = probe_answers (entry_at K V E b) (λ e. answer e.0) tree _ refl in
-    let only = increasing_finds K.order (λ e. e.0) answer (order_cuts g.met.K.ViewOrd.total (key q)) (entry_at K V E b) tree (found_at K V E b at answer) found rises in
-    only_looked_up answer (read_map K V E b at) (found_at K V E b at answer) only ∙ rw read (lookup_meant answer (g.T.Ord.cmp q) key value (alike q) m)
+    let found = probe_finds (entry_at K V E b) (λ e. comparison e.0) tree _ refl in
+    let only = increasing_finds K.order (λ e. e.0) comparison (order_cuts g.met.K.ViewOrd.total (key q)) (entry_at K V E b) tree (found_at K V E b at comparison) found rises in
+    only_looked_up comparison (read_map K V E b at) (found_at K V E b at comparison) only ∙ rw read (lookup_meant comparison (g.T.Ord.cmp q) key value (alike q) m)

@@ -5,4 +5,4 @@ use Rattle.rkyv_btree_ffi.proofs.Types.{number_is}
 use Rattle.rkyv_btree_ffi.proofs.editing.rkyv_btree_set_number.Goals as goal
 
 pub returns-clause-sets : goal.returns-clause-sets
-returns-clause-sets c = λ t is. subst (λ asked. SetsValue t c.args.edit.now.buf.now c.args.edit.now.pos asked c.args.value c.set_value.new.edit.buf.now c.set_value.result) (number_is t c.args.key) (c.set_value.ensures.sets t is)
+returns-clause-sets c = λ t is. subst (λ comparison. SetsValue t c.args.edit.now.buf.now c.args.edit.now.pos comparison c.args.value c.set_value.new.edit.buf.now c.set_value.result) (number_is t c.args.key) (c.set_value.ensures.sets t is)

@@ -1,6 +1,5 @@
 -- Each type has its own call.
 use Rattle.rkyv_btree_ffi.proofs.Fits.{all_fit}
-use Rattle.rkyv_btree_ffi.proofs.Types.{opens_strict}
 use Rattle.rkyv_btree_ffi.specs.declared.map_type.MapType.TheVariants.{U32ToU32, U32ToU64, U32ToText, U64ToU32, U64ToU64, U64ToText, TextToU32, TextToU64, TextToText}
 use Rattle.rkyv_btree_ffi.proofs.opening.opened_strict_at.Goals as goal
 
@@ -8,52 +7,52 @@ pub opened_strict-requires : goal.opened_strict-requires
 opened_strict-requires c = all_fit U32ToU32
 
 pub returns-in-U32ToU32 : goal.returns-in-U32ToU32
-returns-in-U32ToU32 c = rw c.in-U32ToU32.is (opens_strict U32ToU32 _ c.opened_strict.result c.opened_strict.ensures.position c.opened_strict.ensures.stands c.opened_strict.ensures.archive c.opened_strict.ensures.increasing c.opened_strict.ensures.all_archives c.opened_strict.ensures.refused)
+returns-in-U32ToU32 c = rw c.in-U32ToU32.is c.opened_strict.ensures
 
 pub opened_strict-requires-in-U32ToU64 : goal.opened_strict-requires-in-U32ToU64
 opened_strict-requires-in-U32ToU64 c = all_fit U32ToU64
 
 pub returns-in-U32ToU64 : goal.returns-in-U32ToU64
-returns-in-U32ToU64 c = rw c.in-U32ToU64.is (opens_strict U32ToU64 _ c.opened_strict-in-U32ToU64.result c.opened_strict-in-U32ToU64.ensures.position c.opened_strict-in-U32ToU64.ensures.stands c.opened_strict-in-U32ToU64.ensures.archive c.opened_strict-in-U32ToU64.ensures.increasing c.opened_strict-in-U32ToU64.ensures.all_archives c.opened_strict-in-U32ToU64.ensures.refused)
+returns-in-U32ToU64 c = rw c.in-U32ToU64.is c.opened_strict-in-U32ToU64.ensures
 
 pub opened_strict-requires-in-U32ToText : goal.opened_strict-requires-in-U32ToText
 opened_strict-requires-in-U32ToText c = all_fit U32ToText
 
 pub returns-in-U32ToText : goal.returns-in-U32ToText
-returns-in-U32ToText c = rw c.in-U32ToText.is (opens_strict U32ToText _ c.opened_strict-in-U32ToText.result c.opened_strict-in-U32ToText.ensures.position c.opened_strict-in-U32ToText.ensures.stands c.opened_strict-in-U32ToText.ensures.archive c.opened_strict-in-U32ToText.ensures.increasing c.opened_strict-in-U32ToText.ensures.all_archives c.opened_strict-in-U32ToText.ensures.refused)
+returns-in-U32ToText c = rw c.in-U32ToText.is c.opened_strict-in-U32ToText.ensures
 
 pub opened_strict-requires-in-U64ToU32 : goal.opened_strict-requires-in-U64ToU32
 opened_strict-requires-in-U64ToU32 c = all_fit U64ToU32
 
 pub returns-in-U64ToU32 : goal.returns-in-U64ToU32
-returns-in-U64ToU32 c = rw c.in-U64ToU32.is (opens_strict U64ToU32 _ c.opened_strict-in-U64ToU32.result c.opened_strict-in-U64ToU32.ensures.position c.opened_strict-in-U64ToU32.ensures.stands c.opened_strict-in-U64ToU32.ensures.archive c.opened_strict-in-U64ToU32.ensures.increasing c.opened_strict-in-U64ToU32.ensures.all_archives c.opened_strict-in-U64ToU32.ensures.refused)
+returns-in-U64ToU32 c = rw c.in-U64ToU32.is c.opened_strict-in-U64ToU32.ensures
 
 pub opened_strict-requires-in-U64ToU64 : goal.opened_strict-requires-in-U64ToU64
 opened_strict-requires-in-U64ToU64 c = all_fit U64ToU64
 
 pub returns-in-U64ToU64 : goal.returns-in-U64ToU64
-returns-in-U64ToU64 c = rw c.in-U64ToU64.is (opens_strict U64ToU64 _ c.opened_strict-in-U64ToU64.result c.opened_strict-in-U64ToU64.ensures.position c.opened_strict-in-U64ToU64.ensures.stands c.opened_strict-in-U64ToU64.ensures.archive c.opened_strict-in-U64ToU64.ensures.increasing c.opened_strict-in-U64ToU64.ensures.all_archives c.opened_strict-in-U64ToU64.ensures.refused)
+returns-in-U64ToU64 c = rw c.in-U64ToU64.is c.opened_strict-in-U64ToU64.ensures
 
 pub opened_strict-requires-in-U64ToText : goal.opened_strict-requires-in-U64ToText
 opened_strict-requires-in-U64ToText c = all_fit U64ToText
 
 pub returns-in-U64ToText : goal.returns-in-U64ToText
-returns-in-U64ToText c = rw c.in-U64ToText.is (opens_strict U64ToText _ c.opened_strict-in-U64ToText.result c.opened_strict-in-U64ToText.ensures.position c.opened_strict-in-U64ToText.ensures.stands c.opened_strict-in-U64ToText.ensures.archive c.opened_strict-in-U64ToText.ensures.increasing c.opened_strict-in-U64ToText.ensures.all_archives c.opened_strict-in-U64ToText.ensures.refused)
+returns-in-U64ToText c = rw c.in-U64ToText.is c.opened_strict-in-U64ToText.ensures
 
 pub opened_strict-requires-in-TextToU32 : goal.opened_strict-requires-in-TextToU32
 opened_strict-requires-in-TextToU32 c = all_fit TextToU32
 
 pub returns-in-TextToU32 : goal.returns-in-TextToU32
-returns-in-TextToU32 c = rw c.in-TextToU32.is (opens_strict TextToU32 _ c.opened_strict-in-TextToU32.result c.opened_strict-in-TextToU32.ensures.position c.opened_strict-in-TextToU32.ensures.stands c.opened_strict-in-TextToU32.ensures.archive c.opened_strict-in-TextToU32.ensures.increasing c.opened_strict-in-TextToU32.ensures.all_archives c.opened_strict-in-TextToU32.ensures.refused)
+returns-in-TextToU32 c = rw c.in-TextToU32.is c.opened_strict-in-TextToU32.ensures
 
 pub opened_strict-requires-in-TextToU64 : goal.opened_strict-requires-in-TextToU64
 opened_strict-requires-in-TextToU64 c = all_fit TextToU64
 
 pub returns-in-TextToU64 : goal.returns-in-TextToU64
-returns-in-TextToU64 c = rw c.in-TextToU64.is (opens_strict TextToU64 _ c.opened_strict-in-TextToU64.result c.opened_strict-in-TextToU64.ensures.position c.opened_strict-in-TextToU64.ensures.stands c.opened_strict-in-TextToU64.ensures.archive c.opened_strict-in-TextToU64.ensures.increasing c.opened_strict-in-TextToU64.ensures.all_archives c.opened_strict-in-TextToU64.ensures.refused)
+returns-in-TextToU64 c = rw c.in-TextToU64.is c.opened_strict-in-TextToU64.ensures
 
 pub opened_strict-requires-in-TextToText : goal.opened_strict-requires-in-TextToText
 opened_strict-requires-in-TextToText c = all_fit TextToText
 
 pub returns-in-TextToText : goal.returns-in-TextToText
-returns-in-TextToText c = rw c.in-TextToText.is (opens_strict TextToText _ c.opened_strict-in-TextToText.result c.opened_strict-in-TextToText.ensures.position c.opened_strict-in-TextToText.ensures.stands c.opened_strict-in-TextToText.ensures.archive c.opened_strict-in-TextToText.ensures.increasing c.opened_strict-in-TextToText.ensures.all_archives c.opened_strict-in-TextToText.ensures.refused)
+returns-in-TextToText c = rw c.in-TextToText.is c.opened_strict-in-TextToText.ensures

@@ -5,4 +5,4 @@ use Rattle.rkyv_btree_ffi.proofs.Types.{number_is}
 use Rattle.rkyv_btree_ffi.proofs.reading.rkyv_btree_get_number.Goals as goal
 
 pub returns-clause-found : goal.returns-clause-found
-returns-clause-found c = λ t is. subst (λ asked. LooksUp t c.args.map.now.buf.now c.args.map.now.pos asked c.get.result c.get.new.entry) (number_is t c.args.key) (c.get.ensures.found t is)
+returns-clause-found c = λ t is. subst (λ comparison. LooksUp t c.args.map.now.buf.now c.args.map.now.pos comparison c.get.result c.get.new.entry) (number_is t c.args.key) (c.get.ensures.found t is)

@@ -8,4 +8,4 @@ use Rattle.rkyv_btree_ffi.proofs.reading.rkyv_btree_seek_number.Goals as goal
 pub returns-clause-from : goal.returns-clause-from
 returns-clause-from c = λ t is.
     let r = c.seek.ensures.from t is in
-    (r.0, subst (λ asked. IsFrom t c.args.map.now.buf.now c.args.map.now.pos asked (entries_left t c.args.map.now.buf.now c.seek.new.cursor)) (number_is t c.args.key) r.1)
+    (r.0, subst (λ comparison. IsFrom t c.args.map.now.buf.now c.args.map.now.pos comparison (entries_left t c.args.map.now.buf.now c.seek.new.cursor)) (number_is t c.args.key) r.1)

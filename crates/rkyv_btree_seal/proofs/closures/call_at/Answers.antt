@@ -29,5 +29,5 @@ returns g c =
       shows = shows;
       holds = holds;
       keeps = kept;
-      bytes = joined _ _ g.V.Portable.kind.size _ _ _ _ c.split_at_mut-before.ensures.front behind (search rules) kept.own.size;
+      bytes = joined _ _ g.V.Portable.kind.size _ _ _ _ c.split_at_mut-before.ensures.front behind (search rules) kept.is_own.size;
     }

@@ -12,12 +12,12 @@ step_at-result-requires-clause-may g c =
 pub closed-requires : goal.closed-requires
 closed-requires g c =
     let r = c.step_at-result.ensures in
-    put_stands g.K.Portable.kind g.V.Portable.kind g.M.ArchivedMap.E g.met.K.Portable.laws g.met.V.Portable.laws g.met.V.InPlace.is_in_place.alone c.args.buf.now c.args.pos c.opened.ensures _ c.requires.entry r.after.now.buf.now _ r.keeps.own
+    put_stands g.K.Portable.kind g.V.Portable.kind g.M.ArchivedMap.E g.met.K.Portable.laws g.met.V.Portable.laws g.met.V.InPlace.is_in_place.alone c.args.buf.now c.args.pos c.opened.ensures _ c.requires.entry r.after.now.buf.now _ r.keeps.is_own
     (r.bytes ∙ ap (λ n. put_bytes c.args.buf.now n r.after.now.buf.now) c.positions-key.ensures.value_place)
 
 pub returns-clause-calls : goal.returns-clause-calls
 returns-clause-calls g c =
     let r = c.step_at-result.ensures in
     calls_entry g.K.Portable.kind g.V.Portable.kind g.M.ArchivedMap.E c.args.buf.now c.args.pos _ _ _ _ _ _ c.positions-key.ensures.key_place c.positions-key.ensures.value_place r
-    (puts g.K.Portable.kind g.V.Portable.kind g.M.ArchivedMap.E g.met.K.Portable.laws g.met.V.Portable.laws g.met.V.InPlace.is_in_place.alone c.args.buf.now c.args.pos c.opened.ensures _ c.requires.entry r.after.now.buf.now _ r.keeps.own
+    (puts g.K.Portable.kind g.V.Portable.kind g.M.ArchivedMap.E g.met.K.Portable.laws g.met.V.Portable.laws g.met.V.InPlace.is_in_place.alone c.args.buf.now c.args.pos c.opened.ensures _ c.requires.entry r.after.now.buf.now _ r.keeps.is_own
     (r.bytes ∙ ap (λ n. put_bytes c.args.buf.now n r.after.now.buf.now) c.positions-key.ensures.value_place))

@@ -2,7 +2,8 @@
 use Rattle.std.proofs.Common.{◌≡◌, ℕ, ◌+◌, ◌*◌, ◌<◌, ◌≤◌, length, List, Some}
 use Rattle.std.specs.declared.cmp.Ordering.{Ordering}
 use Rattle.std.specs.declared.cmp.Ordering.TheVariants.{Greater}
-use Rattle.rkyv_btree_unverified.specs.Steps.{Gives}
+use Rattle.rkyv_btree_unverified.specs.Steps.{key_place, Gives}
+use Rattle.rkyv_btree_source.specs.Reads.{keys_len}
 use Rattle.rkyv_btree_source.proofs.source_search.search_keys.Given as goal
 
 abbrev pub invariant-loop-i : goal.invariant-loop-i
@@ -14,4 +15,8 @@ invariant-loop-i g l =
       same : g.S.ReadAt.bytes l.reader.source ≡ g.S.ReadAt.bytes l.initial.reader.source;
       left : l.reader.left ≤ l.initial.reader.left;
       spent : l.initial.reader.left ≤ l.reader.left + l.i * (l.node + length l.bytes);
+      takes : (b : List ℕ) → g.S.ReadAt.bytes l.initial.reader.source ≡ Some b
+          → l.initial.reader.left ≡ l.reader.left + keys_len g.K.Portable.kind g.V.Portable.kind g.M.ArchivedMap.E b g.K.Fetch.lengths g.V.Fetch.lengths l.node l.i;
+      fits : (b : List ℕ) → g.S.ReadAt.bytes l.initial.reader.source ≡ Some b
+          → (k : ℕ) → k < l.i → g.K.Fetch.lengths.room b (key_place g.K.Portable.kind g.V.Portable.kind g.M.ArchivedMap.E (l.node, k)) ≤ length l.initial.room;
     }

@@ -5,10 +5,10 @@ use Rattle.rkyv_btree_unverified.proofs.Valid.{lookup_valid}
 use Rattle.rkyv_btree_unverified.proofs.unverified_laws.lookups_are_determined.Goals as goal
 
 pub returns-clause-one : goal.returns-clause-one
-returns-clause-one g c b answer at r s h m =
+returns-clause-one g c b comparison at r s h m =
     let K = g.K.Portable.kind in let V = g.V.Portable.kind in
     let room = room_of K V g.row.E g.met.K.Portable.laws g.met.V.Portable.laws c.requires in
-    one_lookup K V g.row.E b answer g.K.CheckBytes.Refuses g.V.CheckBytes.Refuses g.met.K.Portable.laws g.met.V.Portable.laws (g.met.K.CheckBytes.refusals room.key) (g.met.V.CheckBytes.refusals room.value) at r s h m
+    one_lookup K V g.row.E b comparison g.K.CheckBytes.Refuses g.V.CheckBytes.Refuses g.met.K.Portable.laws g.met.V.Portable.laws (g.met.K.CheckBytes.refusals room.key) (g.met.V.CheckBytes.refusals room.value) at r s h m
 
 pub returns-clause-valid : goal.returns-clause-valid
-returns-clause-valid g c b answer at e h = lookup_valid g.K.Portable.kind g.V.Portable.kind g.row.E b answer g.K.CheckBytes.Refuses g.V.CheckBytes.Refuses e at h
+returns-clause-valid g c b comparison at e h = lookup_valid g.K.Portable.kind g.V.Portable.kind g.row.E b comparison g.K.CheckBytes.Refuses g.V.CheckBytes.Refuses e at h

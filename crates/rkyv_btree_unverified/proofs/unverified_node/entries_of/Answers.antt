@@ -1,5 +1,5 @@
 -- What a node's first byte and its length give.
-use Rattle.std.proofs.Common.{arith, ◌≡◌, ◌+◌, ◌≤◌, refl, sym}
+use Rattle.std.proofs.Common.{arith, ◌+◌, ◌≤◌}
 use Rattle.std.specs.Prelude.{pos}
 use Rattle.rkyv_btree_base.proofs.Sizes.{room_of}
 use Rattle.rkyv_btree_base.specs.Layout.{layout_of, inner_size}

@@ -2,7 +2,7 @@
 use Rattle.std.proofs.Common.{rules, arith, ◌+◌, ◌-◌, ◌*◌, ◌<◌, ◌≡◌, ◌∙◌, refl, sym, Ok, Err, Some, None}
 use Rattle.std.proofs.lemmas.Result.{IfOk-weaker}
 use Rattle.rkyv_btree_base.specs.Layout.{layout_of}
-use Rattle.rkyv_btree_walk.specs.mirror.Search.{answers_at, searched, searched_map}
+use Rattle.rkyv_btree_walk.specs.mirror.Search.{comparison_at, searched, searched_map}
 use Rattle.rkyv_btree_unverified.proofs.Passes.{accepted_passes, root_fits, root_finds, root_asks, not_misplaced}
 use Rattle.rkyv_btree_unverified.specs.Lookups.{LookupGivesWithin, TreeGives}
 use Rattle.rkyv_btree_unverified.specs.Steps.{misplaced, empty, bad_root, root}
@@ -18,8 +18,8 @@ returns-in-Ok-node_place-clause-found g c m h f p =
     let K = g.K.Portable.kind in let V = g.V.Portable.kind in let E = g.M.ArchivedMap.E in
     let b = c.args.buf.now in
     let passes = accepted_passes _ _ _ _ g.met.K.Portable.laws g.met.V.Portable.laws c.requires.fitting _ h.0 _ m h.1 (λ z. c.if-num32-eq0.false (c.num32.ensures ∙ z)) c.in-Ok-node_place.ensures.within.0 in
-    let same = root_finds K V E b g.met.K.Portable.laws g.met.V.Portable.laws c.requires.fitting c.args.pos h.0 m h.1 (λ z. c.if-num32-eq0.false (c.num32.ensures ∙ z)) c.in-Ok-node_place.root c.in-Ok-node_place.ensures.within.0 (answers_at K V E b (f c.args.key.now)) in
-    IfOk-weaker c.search_tree.result (λ found. found ≡ (searched (layout_of K V E) b (answers_at K V E b (f c.args.key.now)) 32 c.in-Ok-node_place.root).0) (λ found. found ≡ (searched_map (layout_of K V E) b (answers_at K V E b (f c.args.key.now)) c.args.pos).0) (λ x e. e ∙ same) (c.search_tree.ensures.found passes f p)
+    let same = root_finds K V E b g.met.K.Portable.laws g.met.V.Portable.laws c.requires.fitting c.args.pos h.0 m h.1 (λ z. c.if-num32-eq0.false (c.num32.ensures ∙ z)) c.in-Ok-node_place.root c.in-Ok-node_place.ensures.within.0 (comparison_at K V E b (f c.args.key.now)) in
+    IfOk-weaker c.search_tree.result (λ found. found ≡ (searched (layout_of K V E) b (comparison_at K V E b (f c.args.key.now)) 32 c.in-Ok-node_place.root).0) (λ found. found ≡ (searched_map (layout_of K V E) b (comparison_at K V E b (f c.args.key.now)) c.args.pos).0) (λ x e. e ∙ same) (c.search_tree.ensures.found passes f p)
 
 pub returns-in-Err-node_place-clause-accepts : goal.returns-in-Err-node_place-clause-accepts
 returns-in-Err-node_place-clause-accepts g c m h =
@@ -61,7 +61,7 @@ returns-in-Ok-node_place-clause-counts g c m h f p =
     let K = g.K.Portable.kind in let V = g.V.Portable.kind in let E = g.M.ArchivedMap.E in
     let b = c.args.buf.now in
     let passes = accepted_passes _ _ _ _ g.met.K.Portable.laws g.met.V.Portable.laws c.requires.fitting _ h.0 _ m h.1 (λ z. c.if-num32-eq0.false (c.num32.ensures ∙ z)) c.in-Ok-node_place.ensures.within.0 in
-    let same = root_asks K V E b g.met.K.Portable.laws g.met.V.Portable.laws c.requires.fitting c.args.pos h.0 m h.1 (λ z. c.if-num32-eq0.false (c.num32.ensures ∙ z)) c.in-Ok-node_place.root c.in-Ok-node_place.ensures.within.0 (answers_at K V E b (f c.args.key.now)) in
+    let same = root_asks K V E b g.met.K.Portable.laws g.met.V.Portable.laws c.requires.fitting c.args.pos h.0 m h.1 (λ z. c.if-num32-eq0.false (c.num32.ensures ∙ z)) c.in-Ok-node_place.root c.in-Ok-node_place.ensures.within.0 (comparison_at K V E b (f c.args.key.now)) in
     rw (← same) (c.search_tree.ensures.counts passes f p)
 
 pub returns-then-num32-eq0-clause-deep : goal.returns-then-num32-eq0-clause-deep

@@ -3,7 +3,7 @@ use Rattle.std.proofs.Common.{◌∙◌, ◌≤◌, ◌+◌, arith, sym, ap, ref
 use Rattle.rkyv_btree_base.specs.Layout.{layout_of}
 use Rattle.rkyv_btree_base.proofs.Sizes.{room_of}
 use Rattle.rkyv_btree_walk.proofs.Searches.{leaf_alone, search_finds, search_ends, search_down}
-use Rattle.rkyv_btree_unverified.proofs.Passes.{found_asked, below_asked, tree_node, root_entries, found_stops, below_stops, below_within, child_none, child_some, child_passes, child_fits, target_none, target_some}
+use Rattle.rkyv_btree_unverified.proofs.Passes.{found_compared, below_compared, tree_node, root_entries, found_stops, below_stops, below_within, child_none, child_some, child_passes, child_fits, target_none, target_some}
 use Rattle.rkyv_btree_unverified.proofs.Goes.{node_refuses, keys_refuse, hits, ends_in_leaf, ends_absent, place_refuses, goes_down}
 use Rattle.std.proofs.lemmas.Bool.{eq-eqb, ne_eqb}
 use Rattle.rkyv_btree_unverified.proofs.unverified_search.search_node.Goals as goal
@@ -59,84 +59,84 @@ pub returns-in-Err-clause-gives : goal.returns-in-Err-clause-gives
 returns-in-Err-clause-gives g c f p m =
     let K = g.K.Portable.kind in let V = g.V.Portable.kind in let E = g.M.ArchivedMap.E in
     let b = c.args.buf.now in
-    let answer = f c.args.key.now in
+    let comparison = f c.args.key.now in
     let KR = g.K.CheckBytes.Refuses in let VR = g.V.CheckBytes.Refuses in
-    node_refuses K V E b answer KR VR m c.args.hi c.args.node _ c.in-Err.ensures.gives
+    node_refuses K V E b comparison KR VR m c.args.hi c.args.node _ c.in-Err.ensures.gives
 
 pub returns-in-Err-search_keys-clause-gives : goal.returns-in-Err-search_keys-clause-gives
 returns-in-Err-search_keys-clause-gives g c f p m =
     let K = g.K.Portable.kind in let V = g.V.Portable.kind in let E = g.M.ArchivedMap.E in
     let b = c.args.buf.now in
-    let answer = f c.args.key.now in
+    let comparison = f c.args.key.now in
     let KR = g.K.CheckBytes.Refuses in let VR = g.V.CheckBytes.Refuses in
-    keys_refuse K V E b answer KR VR m c.args.hi c.args.node c.in-Ok.count c.in-Ok.ensures.gives _ (c.in-Err-search_keys.ensures.gives f p)
+    keys_refuse K V E b comparison KR VR m c.args.hi c.args.node c.in-Ok.count c.in-Ok.ensures.gives _ (c.in-Err-search_keys.ensures.gives f p)
 
 pub returns-in-Ok-Found-clause-gives : goal.returns-in-Ok-Found-clause-gives
 returns-in-Ok-Found-clause-gives g c f p m =
     let K = g.K.Portable.kind in let V = g.V.Portable.kind in let E = g.M.ArchivedMap.E in
     let b = c.args.buf.now in
-    let answer = f c.args.key.now in
+    let comparison = f c.args.key.now in
     let KR = g.K.CheckBytes.Refuses in let VR = g.V.CheckBytes.Refuses in
-    hits K V E b answer KR VR m c.args.hi c.args.node c.in-Ok.count c.in-Ok.ensures.gives c.in-Ok-Found.i c.in-Ok-Found.field-0 c.in-Ok-Found.field-0-is (c.in-Ok-Found.ensures.gives f p)
+    hits K V E b comparison KR VR m c.args.hi c.args.node c.in-Ok.count c.in-Ok.ensures.gives c.in-Ok-Found.i c.in-Ok-Found.field-0 c.in-Ok-Found.field-0-is (c.in-Ok-Found.ensures.gives f p)
 
 pub returns-then-buf-node-eq0-clause-gives : goal.returns-then-buf-node-eq0-clause-gives
 returns-then-buf-node-eq0-clause-gives g c f p m =
     let K = g.K.Portable.kind in let V = g.V.Portable.kind in let E = g.M.ArchivedMap.E in
     let b = c.args.buf.now in
-    let answer = f c.args.key.now in
+    let comparison = f c.args.key.now in
     let KR = g.K.CheckBytes.Refuses in let VR = g.V.CheckBytes.Refuses in
-    ends_in_leaf K V E b answer KR VR m c.args.hi c.args.node c.in-Ok.count c.in-Ok.ensures.gives c.in-Ok-Below.i c.in-Ok-Below.field-0 c.in-Ok-Below.field-0-is (c.in-Ok-Below.ensures.gives f p) c.if-buf-node-eq0.true
+    ends_in_leaf K V E b comparison KR VR m c.args.hi c.args.node c.in-Ok.count c.in-Ok.ensures.gives c.in-Ok-Below.i c.in-Ok-Below.field-0 c.in-Ok-Below.field-0-is (c.in-Ok-Below.ensures.gives f p) c.if-buf-node-eq0.true
 
 pub returns-then-num32-eq1-clause-gives : goal.returns-then-num32-eq1-clause-gives
 returns-then-num32-eq1-clause-gives g c f p m =
     let K = g.K.Portable.kind in let V = g.V.Portable.kind in let E = g.M.ArchivedMap.E in
     let b = c.args.buf.now in
-    let answer = f c.args.key.now in
+    let comparison = f c.args.key.now in
     let KR = g.K.CheckBytes.Refuses in let VR = g.V.CheckBytes.Refuses in
-    ends_absent K V E b answer KR VR m c.args.hi c.args.node c.in-Ok.count c.in-Ok.ensures.gives c.in-Ok-Below.i c.in-Ok-Below.field-0 c.in-Ok-Below.field-0-is (c.in-Ok-Below.ensures.gives f p) c.if-buf-node-eq0.false
+    ends_absent K V E b comparison KR VR m c.args.hi c.args.node c.in-Ok.count c.in-Ok.ensures.gives c.in-Ok-Below.i c.in-Ok-Below.field-0 c.in-Ok-Below.field-0-is (c.in-Ok-Below.ensures.gives f p) c.if-buf-node-eq0.false
     (rw (← c.pointer_at.ensures.value) (target_none b (c.args.node + c.pointer_at.result) (sym c.num32.ensures ∙ c.if-num32-eq1.true)))
 
 pub returns-in-Ok-node_place-clause-gives : goal.returns-in-Ok-node_place-clause-gives
 returns-in-Ok-node_place-clause-gives g c f p m =
     let K = g.K.Portable.kind in let V = g.V.Portable.kind in let E = g.M.ArchivedMap.E in
     let b = c.args.buf.now in
-    let answer = f c.args.key.now in
+    let comparison = f c.args.key.now in
     let KR = g.K.CheckBytes.Refuses in let VR = g.V.CheckBytes.Refuses in
     let to = target_some b (c.args.node + c.pointer_at.result) (λ z. c.if-num32-eq1.false (c.num32.ensures ∙ z)) in
-    goes_down K V E b answer KR VR m c.args.hi c.args.node c.in-Ok.count c.in-Ok.ensures.gives c.in-Ok-Below.i c.in-Ok-Below.field-0 c.in-Ok-Below.field-0-is (c.in-Ok-Below.ensures.gives f p) c.if-buf-node-eq0.false _ c.in-Ok-node_place.below (rw (← c.pointer_at.ensures.value) to) c.in-Ok-node_place.ensures.gives
+    goes_down K V E b comparison KR VR m c.args.hi c.args.node c.in-Ok.count c.in-Ok.ensures.gives c.in-Ok-Below.i c.in-Ok-Below.field-0 c.in-Ok-Below.field-0-is (c.in-Ok-Below.ensures.gives f p) c.if-buf-node-eq0.false _ c.in-Ok-node_place.below (rw (← c.pointer_at.ensures.value) to) c.in-Ok-node_place.ensures.gives
 
 pub returns-in-Err-node_place-clause-gives : goal.returns-in-Err-node_place-clause-gives
 returns-in-Err-node_place-clause-gives g c f p m =
     let K = g.K.Portable.kind in let V = g.V.Portable.kind in let E = g.M.ArchivedMap.E in
     let b = c.args.buf.now in
-    let answer = f c.args.key.now in
+    let comparison = f c.args.key.now in
     let KR = g.K.CheckBytes.Refuses in let VR = g.V.CheckBytes.Refuses in
     let to = target_some b (c.args.node + c.pointer_at.result) (λ z. c.if-num32-eq1.false (c.num32.ensures ∙ z)) in
-    place_refuses K V E b answer KR VR m c.args.hi c.args.node c.in-Ok.count c.in-Ok.ensures.gives c.in-Ok-Below.i c.in-Ok-Below.field-0 c.in-Ok-Below.field-0-is (c.in-Ok-Below.ensures.gives f p) c.if-buf-node-eq0.false _ _ (rw (← c.pointer_at.ensures.value) to) c.in-Err-node_place.ensures.gives
+    place_refuses K V E b comparison KR VR m c.args.hi c.args.node c.in-Ok.count c.in-Ok.ensures.gives c.in-Ok-Below.i c.in-Ok-Below.field-0 c.in-Ok-Below.field-0-is (c.in-Ok-Below.ensures.gives f p) c.if-buf-node-eq0.false _ _ (rw (← c.pointer_at.ensures.value) to) c.in-Err-node_place.ensures.gives
 
 pub returns-in-Ok-Found-clause-counts : goal.returns-in-Ok-Found-clause-counts
 returns-in-Ok-Found-clause-counts g c m h f p =
     let asks = ap (λ r. r.1) (search_finds g.K.Portable.kind g.V.Portable.kind g.M.ArchivedMap.E c.args.buf.now (suc m) c.args.node c.in-Ok.count h.stands c.in-Ok.ensures.counted (f c.args.key.now) c.in-Ok-Found.i (found_stops g.K.Portable.kind g.V.Portable.kind g.M.ArchivedMap.E c.args.buf.now (f c.args.key.now) g.K.CheckBytes.Refuses g.V.CheckBytes.Refuses c.args.node c.in-Ok.count c.in-Ok-Found.i c.in-Ok-Found.field-0 (c.in-Ok-Found.ensures.gives f p) c.in-Ok-Found.field-0-is)) in
-    let counted = found_asked c.in-Ok.count c.in-Ok-Found.i _ _ c.in-Ok-Found.field-0 c.in-Ok-Found.field-0-is c.in-Ok-Found.ensures.counts in
+    let counted = found_compared c.in-Ok.count c.in-Ok-Found.i _ _ c.in-Ok-Found.field-0 c.in-Ok-Found.field-0-is c.in-Ok-Found.ensures.counts in
     omega (arith, asks, counted)
 
 pub returns-then-buf-node-eq0-clause-counts : goal.returns-then-buf-node-eq0-clause-counts
 returns-then-buf-node-eq0-clause-counts g c m h f p =
     let none = leaf_alone (layout_of g.K.Portable.kind g.V.Portable.kind g.M.ArchivedMap.E) c.args.buf.now c.args.node c.in-Ok-Below.i (eq-eqb (slice_index c.args.buf.now c.args.node) 0 c.if-buf-node-eq0.true) in
     let asks = ap (λ r. r.1) (search_ends g.K.Portable.kind g.V.Portable.kind g.M.ArchivedMap.E c.args.buf.now (suc m) c.args.node c.in-Ok.count h.stands c.in-Ok.ensures.counted (f c.args.key.now) c.in-Ok-Below.i none (below_stops g.K.Portable.kind g.V.Portable.kind g.M.ArchivedMap.E c.args.buf.now (f c.args.key.now) g.K.CheckBytes.Refuses g.V.CheckBytes.Refuses c.args.node c.in-Ok.count c.in-Ok-Below.i c.in-Ok-Below.field-0 (c.in-Ok-Below.ensures.gives f p) c.in-Ok-Below.field-0-is)) in
-    let counted = below_asked c.in-Ok.count c.in-Ok-Below.i _ _ c.in-Ok-Below.field-0 c.in-Ok-Below.field-0-is c.in-Ok-Below.ensures.counts in
+    let counted = below_compared c.in-Ok.count c.in-Ok-Below.i _ _ c.in-Ok-Below.field-0 c.in-Ok-Below.field-0-is c.in-Ok-Below.ensures.counts in
     omega (arith, asks, counted)
 
 pub returns-then-num32-eq1-clause-counts : goal.returns-then-num32-eq1-clause-counts
 returns-then-num32-eq1-clause-counts g c m h f p =
     let none = child_none (layout_of g.K.Portable.kind g.V.Portable.kind g.M.ArchivedMap.E) c.args.buf.now c.args.node c.in-Ok-Below.i (ne_eqb (slice_index c.args.buf.now c.args.node) 0 c.if-buf-node-eq0.false) (rw (← c.pointer_at.ensures.value) (target_none c.args.buf.now (c.args.node + c.pointer_at.result) (sym c.num32.ensures ∙ c.if-num32-eq1.true))) in
     let asks = ap (λ r. r.1) (search_ends g.K.Portable.kind g.V.Portable.kind g.M.ArchivedMap.E c.args.buf.now (suc m) c.args.node c.in-Ok.count h.stands c.in-Ok.ensures.counted (f c.args.key.now) c.in-Ok-Below.i none (below_stops g.K.Portable.kind g.V.Portable.kind g.M.ArchivedMap.E c.args.buf.now (f c.args.key.now) g.K.CheckBytes.Refuses g.V.CheckBytes.Refuses c.args.node c.in-Ok.count c.in-Ok-Below.i c.in-Ok-Below.field-0 (c.in-Ok-Below.ensures.gives f p) c.in-Ok-Below.field-0-is)) in
-    let counted = below_asked c.in-Ok.count c.in-Ok-Below.i _ _ c.in-Ok-Below.field-0 c.in-Ok-Below.field-0-is c.in-Ok-Below.ensures.counts in
+    let counted = below_compared c.in-Ok.count c.in-Ok-Below.i _ _ c.in-Ok-Below.field-0 c.in-Ok-Below.field-0-is c.in-Ok-Below.ensures.counts in
     omega (arith, asks, counted)
 
 pub returns-in-Ok-node_place-clause-counts : goal.returns-in-Ok-node_place-clause-counts
 returns-in-Ok-node_place-clause-counts g c m h f p =
     let some = child_some (layout_of g.K.Portable.kind g.V.Portable.kind g.M.ArchivedMap.E) c.args.buf.now c.args.node c.in-Ok-Below.i c.in-Ok-node_place.below _ (ne_eqb (slice_index c.args.buf.now c.args.node) 0 c.if-buf-node-eq0.false) (rw (← c.pointer_at.ensures.value) (target_some c.args.buf.now (c.args.node + c.pointer_at.result) (λ z. c.if-num32-eq1.false (c.num32.ensures ∙ z)))) c.in-Ok-node_place.ensures.within.0 in
     let asks = ap (λ r. r.1) (search_down g.K.Portable.kind g.V.Portable.kind g.M.ArchivedMap.E c.args.buf.now (suc m) c.args.node c.in-Ok.count h.stands c.in-Ok.ensures.counted (f c.args.key.now) c.in-Ok-Below.i m c.in-Ok-node_place.below refl some (below_stops g.K.Portable.kind g.V.Portable.kind g.M.ArchivedMap.E c.args.buf.now (f c.args.key.now) g.K.CheckBytes.Refuses g.V.CheckBytes.Refuses c.args.node c.in-Ok.count c.in-Ok-Below.i c.in-Ok-Below.field-0 (c.in-Ok-Below.ensures.gives f p) c.in-Ok-Below.field-0-is)) in
-    let counted = below_asked c.in-Ok.count c.in-Ok-Below.i _ _ c.in-Ok-Below.field-0 c.in-Ok-Below.field-0-is c.in-Ok-Below.ensures.counts in
+    let counted = below_compared c.in-Ok.count c.in-Ok-Below.i _ _ c.in-Ok-Below.field-0 c.in-Ok-Below.field-0-is c.in-Ok-Below.ensures.counts in
     omega (arith, asks, counted)

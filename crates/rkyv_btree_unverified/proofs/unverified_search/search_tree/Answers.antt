@@ -1,8 +1,8 @@
 -- Where the tree passes, each node that is met does, and the search goes on as in a map that was checked.
 use Rattle.std.proofs.Common.{rules, ◌≡◌, ◌+◌, ◌<◌, ℕ, ◌-◌, arith, refl, suc, subst, sym}
 use Rattle.rkyv_btree_base.specs.Layout.{layout_of}
-use Rattle.rkyv_btree_walk.specs.mirror.Search.{answers_at}
-use Rattle.rkyv_btree_unverified.proofs.Passes.{hit_counts, miss_counts, down_counts, level_more, asked_on, none_left, levels_left, with_level, hit_equal, hit_finds, miss_finds, down_finds, down_stands, down_passes, found_on}
+use Rattle.rkyv_btree_walk.specs.mirror.Search.{comparison_at}
+use Rattle.rkyv_btree_unverified.proofs.Passes.{hit_counts, miss_counts, down_counts, level_more, compared_on, none_left, levels_left, with_level, hit_equal, hit_finds, miss_finds, down_finds, down_stands, down_passes, found_on}
 use Rattle.rkyv_btree_unverified.proofs.Goes.{no_levels, levels_are, levels_over, hit_gives, miss_gives, down_gives}
 use Rattle.rkyv_btree_unverified.proofs.Places.{kept}
 use Rattle.rkyv_btree_base.specs.Refusal.{Refusal}
@@ -21,15 +21,15 @@ pub returns-in-Ok-Hit-clause-found : goal.returns-in-Ok-Hit-clause-found
 returns-in-Ok-Hit-clause-found g c h f p =
     let here = c.down.invariant.3 h in
     let up = with_level g.K.Portable.kind g.V.Portable.kind g.M.ArchivedMap.E c.args.buf.now c.down.levels c.down.end c.down.node here in
-    let finds = hit_finds g.K.Portable.kind g.V.Portable.kind g.M.ArchivedMap.E c.args.buf.now (c.down.levels - 1) c.down.node c.in-Ok-Hit.field-0 (answers_at g.K.Portable.kind g.V.Portable.kind g.M.ArchivedMap.E c.args.buf.now (f c.args.key.now)) _ (c.in-Ok-Hit.ensures.found (c.down.levels - 1) up f p) c.in-Ok-Hit.i c.in-Ok-Hit.field-0-is in
-    sym (found_on (layout_of g.K.Portable.kind g.V.Portable.kind g.M.ArchivedMap.E) c.args.buf.now (answers_at g.K.Portable.kind g.V.Portable.kind g.M.ArchivedMap.E c.args.buf.now (f c.args.key.now)) c.down.levels (c.down.levels - 1) c.down.node (c.down.invariant.4 h f p) (levels_left g.K.Portable.kind g.V.Portable.kind g.M.ArchivedMap.E c.args.buf.now c.down.levels c.down.end c.down.node here) finds)
+    let finds = hit_finds g.K.Portable.kind g.V.Portable.kind g.M.ArchivedMap.E c.args.buf.now (c.down.levels - 1) c.down.node c.in-Ok-Hit.field-0 (comparison_at g.K.Portable.kind g.V.Portable.kind g.M.ArchivedMap.E c.args.buf.now (f c.args.key.now)) _ (c.in-Ok-Hit.ensures.found (c.down.levels - 1) up f p) c.in-Ok-Hit.i c.in-Ok-Hit.field-0-is in
+    sym (found_on (layout_of g.K.Portable.kind g.V.Portable.kind g.M.ArchivedMap.E) c.args.buf.now (comparison_at g.K.Portable.kind g.V.Portable.kind g.M.ArchivedMap.E c.args.buf.now (f c.args.key.now)) c.down.levels (c.down.levels - 1) c.down.node (c.down.invariant.4 h f p) (levels_left g.K.Portable.kind g.V.Portable.kind g.M.ArchivedMap.E c.args.buf.now c.down.levels c.down.end c.down.node here) finds)
 
 pub returns-in-Ok-Miss-clause-found : goal.returns-in-Ok-Miss-clause-found
 returns-in-Ok-Miss-clause-found g c h f p =
     let here = c.down.invariant.3 h in
     let up = with_level g.K.Portable.kind g.V.Portable.kind g.M.ArchivedMap.E c.args.buf.now c.down.levels c.down.end c.down.node here in
-    let finds = miss_finds g.K.Portable.kind g.V.Portable.kind g.M.ArchivedMap.E c.args.buf.now (c.down.levels - 1) c.down.node c.in-Ok-Miss.field-0 (answers_at g.K.Portable.kind g.V.Portable.kind g.M.ArchivedMap.E c.args.buf.now (f c.args.key.now)) _ (c.in-Ok-Miss.ensures.found (c.down.levels - 1) up f p) c.in-Ok-Miss.field-0-is in
-    sym (found_on (layout_of g.K.Portable.kind g.V.Portable.kind g.M.ArchivedMap.E) c.args.buf.now (answers_at g.K.Portable.kind g.V.Portable.kind g.M.ArchivedMap.E c.args.buf.now (f c.args.key.now)) c.down.levels (c.down.levels - 1) c.down.node (c.down.invariant.4 h f p) (levels_left g.K.Portable.kind g.V.Portable.kind g.M.ArchivedMap.E c.args.buf.now c.down.levels c.down.end c.down.node here) finds)
+    let finds = miss_finds g.K.Portable.kind g.V.Portable.kind g.M.ArchivedMap.E c.args.buf.now (c.down.levels - 1) c.down.node c.in-Ok-Miss.field-0 (comparison_at g.K.Portable.kind g.V.Portable.kind g.M.ArchivedMap.E c.args.buf.now (f c.args.key.now)) _ (c.in-Ok-Miss.ensures.found (c.down.levels - 1) up f p) c.in-Ok-Miss.field-0-is in
+    sym (found_on (layout_of g.K.Portable.kind g.V.Portable.kind g.M.ArchivedMap.E) c.args.buf.now (comparison_at g.K.Portable.kind g.V.Portable.kind g.M.ArchivedMap.E c.args.buf.now (f c.args.key.now)) c.down.levels (c.down.levels - 1) c.down.node (c.down.invariant.4 h f p) (levels_left g.K.Portable.kind g.V.Portable.kind g.M.ArchivedMap.E c.args.buf.now c.down.levels c.down.end c.down.node here) finds)
 
 pub down-preserved : goal.down-preserved
 down-preserved g c =
@@ -41,8 +41,8 @@ down-preserved g c =
       (λ h f p.
           let here = c.down.invariant.3 h in
           let up = with_level g.K.Portable.kind g.V.Portable.kind g.M.ArchivedMap.E c.args.buf.now c.down.levels c.down.end c.down.node here in
-          let finds = down_finds g.K.Portable.kind g.V.Portable.kind g.M.ArchivedMap.E c.args.buf.now (c.down.levels - 1) c.down.node c.in-Ok-Down.field-0 (answers_at g.K.Portable.kind g.V.Portable.kind g.M.ArchivedMap.E c.args.buf.now (f c.args.key.now)) _ (c.in-Ok-Down.ensures.found (c.down.levels - 1) up f p) c.in-Ok-Down.below c.in-Ok-Down.field-0-is in
-          found_on (layout_of g.K.Portable.kind g.V.Portable.kind g.M.ArchivedMap.E) c.args.buf.now (answers_at g.K.Portable.kind g.V.Portable.kind g.M.ArchivedMap.E c.args.buf.now (f c.args.key.now)) c.down.levels (c.down.levels - 1) c.down.node (c.down.invariant.4 h f p) (levels_left g.K.Portable.kind g.V.Portable.kind g.M.ArchivedMap.E c.args.buf.now c.down.levels c.down.end c.down.node here) finds),
+          let finds = down_finds g.K.Portable.kind g.V.Portable.kind g.M.ArchivedMap.E c.args.buf.now (c.down.levels - 1) c.down.node c.in-Ok-Down.field-0 (comparison_at g.K.Portable.kind g.V.Portable.kind g.M.ArchivedMap.E c.args.buf.now (f c.args.key.now)) _ (c.in-Ok-Down.ensures.found (c.down.levels - 1) up f p) c.in-Ok-Down.below c.in-Ok-Down.field-0-is in
+          found_on (layout_of g.K.Portable.kind g.V.Portable.kind g.M.ArchivedMap.E) c.args.buf.now (comparison_at g.K.Portable.kind g.V.Portable.kind g.M.ArchivedMap.E c.args.buf.now (f c.args.key.now)) c.down.levels (c.down.levels - 1) c.down.node (c.down.invariant.4 h f p) (levels_left g.K.Portable.kind g.V.Portable.kind g.M.ArchivedMap.E c.args.buf.now c.down.levels c.down.end c.down.node here) finds),
       (λ f p r below.
           c.down.invariant.5 f p r (levels_over g.K.Portable.kind g.V.Portable.kind g.M.ArchivedMap.E c.args.buf.now (f c.args.key.now) g.K.CheckBytes.Refuses g.V.CheckBytes.Refuses c.down.levels c.down.end c.down.node r c.if-levels-eq0.false
           (down_gives g.K.Portable.kind g.V.Portable.kind g.M.ArchivedMap.E c.args.buf.now (f c.args.key.now) g.K.CheckBytes.Refuses g.V.CheckBytes.Refuses (c.down.levels - 1) c.down.end c.down.node c.in-Ok-Down.field-0 (c.in-Ok-Down.ensures.gives f p (c.down.levels - 1)) c.in-Ok-Down.below c.in-Ok-Down.field-0-is r below))),
@@ -51,8 +51,8 @@ down-preserved g c =
       (λ h f p.
           let here = c.down.invariant.3 h in
           let up = with_level g.K.Portable.kind g.V.Portable.kind g.M.ArchivedMap.E c.args.buf.now c.down.levels c.down.end c.down.node here in
-          let counts = down_counts (layout_of g.K.Portable.kind g.V.Portable.kind g.M.ArchivedMap.E) c.args.buf.now (answers_at g.K.Portable.kind g.V.Portable.kind g.M.ArchivedMap.E c.args.buf.now (f c.args.key.now)) (c.down.levels - 1) _ _ _ c.in-Ok-Down.field-0 (c.in-Ok-Down.ensures.counts (c.down.levels - 1) up f p) c.in-Ok-Down.below c.in-Ok-Down.field-0-is in
-          let level = asked_on (layout_of g.K.Portable.kind g.V.Portable.kind g.M.ArchivedMap.E) c.args.buf.now (answers_at g.K.Portable.kind g.V.Portable.kind g.M.ArchivedMap.E c.args.buf.now (f c.args.key.now)) c.down.levels (c.down.levels - 1) c.down.node (levels_left g.K.Portable.kind g.V.Portable.kind g.M.ArchivedMap.E c.args.buf.now c.down.levels c.down.end c.down.node here) in
+          let counts = down_counts (layout_of g.K.Portable.kind g.V.Portable.kind g.M.ArchivedMap.E) c.args.buf.now (comparison_at g.K.Portable.kind g.V.Portable.kind g.M.ArchivedMap.E c.args.buf.now (f c.args.key.now)) (c.down.levels - 1) _ _ _ c.in-Ok-Down.field-0 (c.in-Ok-Down.ensures.counts (c.down.levels - 1) up f p) c.in-Ok-Down.below c.in-Ok-Down.field-0-is in
+          let level = compared_on (layout_of g.K.Portable.kind g.V.Portable.kind g.M.ArchivedMap.E) c.args.buf.now (comparison_at g.K.Portable.kind g.V.Portable.kind g.M.ArchivedMap.E c.args.buf.now (f c.args.key.now)) c.down.levels (c.down.levels - 1) c.down.node (levels_left g.K.Portable.kind g.V.Portable.kind g.M.ArchivedMap.E c.args.buf.now c.down.levels c.down.end c.down.node here) in
           omega (arith, counts, level, c.down.invariant.8 h f p)),
       omega (arith, c.down.invariant.9, c.step.ensures),
       (λ f p n m counted r below.
@@ -65,7 +65,7 @@ down-preserved g c =
     )
 
 pub returns-in-Ok-Hit-clause-equal : goal.returns-in-Ok-Hit-clause-equal
-returns-in-Ok-Hit-clause-equal g c f p = hit_equal (answers_at g.K.Portable.kind g.V.Portable.kind g.M.ArchivedMap.E c.args.buf.now (f c.args.key.now)) c.down.node c.in-Ok-Hit.i c.in-Ok-Hit.field-0 c.in-Ok-Hit.field-0-is (c.in-Ok-Hit.ensures.equal f p)
+returns-in-Ok-Hit-clause-equal g c f p = hit_equal (comparison_at g.K.Portable.kind g.V.Portable.kind g.M.ArchivedMap.E c.args.buf.now (f c.args.key.now)) c.down.node c.in-Ok-Hit.i c.in-Ok-Hit.field-0 c.in-Ok-Hit.field-0-is (c.in-Ok-Hit.ensures.equal f p)
 
 pub returns-then-levels-eq0-clause-gives : goal.returns-then-levels-eq0-clause-gives
 returns-then-levels-eq0-clause-gives g c f p =
@@ -91,16 +91,16 @@ pub returns-in-Ok-Hit-clause-counts : goal.returns-in-Ok-Hit-clause-counts
 returns-in-Ok-Hit-clause-counts g c h f p =
     let here = c.down.invariant.3 h in
     let up = with_level g.K.Portable.kind g.V.Portable.kind g.M.ArchivedMap.E c.args.buf.now c.down.levels c.down.end c.down.node here in
-    let counts = hit_counts (layout_of g.K.Portable.kind g.V.Portable.kind g.M.ArchivedMap.E) c.args.buf.now (answers_at g.K.Portable.kind g.V.Portable.kind g.M.ArchivedMap.E c.args.buf.now (f c.args.key.now)) (c.down.levels - 1) _ _ _ c.in-Ok-Hit.field-0 (c.in-Ok-Hit.ensures.counts (c.down.levels - 1) up f p) c.in-Ok-Hit.i c.in-Ok-Hit.field-0-is in
-    let level = asked_on (layout_of g.K.Portable.kind g.V.Portable.kind g.M.ArchivedMap.E) c.args.buf.now (answers_at g.K.Portable.kind g.V.Portable.kind g.M.ArchivedMap.E c.args.buf.now (f c.args.key.now)) c.down.levels (c.down.levels - 1) c.down.node (levels_left g.K.Portable.kind g.V.Portable.kind g.M.ArchivedMap.E c.args.buf.now c.down.levels c.down.end c.down.node here) in
+    let counts = hit_counts (layout_of g.K.Portable.kind g.V.Portable.kind g.M.ArchivedMap.E) c.args.buf.now (comparison_at g.K.Portable.kind g.V.Portable.kind g.M.ArchivedMap.E c.args.buf.now (f c.args.key.now)) (c.down.levels - 1) _ _ _ c.in-Ok-Hit.field-0 (c.in-Ok-Hit.ensures.counts (c.down.levels - 1) up f p) c.in-Ok-Hit.i c.in-Ok-Hit.field-0-is in
+    let level = compared_on (layout_of g.K.Portable.kind g.V.Portable.kind g.M.ArchivedMap.E) c.args.buf.now (comparison_at g.K.Portable.kind g.V.Portable.kind g.M.ArchivedMap.E c.args.buf.now (f c.args.key.now)) c.down.levels (c.down.levels - 1) c.down.node (levels_left g.K.Portable.kind g.V.Portable.kind g.M.ArchivedMap.E c.args.buf.now c.down.levels c.down.end c.down.node here) in
     omega (arith, counts, level, c.down.invariant.8 h f p)
 
 pub returns-in-Ok-Miss-clause-counts : goal.returns-in-Ok-Miss-clause-counts
 returns-in-Ok-Miss-clause-counts g c h f p =
     let here = c.down.invariant.3 h in
     let up = with_level g.K.Portable.kind g.V.Portable.kind g.M.ArchivedMap.E c.args.buf.now c.down.levels c.down.end c.down.node here in
-    let counts = miss_counts (layout_of g.K.Portable.kind g.V.Portable.kind g.M.ArchivedMap.E) c.args.buf.now (answers_at g.K.Portable.kind g.V.Portable.kind g.M.ArchivedMap.E c.args.buf.now (f c.args.key.now)) (c.down.levels - 1) _ _ _ c.in-Ok-Miss.field-0 (c.in-Ok-Miss.ensures.counts (c.down.levels - 1) up f p) c.in-Ok-Miss.field-0-is in
-    let level = asked_on (layout_of g.K.Portable.kind g.V.Portable.kind g.M.ArchivedMap.E) c.args.buf.now (answers_at g.K.Portable.kind g.V.Portable.kind g.M.ArchivedMap.E c.args.buf.now (f c.args.key.now)) c.down.levels (c.down.levels - 1) c.down.node (levels_left g.K.Portable.kind g.V.Portable.kind g.M.ArchivedMap.E c.args.buf.now c.down.levels c.down.end c.down.node here) in
+    let counts = miss_counts (layout_of g.K.Portable.kind g.V.Portable.kind g.M.ArchivedMap.E) c.args.buf.now (comparison_at g.K.Portable.kind g.V.Portable.kind g.M.ArchivedMap.E c.args.buf.now (f c.args.key.now)) (c.down.levels - 1) _ _ _ c.in-Ok-Miss.field-0 (c.in-Ok-Miss.ensures.counts (c.down.levels - 1) up f p) c.in-Ok-Miss.field-0-is in
+    let level = compared_on (layout_of g.K.Portable.kind g.V.Portable.kind g.M.ArchivedMap.E) c.args.buf.now (comparison_at g.K.Portable.kind g.V.Portable.kind g.M.ArchivedMap.E c.args.buf.now (f c.args.key.now)) c.down.levels (c.down.levels - 1) c.down.node (levels_left g.K.Portable.kind g.V.Portable.kind g.M.ArchivedMap.E c.args.buf.now c.down.levels c.down.end c.down.node here) in
     omega (arith, counts, level, c.down.invariant.8 h f p)
 
 pub returns-in-Ok-Hit-clause-few : goal.returns-in-Ok-Hit-clause-few

@@ -9,6 +9,6 @@ invariant_of-result g c =
     let a = c.requires.accepted in
     record { valid = stands_of (map_laws g.K.Portable.kind g.V.Portable.kind g.row.E g.met.K.Portable.laws g.met.V.Portable.laws) c.requires.fitting _ _ _ _ _ _ a.1.1 }
 
-pub returns-clause-reads : goal.returns-clause-reads
-returns-clause-reads g c = λ m a.
+pub returns-clause-value : goal.returns-clause-value
+returns-clause-value g c = λ m a.
     sym ((map_laws g.K.Portable.kind g.V.Portable.kind g.row.E g.met.K.Portable.laws g.met.V.Portable.laws).is_read _ _ _ _ _ _ a.1)

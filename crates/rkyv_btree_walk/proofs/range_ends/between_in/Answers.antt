@@ -1,4 +1,4 @@
--- What is left behind the low bound is cut before the first entry past the high one.
+-- What is left after the low bound is cut before the first entry past the high one.
 use Rattle.std.proofs.Common.{◌-◌, [], ◌++◌, ◌∙◌, refl, sym, ap, arith}
 use Rattle.rkyv_btree_base.specs.Layout.{layout_of}
 use Rattle.rkyv_btree_base.specs.Read.{run}

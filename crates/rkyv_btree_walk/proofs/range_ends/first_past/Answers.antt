@@ -1,4 +1,4 @@
--- What is past a bound reaches its query, or is behind it.
+-- What is past a bound reaches its query, or is after it.
 use Rattle.std.proofs.Common.{sym, ap}
 use Rattle.rkyv_btree_base.specs.Layout.{layout_of}
 use Rattle.rkyv_btree_walk.specs.mirror.Path.{walk_rest}

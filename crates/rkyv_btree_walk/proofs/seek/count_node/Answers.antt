@@ -1,4 +1,4 @@
--- A key that doesn't reach the query is counted, and none is behind one that does.
+-- A key that doesn't reach the query is counted, and none is after one that does.
 use Rattle.std.proofs.Common.{◌≡◌, ◌+◌, ◌∙◌, sym, arith, inl, inr}
 use Rattle.std.proofs.lemmas.Bool.{cases_Bool}
 use Rattle.rkyv_btree_walk.specs.mirror.Range.{reached_at}

@@ -2,7 +2,7 @@
 use Rattle.std.proofs.Common.{◌≡◌, ℕ, Bool}
 use Rattle.std.specs.declared.cmp.Ordering.{Ordering}
 use Rattle.rkyv_btree_base.specs.Layout.{layout_of}
-use Rattle.rkyv_btree_walk.specs.Search.{ComparesBy, shown}
+use Rattle.rkyv_btree_walk.specs.Search.{ComparesBy, shown_value}
 use Rattle.rkyv_btree_walk.specs.mirror.Node.{TreeStands}
 use Rattle.rkyv_btree_walk.specs.mirror.Path.{tree_rest}
 use Rattle.rkyv_btree_walk.specs.mirror.Range.{reached_at, Rises}
@@ -15,7 +15,7 @@ invariant-down g l =
     record {
       tree : (m : ℕ) × TreeStands K V E l.buf m l.node;
       found : (levels : ℕ) → TreeStands K V E l.buf levels l.top → (m : ℕ) × TreeStands K V E l.buf m l.node
-          × ((c : g.row.Q.Denot → K.Value → Ordering) → ComparesBy (goal.C-post g l.cmp) (shown K g.W.Shows) c
+          × ((c : g.row.Q.Denot → K.Value → Ordering) → ComparesBy (goal.C-post g l.cmp) (shown_value K g.W.Shows) c
           → let test : ℕ × ℕ → Bool = reached_at K V E l.buf l.past (c l.key) in
           Rises test (tree_rest (layout_of K V E) l.buf levels l.top 0)
           → Rises test (tree_rest (layout_of K V E) l.buf m l.node 0)

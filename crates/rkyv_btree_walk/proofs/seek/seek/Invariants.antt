@@ -3,7 +3,7 @@ use Rattle.std.proofs.Common.{◌≡◌, ◌-◌, [], ◌++◌, length, List, �
 use Rattle.std.specs.Prelude.{filter}
 use Rattle.std.specs.declared.cmp.Ordering.{Ordering}
 use Rattle.rkyv_btree_base.specs.Layout.{layout_of}
-use Rattle.rkyv_btree_walk.specs.Search.{ComparesBy, shown}
+use Rattle.rkyv_btree_walk.specs.Search.{ComparesBy, shown_value}
 use Rattle.rkyv_btree_walk.specs.mirror.Below.{IsBelow, PathBelow}
 use Rattle.rkyv_btree_walk.specs.mirror.Node.{TreeStands}
 use Rattle.rkyv_btree_walk.specs.mirror.Path.{tree_rest, path_rest, IsPath}
@@ -18,7 +18,7 @@ invariant-down g l =
       tree : TreeStands K V E l.buf (32 - length l.path.items) l.node;
       skipped : List (ℕ × ℕ);
       run : tree_rest (layout_of K V E) l.buf 32 l.root 0 ≡ skipped ++ (tree_rest (layout_of K V E) l.buf (32 - length l.path.items) l.node 0 ++ path_rest (layout_of K V E) l.buf 32 l.path.items);
-      from : (c : g.row.Q.Denot → K.Value → Ordering) → ComparesBy (goal.C-post g l.cmp) (shown K g.W.Shows) c
+      from : (c : g.row.Q.Denot → K.Value → Ordering) → ComparesBy (goal.C-post g l.cmp) (shown_value K g.W.Shows) c
           → let test : ℕ × ℕ → Bool = reached_at K V E l.buf l.past (c l.key) in
           Rises test (tree_rest (layout_of K V E) l.buf 32 l.root 0)
           → (filter test skipped ≡ []) × AllPass test (path_rest (layout_of K V E) l.buf 32 l.path.items);

@@ -1,4 +1,4 @@
--- The first key among all is the first, where none behind one that passes fails.
+-- The first key among all is the first, where none after one that passes fails.
 use Rattle.rkyv_btree_base.proofs.Sizes.{fitting_parts}
 use Rattle.rkyv_btree_walk.proofs.seek.seek_node.Goals as goal
 

@@ -1,4 +1,4 @@
--- A visit answers the first value that its calls give.
+-- A visit returns the first value that its calls give.
 use Rattle.std.proofs.Common.{Some, None, nat_eq, if◌then◌else◌, rules}
 use Rattle.rkyv_btree.specs.laws.Visits.{visits_first}
 use Rattle.tests.proofs.walks.key_of.Goals as goal

@@ -13,7 +13,7 @@ use Rattle.rkyv_btree_writing_laws.proofs.Building.{root_refused}
 use Rattle.rkyv_btree_writing_laws.proofs.Kept.{same_begins, then_begins, wrote_begins, refused_begins, stopped_begins, went_on, wrote_went}
 use Rattle.rkyv_btree_archive.proofs.map_type.ArchivedBTreeMap.write_root.Goals as goal
 
--- the map's bytes behind its padding, at that position
+-- the map's bytes after its padding, at that position
 abbrev the_root : ℕ → ℕ → ℕ → Write
 the_root at root len = record { bytes = root_bytes at root len; reaches = root_reaches at root len }
 

@@ -7,4 +7,4 @@ use Rattle.rkyv_btree_plain.proofs.archived_plain.ArchivedPlainInPlace.read.Goal
 pub from_bytes-requires-clause-value : goal.from_bytes-requires-clause-value
 from_bytes-requires-clause-value g c =
     let faithful = plain_faithful g.N.PartialEq.eq g.N.Ord.cmp g.N.Hash.hash_input g.N.PlainValue.lawful in
-    plain_is_value (plain_of g.N.PartialEq.eq g.N.Ord.cmp g.N.Hash.hash_input g.N.PlainValue.layout) c.args.bytes.now faithful.lawful c.requires.own
+    plain_is_value (plain_of g.N.PartialEq.eq g.N.Ord.cmp g.N.Hash.hash_input g.N.PlainValue.layout) c.args.bytes.now faithful.lawful c.requires.is_own

@@ -5,4 +5,4 @@ use Rattle.rkyv_btree_portable.specs.laws.Scalars.{bool_laws}
 use Rattle.rkyv_btree_portable.proofs.numbers.BoolInPlace.read.Goals as goal
 
 pub read-requires-clause-value : goal.read-requires-clause-value
-read-requires-clause-value c = plain_is_value boolean c.args.bytes.now bool_laws c.requires.own
+read-requires-clause-value c = plain_is_value boolean c.args.bytes.now bool_laws c.requires.is_own

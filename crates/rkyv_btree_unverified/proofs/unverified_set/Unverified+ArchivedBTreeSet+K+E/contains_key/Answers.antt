@@ -3,7 +3,7 @@ use Rattle.std.proofs.Common.{◌∙◌, ap, sym, is_some}
 use Rattle.rkyv_btree_unverified.proofs.Found.{passed_on, not_both}
 use Rattle.rkyv_btree_view.proofs.Lookups.{some_mapped}
 use Rattle.rkyv_btree_view.specs.Lookup.{found_at}
-use Rattle.rkyv_btree_view.specs.View.{reads}
+use Rattle.rkyv_btree_view.specs.View.{view_value}
 use Rattle.rkyv_btree_base.specs.Scalars.{unit_kind}
 use Rattle.rkyv_btree_unverified.proofs.unverified_set.Unverified+ArchivedBTreeSet+K+E.contains_key.Goals as goal
 
@@ -17,11 +17,11 @@ returns-in-Ok-clause-places g c =
 
 pub returns-in-Ok-clause-found : goal.returns-in-Ok-clause-found
 returns-in-Ok-clause-found g c m h =
-    c.is_some.ensures ∙ sym (some_mapped reads c.in-Ok.found) ∙ ap is_some (c.in-Ok.ensures.found m h)
-    ∙ some_mapped (λ x. x.0) (found_at g.K.Portable.kind unit_kind g.row.E c.args.self.buf.now c.args.self.pos (g.K.Portable.kind.order (reads c.args.key)))
+    c.is_some.ensures ∙ sym (some_mapped view_value c.in-Ok.found) ∙ ap is_some (c.in-Ok.ensures.found m h)
+    ∙ some_mapped (λ x. x.0) (found_at g.K.Portable.kind unit_kind g.row.E c.args.self.buf.now c.args.self.pos (g.K.Portable.kind.order (view_value c.args.key)))
 
 pub returns-in-Ok-clause-sorted : goal.returns-in-Ok-clause-sorted
-returns-in-Ok-clause-sorted g c m h rises = c.is_some.ensures ∙ sym (some_mapped reads c.in-Ok.found) ∙ ap is_some (c.in-Ok.ensures.sorted m h rises)
+returns-in-Ok-clause-sorted g c m h rises = c.is_some.ensures ∙ sym (some_mapped view_value c.in-Ok.found) ∙ ap is_some (c.in-Ok.ensures.sorted m h rises)
 
 pub returns-in-Ok-clause-all_refused : goal.returns-in-Ok-clause-all_refused
 returns-in-Ok-clause-all_refused g c e h = not_both c.in-Ok.found _ e (c.in-Ok.ensures.all_refused e h)

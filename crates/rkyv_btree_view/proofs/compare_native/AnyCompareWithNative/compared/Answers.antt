@@ -1,4 +1,4 @@
--- What a look-up asks of a native comparison.
+-- What a lookup asks of a native comparison.
 use Rattle.std.proofs.Common.{rules}
 use Rattle.rkyv_btree_view.proofs.compare_native.AnyCompareWithNative.compared.Goals as goal
 

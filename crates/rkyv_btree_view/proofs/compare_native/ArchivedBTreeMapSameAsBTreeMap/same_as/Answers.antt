@@ -11,5 +11,5 @@ returns g c =
     let K = g.K.Portable.kind in let V = g.V.Portable.kind in
     let k = g.met.K.SameAs.tests in let v = g.met.V.SameAs.tests in
     let b = c.args.view.now.buf.now in
-    c.eq_map.ensures.same k.same v.same k.reads v.reads
-    ∙ sym (places_tested K V g.row.E k.same v.same k.reads v.reads b (list (map_tree (layout_of K V g.row.E) b c.args.view.now.pos)) c.args.native.now.entries)
+    c.eq_map.ensures.same k.same v.same k.by_value v.by_value
+    ∙ sym (places_tested K V g.row.E k.same v.same k.by_value v.by_value b (list (map_tree (layout_of K V g.row.E) b c.args.view.now.pos)) c.args.native.now.entries)

@@ -15,6 +15,6 @@ returns g c =
     let k = g.met.K.SameAs.tests in
     let view = c.args.view.now in
     let keys = c.args.native.now.keys in
-    c.eq_set.ensures.same k.same k.reads
+    c.eq_set.ensures.same k.same k.by_value
     ∙ sym (units_tested k.same (entries_of K unit_kind g.row.E view) keys)
-    ∙ sym (places_tested K unit_kind g.row.E k.same (λ x n. true) k.reads (λ n b at. refl) view.buf.now (list (map_tree (layout_of K unit_kind g.row.E) view.buf.now view.pos)) (with_units keys))
+    ∙ sym (places_tested K unit_kind g.row.E k.same (λ x n. true) k.by_value (λ n b at. refl) view.buf.now (list (map_tree (layout_of K unit_kind g.row.E) view.buf.now view.pos)) (with_units keys))

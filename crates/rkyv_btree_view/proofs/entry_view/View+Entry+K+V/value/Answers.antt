@@ -1,4 +1,4 @@
--- A value stands behind its key.
+-- A value stands after its key.
 use Rattle.rkyv_btree_base.specs.laws.EntryLaws.{value_stands}
 use Rattle.rkyv_btree_view.proofs.entry_view.View+Entry+K+V.value.Goals as goal
 

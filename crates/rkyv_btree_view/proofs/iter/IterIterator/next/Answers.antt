@@ -3,7 +3,7 @@ use Rattle.std.proofs.Common.{◌∷◌, ◌∙◌, map, sym, ap}
 use Rattle.rkyv_btree_base.specs.Layout.{layout_of}
 use Rattle.rkyv_btree_base.specs.Read.{entry_at}
 use Rattle.rkyv_btree_view.proofs.Remaining.{end_taken, remaining_is, shorter}
-use Rattle.rkyv_btree_view.specs.View.{reads_both}
+use Rattle.rkyv_btree_view.specs.View.{view_entry}
 use Rattle.rkyv_btree_walk.specs.mirror.Along.{walk_left}
 use Rattle.rkyv_btree_view.proofs.iter.IterIterator.next.Goals as goal
 use mathlib.Core.Logic.{∥∥₁_map}
@@ -27,7 +27,7 @@ returns-clause-steps g c =
     let left = means (walk_left (layout_of K V E) b c.step.new.walk) in
     remaining_is K V E b self.pos self.walk self.walks self.ends ∙ ap means c.in_ok-place.ensures.takes
     ∙ ap (λ e. e ∷ left) (sym c.entry.ensures)
-    ∙ ap (λ rest. reads_both c.entry.result ∷ rest) (sym (remaining_is K V E b self.pos c.step.new.walk c.step.ensures.walks ends))
+    ∙ ap (λ rest. view_entry c.entry.result ∷ rest) (sym (remaining_is K V E b self.pos c.step.new.walk c.step.ensures.walks ends))
 
 pub returns-clause-goes : goal.returns-clause-goes
 returns-clause-goes g c = record { on = λ _. (tt, tt, shorter _ _ _ (returns-clause-steps g c)); keeps = tt; rests = λ _. tt }

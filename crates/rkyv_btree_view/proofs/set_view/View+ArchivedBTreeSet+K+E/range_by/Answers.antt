@@ -5,7 +5,7 @@ use Rattle.std.specs.Range.Bound.{bound_map}
 use Rattle.rkyv_btree_base.specs.Scalars.{unit_kind}
 use Rattle.rkyv_btree_view.specs.Keys.{range_keys_left}
 use Rattle.rkyv_btree_view.specs.Range.{range_left}
-use Rattle.rkyv_btree_view.specs.View.{reads, entries_of}
+use Rattle.rkyv_btree_view.specs.View.{view_value, entries_of}
 use Rattle.rkyv_btree_view.proofs.Drained.{drained}
 use Rattle.rkyv_btree_view.proofs.LookedUp.{natives_agree}
 use Rattle.rkyv_btree_view.proofs.Ordered.{keys_ordered, natives_alike}
@@ -14,7 +14,7 @@ use Rattle.rkyv_btree_view.specs.Set.{keys_of}
 use Rattle.rkyv_btree_view.proofs.set_view.View+ArchivedBTreeSet+K+E.range_by.Goals as goal
 
 pub returns-clause-yields : goal.returns-clause-yields
-returns-clause-yields g c = λ items all. drained reads range_keys_left _ items all
+returns-clause-yields g c = λ items all. drained view_value range_keys_left _ items all
 
 pub returns-clause-run : goal.returns-clause-run
 returns-clause-run g c =

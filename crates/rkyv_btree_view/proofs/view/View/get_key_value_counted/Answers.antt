@@ -2,13 +2,13 @@
 use Rattle.std.proofs.Common.{◌∙◌, ◌+◌, ap, arith, refl, rules}
 use Rattle.rkyv_btree_base.specs.Map.{map_kind}
 use Rattle.rkyv_btree_base.specs.laws.Views.{fitting_of}
-use Rattle.rkyv_btree_walk.specs.mirror.Search.{answers_at}
-use Rattle.rkyv_btree_walk.proofs.Roots.{map_asked_bound}
+use Rattle.rkyv_btree_walk.specs.mirror.Search.{comparison_at}
+use Rattle.rkyv_btree_walk.proofs.Roots.{map_compared_bound}
 use Rattle.rkyv_btree_view.proofs.Lookups.{count_room}
 use Rattle.std.specs.Option.{option_map}
 use Rattle.rkyv_btree_base.specs.Read.{entry_at}
 use Rattle.rkyv_btree_view.proofs.LookedUp.{found_member, found_complete, found_is}
-use Rattle.rkyv_btree_view.specs.View.{reads_both}
+use Rattle.rkyv_btree_view.specs.View.{view_entry}
 use Rattle.rkyv_btree_view.proofs.view.View.get_key_value_counted.Goals as goal
 
 pub add-requires : goal.add-requires
@@ -23,9 +23,9 @@ pub returns-clause-few : goal.returns-clause-few
 returns-clause-few g c f p =
     let K = g.K.Portable.kind in let V = g.V.Portable.kind in let E = g.M.ArchivedMap.E in
     let b = c.args.self.buf.now in
-    let bound = map_asked_bound K V E g.met.K.Portable.laws g.met.V.Portable.laws b c.args.self.pos c.opened.ensures (answers_at K V E b (f c.args.key.now)) in
-    let asked = ap (λ r. r.1) (c.search-found.ensures.found f (λ q w r e. let by = p q w in search rules)) in
-    omega (arith, bound, asked, c.add.ensures)
+    let bound = map_compared_bound K V E g.met.K.Portable.laws g.met.V.Portable.laws b c.args.self.pos c.opened.ensures (comparison_at K V E b (f c.args.key.now)) in
+    let compared = ap (λ r. r.1) (c.search-found.ensures.found f (λ q w r e. let by = p q w in search rules)) in
+    omega (arith, bound, compared, c.add.ensures)
 
 pub returns-clause-found : goal.returns-clause-found
 returns-clause-found g c f p =
@@ -33,12 +33,12 @@ returns-clause-found g c f p =
     c.entry_found.ensures ∙ ap (λ r. option_map (entry_at g.K.Portable.kind g.V.Portable.kind g.M.ArchivedMap.E c.args.self.buf.now) r.0) found
 
 pub returns-clause-member : goal.returns-clause-member
-returns-clause-member g c f p = found_member g.K.Portable.kind g.V.Portable.kind g.M.ArchivedMap.E c.args.self.buf.now c.args.self.pos (f c.args.key.now) reads_both _ (returns-clause-found g c f p)
+returns-clause-member g c f p = found_member g.K.Portable.kind g.V.Portable.kind g.M.ArchivedMap.E c.args.self.buf.now c.args.self.pos (f c.args.key.now) view_entry _ (returns-clause-found g c f p)
 
 pub returns-clause-complete : goal.returns-clause-complete
-returns-clause-complete g c f p = found_complete g.K.Portable.kind g.V.Portable.kind g.M.ArchivedMap.E c.args.self.buf.now c.args.self.pos (f c.args.key.now) reads_both _ (returns-clause-found g c f p)
+returns-clause-complete g c f p = found_complete g.K.Portable.kind g.V.Portable.kind g.M.ArchivedMap.E c.args.self.buf.now c.args.self.pos (f c.args.key.now) view_entry _ (returns-clause-found g c f p)
 
 pub returns-clause-sorted : goal.returns-clause-sorted
 returns-clause-sorted g c f p = λ cut rises.
-    let answer = f c.args.key.now in
-    returns-clause-found g c f p ∙ found_is g.K.Portable.kind g.V.Portable.kind g.M.ArchivedMap.E c.args.self.buf.now c.args.self.pos rises answer answer cut (λ p. refl)
+    let comparison = f c.args.key.now in
+    returns-clause-found g c f p ∙ found_is g.K.Portable.kind g.V.Portable.kind g.M.ArchivedMap.E c.args.self.buf.now c.args.self.pos rises comparison comparison cut (λ p. refl)

@@ -3,7 +3,7 @@ use Rattle.std.proofs.Common.{◌∙◌, ap, refl, rules}
 use Rattle.std.specs.Option.{option_map}
 use Rattle.rkyv_btree_base.specs.Read.{entry_at}
 use Rattle.rkyv_btree_view.proofs.LookedUp.{found_member, found_complete, found_is}
-use Rattle.rkyv_btree_view.specs.View.{reads_both}
+use Rattle.rkyv_btree_view.specs.View.{view_entry}
 use Rattle.rkyv_btree_view.proofs.view.View.get_key_value_with.Goals as goal
 
 pub returns-clause-found : goal.returns-clause-found
@@ -12,12 +12,12 @@ returns-clause-found g c f p =
     c.entry_found.ensures ∙ ap (λ r. option_map (entry_at g.K.Portable.kind g.V.Portable.kind g.M.ArchivedMap.E c.args.self.buf.now) r.0) found
 
 pub returns-clause-member : goal.returns-clause-member
-returns-clause-member g c f p = found_member g.K.Portable.kind g.V.Portable.kind g.M.ArchivedMap.E c.args.self.buf.now c.args.self.pos (f c.args.key.now) reads_both _ (returns-clause-found g c f p)
+returns-clause-member g c f p = found_member g.K.Portable.kind g.V.Portable.kind g.M.ArchivedMap.E c.args.self.buf.now c.args.self.pos (f c.args.key.now) view_entry _ (returns-clause-found g c f p)
 
 pub returns-clause-complete : goal.returns-clause-complete
-returns-clause-complete g c f p = found_complete g.K.Portable.kind g.V.Portable.kind g.M.ArchivedMap.E c.args.self.buf.now c.args.self.pos (f c.args.key.now) reads_both _ (returns-clause-found g c f p)
+returns-clause-complete g c f p = found_complete g.K.Portable.kind g.V.Portable.kind g.M.ArchivedMap.E c.args.self.buf.now c.args.self.pos (f c.args.key.now) view_entry _ (returns-clause-found g c f p)
 
 pub returns-clause-sorted : goal.returns-clause-sorted
 returns-clause-sorted g c f p = λ cut rises.
-    let answer = f c.args.key.now in
-    returns-clause-found g c f p ∙ found_is g.K.Portable.kind g.V.Portable.kind g.M.ArchivedMap.E c.args.self.buf.now c.args.self.pos rises answer answer cut (λ p. refl)
+    let comparison = f c.args.key.now in
+    returns-clause-found g c f p ∙ found_is g.K.Portable.kind g.V.Portable.kind g.M.ArchivedMap.E c.args.self.buf.now c.args.self.pos rises comparison comparison cut (λ p. refl)

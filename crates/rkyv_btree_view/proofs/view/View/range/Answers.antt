@@ -1,7 +1,7 @@
 -- All items of the iterator are all that is left of its walk; and keys compare as what their views read.
 use Rattle.std.proofs.Common.{refl, rules}
 use Rattle.rkyv_btree_view.specs.Range.{range_left}
-use Rattle.rkyv_btree_view.specs.View.{reads, reads_both, entries_of}
+use Rattle.rkyv_btree_view.specs.View.{view_value, view_entry, entries_of}
 use Rattle.rkyv_btree_view.proofs.Bounds.{within_referred}
 use Rattle.rkyv_btree_view.proofs.Drained.{drained}
 use Rattle.rkyv_btree_view.proofs.Ordered.{entries_ordered}
@@ -9,16 +9,16 @@ use Rattle.rkyv_btree_view.specs.laws.Cuts.{order_cuts}
 use Rattle.rkyv_btree_view.proofs.view.View.range.Goals as goal
 
 pub returns-clause-yields : goal.returns-clause-yields
-returns-clause-yields g c = λ items all. drained reads_both range_left _ items all
+returns-clause-yields g c = λ items all. drained view_entry range_left _ items all
 
 pub returns-clause-within : goal.returns-clause-within
 returns-clause-within g c low high =
     let K = g.K.Portable.kind in
-    let within = c.start_between.ensures.within (λ q x. K.order (reads q) x) (λ q w r e. search rules) in
-    (within_referred (λ q. K.order (reads q)) c.as_ref-low.result c.as_ref-high.result c.args.low c.args.high _ _ c.as_ref-low.ensures c.as_ref-high.ensures within low high)
+    let within = c.start_between.ensures.within (λ q x. K.order (view_value q) x) (λ q w r e. search rules) in
+    (within_referred (λ q. K.order (view_value q)) c.as_ref-low.result c.as_ref-high.result c.args.low c.args.high _ _ c.as_ref-low.ensures c.as_ref-high.ensures within low high)
 
 pub returns-clause-sorted : goal.returns-clause-sorted
 returns-clause-sorted g c rises =
     let K = g.K.Portable.kind in
-    let ordered = entries_ordered K.order (entries_of K g.V.Portable.kind g.M.ArchivedMap.E c.args.self) rises (λ q. K.order (reads q)) (λ q. K.order (reads q)) (λ q. order_cuts g.met.K.ViewOrd.total (reads q)) (λ q i d less. refl) in
+    let ordered = entries_ordered K.order (entries_of K g.V.Portable.kind g.M.ArchivedMap.E c.args.self) rises (λ q. K.order (view_value q)) (λ q. K.order (view_value q)) (λ q. order_cuts g.met.K.ViewOrd.total (view_value q)) (λ q i d less. refl) in
     returns-clause-within g c (ordered c.args.low) (ordered c.args.high)

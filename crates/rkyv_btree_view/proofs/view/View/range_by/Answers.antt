@@ -1,7 +1,7 @@
 -- All items of the iterator are all that is left of its walk; and a native value compares as at the positions of keys.
 use Rattle.std.proofs.Common.{rules}
 use Rattle.rkyv_btree_view.specs.Range.{range_left}
-use Rattle.rkyv_btree_view.specs.View.{reads_both, entries_of}
+use Rattle.rkyv_btree_view.specs.View.{view_entry, entries_of}
 use Rattle.rkyv_btree_view.proofs.Bounds.{within_referred}
 use Rattle.rkyv_btree_view.proofs.Drained.{drained}
 use Rattle.rkyv_btree_view.proofs.LookedUp.{natives_agree}
@@ -9,7 +9,7 @@ use Rattle.rkyv_btree_view.proofs.Ordered.{entries_ordered, natives_alike}
 use Rattle.rkyv_btree_view.proofs.view.View.range_by.Goals as goal
 
 pub returns-clause-yields : goal.returns-clause-yields
-returns-clause-yields g c = λ items all. drained reads_both range_left _ items all
+returns-clause-yields g c = λ items all. drained view_entry range_left _ items all
 
 pub returns-clause-within : goal.returns-clause-within
 returns-clause-within g c f p low high =

@@ -2,7 +2,7 @@
 -- of references is the bound of what they refer to.
 use Rattle.std.proofs.Common.{◌∙◌, rules}
 use Rattle.rkyv_btree_view.specs.Range.{range_left}
-use Rattle.rkyv_btree_view.specs.View.{reads_both, entries_of}
+use Rattle.rkyv_btree_view.specs.View.{view_entry, entries_of}
 use Rattle.rkyv_btree_view.proofs.Bounds.{within_referred, unbounded_referred}
 use Rattle.rkyv_btree_view.proofs.Drained.{drained}
 use Rattle.rkyv_btree_view.proofs.LookedUp.{natives_agree}
@@ -10,7 +10,7 @@ use Rattle.rkyv_btree_view.proofs.Ordered.{entries_ordered, natives_alike}
 use Rattle.rkyv_btree_view.proofs.view.View.range_of.Goals as goal
 
 pub returns-clause-yields : goal.returns-clause-yields
-returns-clause-yields g c = λ items all. drained reads_both range_left _ items all
+returns-clause-yields g c = λ items all. drained view_entry range_left _ items all
 
 pub returns-clause-whole : goal.returns-clause-whole
 returns-clause-whole g c known low high =

@@ -1,0 +1,51 @@
+use crate::error::Error;
+use crate::field::sealed::Query;
+use crate::field::{AsKey, Field};
+use crate::map::type_number;
+use crate::raw;
+
+/// Returns the value of a key in bytes that nobody has validated, as the archive of a map. The lookup validates what it reads.
+///
+/// On an archive that is what `Map::get` returns for the opened map. On other bytes a value that is found is valid and is beside an
+/// equal key, and `Ok(None)` doesn't mean that the key is absent.
+///
+/// # Errors
+///
+/// The first fault in what the lookup reads.
+///
+/// # Examples
+///
+/// ```
+/// let bytes = rkyv_btree::Builder::new().entry("apple", 3u32).entry("pear", 5).build()?;
+/// assert_eq!(rkyv_btree::find::<&str, u32>(&bytes, "pear")?, Some(5));
+/// assert_eq!(rkyv_btree::find::<&str, u32>(&bytes[..6], "pear").unwrap_err().code(), 1);
+/// # Ok::<(), rkyv_btree::Error>(())
+/// ```
+pub fn find<'a, K: Field<'a>, V: Field<'a>>(data: &'a [u8], key: impl AsKey<K>) -> Result<Option<V>, Error> {
+    let mut entry = raw::Entry::default();
+    let mut why = raw::Refusal::default();
+    let kind = type_number::<K, V>();
+    let code = match key.query() {
+        // SAFETY: pointer and length are those of one slice.
+        Query::Number(number) => unsafe {
+            raw::rkyv_btree_find_number(kind, data.as_ptr(), data.len(), number, &mut entry, &mut why)
+        },
+        // SAFETY: pointers and lengths are those of two slices, which are borrowed during the call.
+        Query::Text(text) => unsafe {
+            raw::rkyv_btree_find_text(
+                kind,
+                data.as_ptr(),
+                data.len(),
+                text.as_ptr(),
+                text.len(),
+                &mut entry,
+                &mut why,
+            )
+        },
+    };
+    match code {
+        raw::OK => Ok(Some(V::read(data, entry.value))),
+        raw::NOT_FOUND => Ok(None),
+        _ => Err(Error::refused(raw::Refusal { code, ..why })),
+    }
+}

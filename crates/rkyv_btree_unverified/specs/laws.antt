@@ -1,0 +1,2 @@
+-- Laws that types of this crate cite.
+pub mod Walked
