@@ -95,7 +95,7 @@ set style fill solid
 set logscale y
 set ylabel 'microseconds for a lookup, a process each'
 set key off
-plot '$work/rows' using 4:xtic(1)
+plot '$work/rows' using 4:xtic(1) title 'lookups'
 PLOT
     plot='![Microseconds for a lookup](peers.svg)'
 fi
@@ -105,7 +105,8 @@ fi
     printf '\n## Beside other files of keys and values\n\n'
     printf '`bench/peers.sh` measured this and wrote it: %s pairs of texts, keys sorted, in one run' "$count"
     printf ' on a machine with %s processors under a load of %s.\n' "$(nproc)" "$(cut -d ' ' -f 1 /proc/loadavg)"
-    printf 'A lookup is a process of its own, %s of them. That of `btreekv` reads and validates the whole archive; a lookup without validation is measured above.\n' "$lookups"
+    printf 'A lookup is a process of its own, %s of them. That of `btreekv` reads and validates the whole archive;' "$lookups"
+    printf ' a lookup without validation is measured above.\n'
     if [[ -n $started ]]; then printf 'A process of Python that does nothing took %s microseconds.\n' "$started"; fi
     if ((${#left_out[@]})); then printf 'Left out, because it is not installed: %s.\n' "$(IFS=,; echo "${left_out[*]}" | sed 's/,/, /g')"; fi
     printf '\n| | Bytes | Seconds to build | Microseconds a lookup |\n|---|---|---|---|\n'
