@@ -15,9 +15,6 @@ byte_more old bytes out new x before is =
     is ∙ (ap (λ (z : List ℕ). z ++ escaped x) before
     ∙ (append_assoc old (34 ∷ flat_map escaped bytes) (escaped x) ∙ ap (λ (z : List ℕ). old ++ 34 ∷ z) (sym (flat_push escaped bytes x))))
 
-pub string_end : (old bytes out new : List ℕ) → out ≡ old ++ 34 ∷ flat_map escaped bytes → new ≡ out ++ 34 ∷ [] → new ≡ old ++ json_string bytes
-string_end old bytes out new before is = is ∙ (ap (λ (z : List ℕ). z ++ 34 ∷ []) before ∙ append_assoc old (34 ∷ flat_map escaped bytes) (34 ∷ []))
-
 -- what stands before the next member
 abbrev pub separator : List Entry → List ℕ
 separator [] = []

@@ -62,9 +62,6 @@ pub record ReadLines (bytes rest : List ℕ) (entries : List Entry) : Type 0 whe
   pub split : lines bytes ≡ before ++ lines rest
   pub good : AreEntries before entries
 
-pub none_read : (bytes : List ℕ) → ReadLines bytes bytes []
-none_read bytes = record { before = []; split = refl; good = tt }
-
 push_entry : (ls : List (List ℕ)) (xs : List Entry) (line : List ℕ) (x : Entry) → AreEntries ls xs → IsEntry line x → AreEntries (ls ++ line ∷ []) (xs ++ x ∷ [])
 push_entry [] [] line x h is = (is, tt)
 push_entry [] (y ∷ ys) line x h is = absurd h

@@ -4,7 +4,7 @@
 pub use rkyv_btree_base as base;
 pub use rkyv_btree_view::entry_view;
 
-/// Comparisons of views: those of what is read, wherever it stands.
+/// Comparisons of views by what they read.
 pub mod compare {
     pub use rkyv_btree_view::compare::{ViewEq, ViewHash, ViewOrd};
 }

@@ -230,17 +230,6 @@ module _ {M N : Type 0} (IsKey IsValue : List ℕ → BtreeItem → Type 0) (Giv
   }
 
   module _ {R S : Type 0} (KA : Archival M R) (VA : Archival N S) (cmp : M → M → Ordering) (order : Order) (entries : List BtreeEntry) where
-    pub ungiven : (fault : BuildFault) → IsUngiven IsKey IsValue texts entries fault → UnbuiltGiven IsKey IsValue GivesKey GivesValue texts order entries KA VA cmp fault
-    ungiven (BadItem index) h = h
-    ungiven (Unbuilt (Memory error)) h = tt
-    ungiven (Unbuilt (Length m)) h = absurd h
-    ungiven (Unbuilt LengthOverflow) h = absurd h
-    ungiven (Unbuilt PositionOverflow) h = absurd h
-    ungiven (Unbuilt OffsetOverflow) h = absurd h
-    ungiven (Unbuilt (Writer error)) h = absurd h
-    ungiven (Unbuilt (Entry f)) h = absurd h
-    ungiven (Unbuilt (OutOfOrder index)) h = absurd h
-
     pub unbuilt : (natives : List (M × N)) → Given entries natives → (fault : Fault AllocError) → NativeFault KA VA cmp order natives fault → UnbuiltGiven IsKey IsValue GivesKey GivesValue texts order entries KA VA cmp (Unbuilt fault)
     unbuilt natives are (Length m) h = (natives, are, h)
     unbuilt natives are LengthOverflow h = (natives, are, h)

@@ -7,7 +7,7 @@ use Rattle.rkyv_btree_base.specs.Views.{stands}
 use Rattle.rkyv_btree_base.specs.laws.Views.{fitting_of}
 use Rattle.rkyv_btree_base.proofs.MapLaws.{map_short}
 use Rattle.rkyv_btree_base.proofs.Sizes.{room_of}
-use Rattle.rkyv_btree_walk.specs.mirror.Below.{root_place, IsBelow, RunBelow}
+use Rattle.rkyv_btree_walk.specs.Below.{root_place, IsBelow, RunBelow}
 use Rattle.rkyv_btree_walk.specs.mirror.Node.{NodeStands, RunStands}
 use Rattle.rkyv_btree_walk.proofs.Below.{below_stands, place_stands}
 use Rattle.rkyv_btree_walk.proofs.Nodes.{tree_node}

@@ -1,21 +1,24 @@
 -- Nodes that pointers lead to, and cursors that are places in a map.
-use Rattle.std.proofs.Common.{◌≡◌, ℕ, zero, suc, ◌+◌, ◌≤◌, ◌<◌, ◌∙◌, List, [], ◌∷◌, ◌++◌, length, get_or, map, take, IfSome, refl, sym, ap, subst, arith, Option, Some, None}
+use Rattle.std.proofs.Common.{◌≡◌, ℕ, zero, suc, ◌+◌, ◌≤◌, ◌<◌, ◌∙◌, List, [], ◌∷◌, ◌++◌, length, get_or, map, take, IfSome, IsTrue, refl, sym, ap, subst, arith, Option, Some, None}
 use mathlib.Core.HLevel.{⊥_prop}
 use mathlib.Core.Logic.{∥∥₁_map, ∥∥₁_elim}
 use Rattle.std.proofs.Math.ListN.{get_or-map}
-use Rattle.std.proofs.lemmas.List.{get_or-take, map-append}
-use Rattle.rkyv_btree_base.specs.Kind.{Kind}
+use Rattle.std.proofs.lemmas.List.{get_or-take}
+use Rattle.rkyv_btree_base.specs.Kind.{Kind, IsLawful}
 use Rattle.rkyv_btree_base.specs.Layout.{NodeLayout, layout_of}
-use Rattle.rkyv_btree_walk.specs.Bounds.{IsRun}
-use Rattle.rkyv_btree_walk.specs.mirror.Along.{IsRangeWalk, range_left}
-use Rattle.rkyv_btree_walk.specs.mirror.Below.{root_place, IsBelow, PathBelow, RunBelow, WalkBelow}
-use Rattle.rkyv_btree_walk.specs.mirror.Node.{child_place}
+use Rattle.rkyv_btree_base.specs.Map.{map_kind}
+use Rattle.rkyv_btree_base.specs.Views.{stands}
+use Rattle.rkyv_btree_walk.proofs.Placed.{between_left}
+use Rattle.rkyv_btree_walk.specs.Remaining.{places_between}
+use Rattle.rkyv_btree_walk.specs.WalkBetween.{IsRangeWalk, IsWalkBetween, range_left}
+use Rattle.rkyv_btree_walk.specs.Below.{root_place, IsBelow, PathBelow, RunBelow, WalkBelow}
+use Rattle.rkyv_btree_walk.specs.Nodes.{child_place}
 use Rattle.rkyv_btree_ffi.specs.declared.cursor.BtreeCursor.{BtreeCursor}
 use Rattle.rkyv_btree_ffi.specs.declared.cursor.BtreeStep.{BtreeStep}
 use Rattle.rkyv_btree_walk.specs.declared.range_walk.RangeWalk.{RangeWalk}
-use Rattle.rkyv_btree_ffi.specs.mirror.Cursors.{IsKept, step_of}
-use Rattle.rkyv_btree_ffi.specs.mirror.Left.{cursor_places}
-use Rattle.rkyv_btree_ffi.specs.mirror.Places.{Leads, IsStep, IsPlaceOf, IsGood}
+use Rattle.rkyv_btree_ffi.specs.Cursors.{IsKept, step_of}
+use Rattle.rkyv_btree_ffi.specs.CursorEntries.{cursor_places}
+use Rattle.rkyv_btree_ffi.specs.CursorPlaces.{Leads, IsStep, IsPlaceOf, IsGood}
 
 module _ (s : NodeLayout) (b : List ℕ) where
   -- one pointer more
@@ -66,9 +69,9 @@ good_of K V b at w c walks kept deep =
 pub kept_left : (K V : Kind) (b : List ℕ) (w : RangeWalk) (c : BtreeCursor) → IsKept w c → range_left (layout_of K V 5) b w ≡ cursor_places K V b c
 kept_left K V b w c kept = rw (kept.node, kept.next, kept.end, kept.path, kept.stop) refl
 
--- a run of places is one of what is there
-pub run_mapped : {A B : Type 0} (f : A → B) (range all : List A) → IsRun range all → IsRun (map f range) (map f all)
-run_mapped f range all r = (map f r.0, map f r.1, ap (map f) r.2 ∙ (map-append f r.0 (range ++ r.1) ∙ ap (λ ys. map f r.0 ++ ys) (map-append f range r.1)))
+-- and what remains of it, between bounds of a map
+pub between_kept : (K V : Kind) → IsLawful K → IsLawful V → (b : List ℕ) (at : ℕ) → IsTrue (stands (map_kind K V 5) b at) → (w : RangeWalk) (c : BtreeCursor) → IsWalkBetween K V 5 b at w → IsKept w c → places_between K V 5 b at w ≡ cursor_places K V b c
+between_kept K V k v b at h w c is kept = between_left K V 5 k v b at h w is ∙ kept_left K V b w c kept
 
 -- none is, if it has no such numbers
 pub no_place : (K V : Kind) (b : List ℕ) (at : ℕ) (c : BtreeCursor) → (IsPlaceOf K V b at c → ⊥) → IsGood K V b at c → ⊥

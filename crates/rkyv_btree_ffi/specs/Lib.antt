@@ -1,6 +1,9 @@
 pub mod Batches
 pub mod Building
 pub mod Codes
+pub mod CursorEntries
+pub mod CursorPlaces
+pub mod Cursors
 pub mod Editing
 pub mod Entries
 pub mod Finding

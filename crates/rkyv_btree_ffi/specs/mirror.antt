@@ -1,4 +1,1 @@
-pub mod Cursors
-pub mod Left
 pub mod Natives
-pub mod Places

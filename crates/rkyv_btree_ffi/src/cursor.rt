@@ -4,11 +4,12 @@ ghost use Rattle.rkyv_btree_base.specs.Bytes.{place_at};
 ghost use Rattle.rkyv_btree_base.specs.Layout.{layout_of, are_fitting};
 ghost use Rattle.rkyv_btree_base.specs.Map.{map_kind};
 ghost use Rattle.rkyv_btree_base.specs.Views.{stands};
-ghost use Rattle.rkyv_btree_walk.specs.mirror.Along.{IsRangeWalk};
-ghost use Rattle.rkyv_btree_walk.specs.mirror.Below.{root_place, IsBelow, PathBelow, RunBelow};
-ghost use Rattle.rkyv_btree_walk.specs.mirror.Node.{natural, LeadsBefore, NodeStands, is_leaf as is_leaf_at, child_place, entry_count};
-ghost use Rattle.rkyv_btree_ffi.specs.mirror.Cursors.{path_of, step_of, stop_of, IsKept};
-ghost use Rattle.rkyv_btree_ffi.specs.mirror.Places.{IsInMap, Leads, IsStep, IsPathOf, IsGood};
+ghost use Rattle.rkyv_btree_walk.specs.WalkBetween.{IsRangeWalk};
+ghost use Rattle.rkyv_btree_walk.specs.Below.{root_place, IsBelow, PathBelow, RunBelow};
+ghost use Rattle.rkyv_btree_walk.specs.Nodes.{natural, is_leaf as is_leaf_at, child_place, entry_count};
+ghost use Rattle.rkyv_btree_walk.specs.mirror.Node.{LeadsBefore, NodeStands};
+ghost use Rattle.rkyv_btree_ffi.specs.Cursors.{path_of, step_of, stop_of, IsKept};
+ghost use Rattle.rkyv_btree_ffi.specs.CursorPlaces.{IsInMap, Leads, IsStep, IsPathOf, IsGood};
 
 use arrayvec::ArrayVec;
 use rkyv_btree_base::bytes::{num32, target};
@@ -27,11 +28,11 @@ pub struct BtreeStep {
     pub index: u32,
 }
 
-/// A place between two entries of a map. Where all numbers are 0, no entry is left.
+/// A place between two entries of a map. No entry is left if all numbers are 0.
 #[repr(C)]
 #[derive(Clone, Copy)]
 pub struct BtreeCursor {
-    /// Where the leaf is.
+    /// The position of the leaf.
     pub node: u32,
     /// The number of its next entry.
     pub next: u32,

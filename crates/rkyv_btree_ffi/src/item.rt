@@ -24,7 +24,7 @@ use std::cmp::Ordering;
 pub struct BtreeItem {
     /// The number. That of a text is 0.
     pub number: u64,
-    /// Where the text begins. That of a number is 0.
+    /// The position of the text, or 0 for a number.
     pub start: u32,
     /// How many bytes the text has. That of a number is 0.
     pub len: u32,

@@ -14,9 +14,9 @@ ghost use Rattle.std.specs.declared.ops.Bound.TheVariants.{Included, Unbounded};
 ghost use Rattle.rkyv_btree_ffi.specs.Batches.{AreShown, IsFoundAt};
 ghost use Rattle.rkyv_btree_ffi.specs.Entries.{comparison_with, by_number, by_text, FindsEntry, LooksUp, IsBatch, IsFrom};
 ghost use Rattle.rkyv_btree_ffi.specs.MapTypes.{type_of, kind_of, entries_at, IfType};
-ghost use Rattle.rkyv_btree_ffi.specs.mirror.Left.{cursor_places, cursor_entries, entries_left};
-ghost use Rattle.rkyv_btree_ffi.specs.mirror.Places.{IsGood, IsPlace};
-ghost use Rattle.rkyv_btree_walk.specs.mirror.Along.{range_left, IsRangeWalk};
+ghost use Rattle.rkyv_btree_ffi.specs.CursorEntries.{cursor_places, cursor_entries, entries_left};
+ghost use Rattle.rkyv_btree_ffi.specs.CursorPlaces.{IsGood, IsPlace};
+ghost use Rattle.rkyv_btree_walk.specs.WalkBetween.{range_left, IsRangeWalk};
 ghost use Rattle.rkyv_btree_base.specs.Layout.{layout_of};
 
 use crate::at_type;

@@ -1,20 +1,23 @@
 -- Cursors along a map whose values are written: the entry that is lent stands in the map, and a write leaves as much.
-use Rattle.std.proofs.Common.{◌≡◌, ℕ, zero, suc, ◌⊎◌, inl, inr, false, List, [], ◌∷◌, ◌++◌, length, refl, sym, ap, ◌∙◌, append_assoc, Option, Some, None, IsTrue, slice_get}
+use Rattle.std.proofs.Common.{◌≡◌, ℕ, zero, suc, ◌⊎◌, inl, inr, false, List, [], ◌∷◌, ◌++◌, length, refl, sym, ap, ◌∙◌, append_assoc, Option, Some, None, is_some, IsTrue, slice_get}
 use Rattle.std.specs.Option.{option_map}
 use Rattle.std.proofs.lemmas.Bool.{cases_Bool}
 use mathlib.Core.HLevel.{⊥_prop}
-use mathlib.Core.Logic.{∥∥₁_elim, ∥∥₁_map}
+use mathlib.Core.Logic.{∥∥₁_elim, ∥∥₁_map, ∥∥₁_prop}
 use Rattle.rkyv_btree_base.specs.Kind.{Kind, IsLawful}
 use Rattle.rkyv_btree_base.specs.Layout.{layout_of}
 use Rattle.rkyv_btree_base.specs.Map.{map_kind}
 use Rattle.rkyv_btree_base.specs.Read.{map_tree}
 use Rattle.rkyv_btree_base.specs.Views.{stands}
-use Rattle.rkyv_btree_walk.specs.mirror.Range.{is_stop}
-use Rattle.rkyv_btree_walk.proofs.BelowKept.{walk_kept, walk_rest_kept, range_rest_kept}
+use Rattle.rkyv_btree_walk.specs.Remaining.{is_stop}
+use Rattle.rkyv_btree_walk.specs.WalkBetween.{IsWalkBetween}
+use Rattle.rkyv_btree_walk.specs.Bounds.{IsEnd}
+use Rattle.rkyv_btree_walk.proofs.BelowKept.{walk_kept, walk_rest_kept, placed_kept}
 use Rattle.rkyv_btree_walk.proofs.Props.{places_had}
 use Rattle.rkyv_btree_walk.proofs.Ranges.{stop_same, stop_at}
 use Rattle.rkyv_btree_seal.specs.Along.{IsAmong, lent_list}
-use Rattle.rkyv_btree_walk.specs.mirror.Along.{walk_left, range_left, IsWalk, IsRangeWalk, Takes}
+use Rattle.rkyv_btree_seal.specs.Cursor.{Advances}
+use Rattle.rkyv_btree_walk.specs.mirror.Along.{walk_left, IsWalk, Takes}
 use Rattle.rkyv_btree_walk.specs.EntryPlaces.{place_of}
 use Rattle.rkyv_btree_walk.specs.EntryPlaces.{entry_places}
 use Rattle.rkyv_btree_walk.specs.declared.entry_place.EntryPlace.{EntryPlace}
@@ -61,6 +64,11 @@ pub among_takes : (all old new : List (ℕ × ℕ)) (lent : Option (ℕ × ℕ))
 among_takes all old new lent None h among = among_end all old new lent h.0 h.1 among
 among_takes all old new lent (Some p) h among = among_next all old new lent (place_of p) h among
 
+-- and what it has taken is its current entry
+pub taken_advances : (old new : List (ℕ × ℕ)) (taken : Option EntryPlace) → Takes old new taken → Advances old new (option_map place_of taken) (is_some taken)
+taken_advances old new None h = (h.0, h.1, refl)
+taken_advances old new (Some p) h = (place_of p, h, refl)
+
 -- what is lent is an entry of the list
 pub lent_is_entry : (all left : List (ℕ × ℕ)) (e : ℕ × ℕ) → ∥ IsAmong all (Some e) left ∥₁ → IsListed e all
 lent_is_entry all left e h = elim (told e all) [
@@ -83,13 +91,16 @@ module _ (K V : Kind) (E : ℕ) (k : IsLawful K) (v : IsLawful V) (b c : List �
     counted = is.counted ∙ ap length (sym (walk_left_kept w is));
   }
 
-  pub range_left_kept : (w : RangeWalk) → IsRangeWalk (layout_of K V E) b at w → range_left (layout_of K V E) c w ≡ range_left (layout_of K V E) b w
-  range_left_kept w is =
-      places_had (range_left (layout_of K V E) c w) (range_left (layout_of K V E) b w)
-      (∥∥₁_map is (λ below. sym (range_rest_kept K V E k v b c at h (sym same) w.part.node w.part.next w.part.end w.path.items below w.stop)))
+  -- and to the end of the list
+  pub ends_kept : (w : Walk) → IsWalk (layout_of K V E) b at w → ∥ IsEnd (walk_left (layout_of K V E) b w) (entry_places K V E b at) ∥₁ → ∥ IsEnd (walk_left (layout_of K V E) c w) (entry_places K V E c at) ∥₁
+  ends_kept w is ends = rw (same, walk_left_kept w is) ends
 
-  pub is_range_walk_kept : (w : RangeWalk) → IsRangeWalk (layout_of K V E) b at w → IsRangeWalk (layout_of K V E) c at w
-  is_range_walk_kept w is = ∥∥₁_map is (walk_kept K V E k v b c at h (sym same) w.part.node w.part.next w.part.end w.path.items)
+  -- so it is with a walk between bounds
+  pub between_kept : (w : RangeWalk) → IsWalkBetween K V E b at w → IsWalkBetween K V E c at w
+  between_kept w is = record {
+    nodes = ∥∥₁_map is.nodes (walk_kept K V E k v b c at h (sym same) w.part.node w.part.next w.part.end w.path.items);
+    placed = rw same (∥∥₁_elim is.nodes ∥∥₁_prop (λ below. ∥∥₁_map is.placed (placed_kept K V E k v b c at h (sym same) w.part.node w.part.next w.part.end w.path.items below (entry_places K V E b at) w.stop)));
+  }
 
   -- and a cursor with as much left stands among the same entries
   pub among_kept : (lent : Option (ℕ × ℕ)) (new old : List (ℕ × ℕ)) → new ≡ old → ∥ IsAmong (entry_places K V E b at) lent old ∥₁ → ∥ IsAmong (entry_places K V E c at) lent new ∥₁

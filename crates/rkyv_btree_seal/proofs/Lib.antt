@@ -4,7 +4,6 @@ pub mod Same
 pub mod Kept
 pub mod Trees
 pub mod Maps
-pub mod Pairs
 pub mod Apart
 pub mod Lending
 pub mod Standing

@@ -12,7 +12,8 @@ use Rattle.rkyv_btree_base.specs.Map.{map_kind}
 use Rattle.rkyv_btree_base.specs.Read.{run, child_of, row_at, tree_at, tree_of}
 use Rattle.rkyv_btree_base.specs.Tree.{list, child_list, row_list}
 use Rattle.rkyv_btree_base.specs.Views.{stands}
-use Rattle.rkyv_btree_walk.specs.mirror.Node.{natural, is_leaf, NodeStands, RunStands, TreeStands}
+use Rattle.rkyv_btree_walk.specs.Nodes.{natural, is_leaf}
+use Rattle.rkyv_btree_walk.specs.mirror.Node.{NodeStands, RunStands, TreeStands}
 use Rattle.rkyv_btree_base.proofs.MapLaws.{map_length}
 use Rattle.rkyv_btree_walk.proofs.Nodes.{tree_node, child_stands}
 use Rattle.rkyv_btree_walk.proofs.Paths.{leaf_run, inner_run}

@@ -1,15 +1,11 @@
 -- That a value of a map shares no byte with another value, with a key, or with what a walk reads of an entry's node.
-use Rattle.std.specs.Prelude.{◌≡◌, ◌≢◌, ℕ, ◌+◌, List, Some, slice_get, slice_index, nat_eq, if◌then◌else◌}
+use Rattle.std.specs.Prelude.{◌≡◌, ◌≢◌, ℕ, ◌+◌, List, Some, slice_get}
 use Rattle.rkyv_btree_base.specs.Claims.{Range, Apart}
 use Rattle.rkyv_btree_base.specs.Kind.{Kind}
-use Rattle.rkyv_btree_base.specs.Layout.{NodeLayout, layout_of, len_at, leaf_size, inner_size}
+use Rattle.rkyv_btree_base.specs.Layout.{layout_of, len_at}
 use Rattle.rkyv_btree_base.specs.Spells.{Accepted}
 use Rattle.rkyv_btree_seal.specs.Put.{key_place, value_place}
-use Rattle.rkyv_btree_walk.specs.EntryPlaces.{entry_places}
-
--- the size of the node at a position
-abbrev pub size_at : NodeLayout → List ℕ → ℕ → ℕ
-size_at s b p = if nat_eq (slice_index b p) 0 then leaf_size s else inner_size s
+use Rattle.rkyv_btree_walk.specs.EntryPlaces.{entry_places, size_at}
 
 module _ (K V : Kind) (E : ℕ) where
   -- the own bytes of an entry's key, and of its value

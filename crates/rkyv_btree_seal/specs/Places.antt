@@ -11,7 +11,6 @@ use Rattle.rkyv_btree_base.specs.Read.{entry_at, map_tree, read_map}
 use Rattle.rkyv_btree_base.specs.Spells.{Accepted}
 use Rattle.rkyv_btree_seal.specs.Put.{put_bytes, put_value, key_place, value_place}
 use Rattle.rkyv_btree_walk.specs.EntryPlaces.{entry_places}
-use Rattle.rkyv_btree_walk.specs.declared.entry_place.EntryPlace.{EntryPlace}
 use Rattle.rkyv_btree_walk.specs.Search.{IsSearch, probe}
 
 module _ (K V : Kind) (E : ℕ) (b : List ℕ) (at : ℕ) where

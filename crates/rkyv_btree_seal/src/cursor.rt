@@ -6,6 +6,7 @@ ghost use Rattle.rkyv_btree_base.specs.Layout.{layout_of};
 ghost use Rattle.rkyv_btree_base.specs.Views.{stands};
 ghost use Rattle.rkyv_btree_seal.specs.Along.{IsAmong};
 ghost use Rattle.rkyv_btree_walk.specs.mirror.Along.{walk_left, IsWalk, Takes};
+ghost use Rattle.rkyv_btree_walk.specs.Bounds.{IsEnd};
 ghost use Rattle.rkyv_btree_seal.specs.Places.{ShowsEntry, PutsEntry};
 ghost use Rattle.rkyv_btree_walk.specs.EntryPlaces.{place_of};
 ghost use Rattle.rkyv_btree_seal.specs.Put.{key_place, value_place};
@@ -34,6 +35,9 @@ pub struct IterSeal<'a, M: ArchivedMap> {
     ghost among: { ∥ IsAmong (entry_places M.Key.kind M.Mapped.kind M.E buf.now pos)
         (option_map place_of lent)
         (walk_left (layout_of M.Key.kind M.Mapped.kind M.E) buf.now walk) ∥₁ },
+    ghost ends: { let s = layout_of M.Key.kind M.Mapped.kind M.E in
+        ∥ IsEnd (walk_left s buf.now walk)
+        (entry_places M.Key.kind M.Mapped.kind M.E buf.now pos) ∥₁ },
 }
 
 /// Lends the values of a map in the order of its entries, each until the next call: the cursor along the entries, whose

@@ -8,8 +8,8 @@ ghost use Rattle.rkyv_btree_seal.specs.Put.{WritesValues};
 use rkyv_btree_base::check::Portable;
 
 /// Where values lie in their own bytes alone, each value of a map may be written over by other own bytes. The buffer
-/// then has the map with that one value put in: keys and other values are as they were, and all entries stand where
-/// they stood, so that further writes may follow.
+/// then has the map with that one value put in: keys and other values are as they were, and all entries have the
+/// places that they had, so that further writes may follow.
 pub fn writes_put_values<K: Portable, V: Portable, const E: usize>()
     requires { IsTrue (are_fitting K.kind V.kind E) }
     ensures { LiesAlone V.kind → WritesValues K.kind V.kind E }

@@ -9,7 +9,9 @@ ghost use Rattle.rkyv_btree_base.specs.Layout.{layout_of};
 ghost use Rattle.rkyv_btree_base.specs.Read.{entry_at, read_map};
 ghost use Rattle.rkyv_btree_base.specs.Views.{stands};
 ghost use Rattle.rkyv_btree_seal.specs.Along.{IsAmong};
-ghost use Rattle.rkyv_btree_walk.specs.mirror.Along.{range_left, IsRangeWalk, Takes};
+ghost use Rattle.rkyv_btree_walk.specs.Remaining.{places_between};
+ghost use Rattle.rkyv_btree_walk.specs.WalkBetween.{IsWalkBetween};
+ghost use Rattle.rkyv_btree_walk.specs.mirror.Along.{Takes};
 ghost use Rattle.rkyv_btree_seal.specs.Places.{ShowsEntry, PutsEntry};
 ghost use Rattle.rkyv_btree_walk.specs.EntryPlaces.{place_of};
 ghost use Rattle.rkyv_btree_seal.specs.Put.{key_place, value_place};
@@ -42,10 +44,10 @@ pub struct RangeSeal<'a, M: ArchivedMap> {
     lent: Option<EntryPlace>,
     of: PhantomData<M>,
     ghost valid: { IsTrue (stands M.kind buf.now pos) },
-    ghost walks: { IsRangeWalk (layout_of M.Key.kind M.Mapped.kind M.E) buf.now pos walk },
+    ghost walks: { IsWalkBetween M.Key.kind M.Mapped.kind M.E buf.now pos walk },
     ghost among: { ∥ IsAmong (entry_places M.Key.kind M.Mapped.kind M.E buf.now pos)
         (option_map place_of lent)
-        (range_left (layout_of M.Key.kind M.Mapped.kind M.E) buf.now walk) ∥₁ },
+        (places_between M.Key.kind M.Mapped.kind M.E buf.now pos walk) ∥₁ },
 }
 
 /// Takes the next entry of the map at `pos` before the stop, and returns its place, or `None` if no entry remains.
@@ -58,34 +60,33 @@ fn step_in<K: Portable, V: Portable, M: ArchivedMap<Key = K, Mapped = V>>(
     walk: &mut RangeWalk,
 ) -> Option<EntryPlace>
     requires stands { IsTrue (stands M.kind buf.old pos) }
-    requires walks { IsRangeWalk (layout_of K.kind V.kind M.E) buf.old pos walk.old }
+    requires walks { IsWalkBetween K.kind V.kind M.E buf.old pos walk.old }
     ensures same { buf.new ≡ buf.old }
-    ensures walks { IsRangeWalk (layout_of K.kind V.kind M.E) buf.old pos walk.new }
-    ensures takes { let s = layout_of K.kind V.kind M.E in
-        Takes (range_left s buf.old walk.old) (range_left s buf.old walk.new) result }
+    ensures walks { IsWalkBetween K.kind V.kind M.E buf.old pos walk.new }
+    ensures takes { Takes (places_between K.kind V.kind M.E buf.old pos walk.old)
+        (places_between K.kind V.kind M.E buf.old pos walk.new) result }
 {
+    M::opened(buf, pos);
     step_before::<K, V, M>(buf, pos, walk)
 }
 
 impl<'a, K: Portable, V: InPlace, M: ArchivedMap<Key = K, Mapped = V>> RangeSeal<'a, M> {
     ghost use Rattle.rkyv_btree_seal.specs.Cursor.{range_remaining_places, range_remaining_entries, range_current_place, Advances, SameBuffer};
 
-    /// Returns the cursor before the first entry of a walk between bounds, of the map at position `pos` of `buf`. The caller owes
-    /// that a map stands there, and that the walk is one of it, as `MapSeal::walk_between` gives it. It takes no memory.
+    /// Returns the cursor before the first entry of a walk between bounds, of the map at position `pos` of `buf`. Requires that the
+    /// bytes mean a map, and that `MapSeal::walk_between` returned the walk for it. No memory is allocated.
     pub fn over(buf: &'a mut [u8], pos: u32, walk: RangeWalk) -> RangeSeal<'a, M>
         requires stands { IsTrue (stands M.kind buf.old pos) }
-        requires walks { IsRangeWalk (layout_of K.kind V.kind M.E) buf.old pos walk }
-        requires run { IsRun (range_left (layout_of K.kind V.kind M.E) buf.old walk)
-            (entry_places K.kind V.kind M.E buf.old pos) }
+        requires walks { IsWalkBetween K.kind V.kind M.E buf.old pos walk }
         ensures same_reference { result.buf.ghost_name ≡ buf.entry.ghost_name }
         ensures buffer { result.buf.now ≡ buf.entry.now }
         ensures position { result.pos ≡ pos }
         ensures current { range_current_place result ≡ None }
         ensures places { range_remaining_places result
-            ≡ range_left (layout_of K.kind V.kind M.E) buf.entry.now walk }
+            ≡ places_between K.kind V.kind M.E buf.entry.now pos walk }
         ensures entries { range_remaining_entries result
             ≡ map (entry_at K.kind V.kind M.E buf.entry.now)
-            (range_left (layout_of K.kind V.kind M.E) buf.entry.now walk) }
+            (places_between K.kind V.kind M.E buf.entry.now pos walk) }
     {
         RangeSeal {
             buf,
@@ -261,19 +262,19 @@ impl<'a, K: Portable, V: InPlace, M: ArchivedMap<Key = K, Mapped = V>> MapSeal<'
         cmp: C,
     ) -> RangeWalk
         requires { C.IsAlwaysCallable cmp }
-        ensures walks { IsRangeWalk (layout_of K.kind V.kind M.E) self.now.buf.now self.now.pos
-            result }
-        ensures run { IsRun (range_left (layout_of K.kind V.kind M.E) self.now.buf.now result)
+        ensures walks { IsWalkBetween K.kind V.kind M.E self.now.buf.now self.now.pos result }
+        ensures run { IsRun
+            (places_between K.kind V.kind M.E self.now.buf.now self.now.pos result)
             (entry_places K.kind V.kind M.E self.now.buf.now self.now.pos) }
         ensures whole { low.entry ≡ Unbounded → high.entry ≡ Unbounded
             → map (entry_at K.kind V.kind M.E self.now.buf.now)
-            (range_left (layout_of K.kind V.kind M.E) self.now.buf.now result)
+            (places_between K.kind V.kind M.E self.now.buf.now self.now.pos result)
             ≡ read_map K.kind V.kind M.E self.now.buf.now self.now.pos }
         ensures within { ByBounds (C.post cmp) (shown_value K.kind W.Shows) low.entry high.entry (λ lo hi.
             OrderedFor lo (read_map K.kind V.kind M.E self.now.buf.now self.now.pos) →
             OrderedFor hi (read_map K.kind V.kind M.E self.now.buf.now self.now.pos) →
             map (entry_at K.kind V.kind M.E self.now.buf.now)
-            (range_left (layout_of K.kind V.kind M.E) self.now.buf.now result)
+            (places_between K.kind V.kind M.E self.now.buf.now self.now.pos result)
             ≡ entries_within lo hi (read_map K.kind V.kind M.E self.now.buf.now self.now.pos)) }
     {
         start_between::<Q, K, V, M, W, C>(self.buf, self.pos, low, high, &cmp)

@@ -15,7 +15,7 @@ use rkyv_btree_walk::entry_place::EntryPlace;
 use rkyv_btree_walk::node::{key_pos, value_pos};
 use std::marker::PhantomData;
 
-/// Where the key and the value of an entry of the map at `pos` stand.
+/// Returns the positions of the key and the value of an entry of the map at `pos`.
 pub(crate) fn positions<K: Portable, V: InPlace, M: ArchivedMap<Key = K, Mapped = V>>(
     buf: &[u8],
     pos: u32,

@@ -41,7 +41,7 @@ pub(crate) fn visit_entries<
 
 impl<'a, K: Portable, V: InPlace, M: ArchivedMap<Key = K, Mapped = V>> MapSeal<'a, M> {
     /// Calls `f` with the key of each entry and a seal of its value, in order, up to the first call that breaks, whose
-    /// value it returns. Where no call breaks, it returns `None`. The walk takes no memory. The caller owes that `f`
+    /// value it returns. It returns `None` if no call breaks. The walk takes no memory. The caller owes that `f`
     /// may be called at each entry, in any state, and that it leaves a value in the seal.
     ///
     /// # Examples

@@ -32,14 +32,14 @@ pub(crate) struct Hit {
     pub(crate) value: u32,
 }
 
-/// Where the search of a node stops: at an entry that gives Equal, whose value was brought to a place, or before another.
+/// How the search of a node stops: at an entry that gives Equal, whose value was brought to a place, or before another.
 #[derive(Clone, Copy)]
 pub(crate) enum Stop {
     At { index: u32, value: u32 },
     Before(u32),
 }
 
-/// Where the search of a tree goes on after a node: it ends with an entry of the node or with none, or goes down to a node.
+/// How the search of a tree goes on after a node: it ends with an entry of the node or with none, or goes down to a node.
 #[derive(Clone, Copy)]
 pub(crate) enum Step {
     Ends(Hit),

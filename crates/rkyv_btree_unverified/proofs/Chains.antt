@@ -11,9 +11,9 @@ use Rattle.rkyv_btree_base.specs.Refusing.{HasPlace}
 use Rattle.rkyv_btree_base.specs.Spells.{IsNodeAt}
 use Rattle.rkyv_btree_unverified.specs.Steps.{HasRoom, HeadGives, root, ChildGives, child, leaf, inner, PlaceGives, good_place}
 use Rattle.rkyv_btree_unverified.specs.Walks.{IsReached, as_root, as_child, IsReachedEntry}
-use Rattle.rkyv_btree_unverified.specs.mirror.Walked.{IsChain, chain_end, chain_before, IsWay, IsLeafRun, path_entries}
-use Rattle.rkyv_btree_walk.specs.mirror.Below.{root_place}
-use Rattle.rkyv_btree_walk.specs.mirror.Node.{natural, is_leaf, child_place}
+use Rattle.rkyv_btree_unverified.specs.mirror.Walked.{IsChain, chain_before, IsWay, IsLeafRun, path_entries, chain_end}
+use Rattle.rkyv_btree_walk.specs.Below.{root_place}
+use Rattle.rkyv_btree_walk.specs.Nodes.{natural, is_leaf, child_place}
 
 pub before_put : (hi : ℕ) (fs : List (ℕ × ℕ)) (p i : ℕ) → chain_before hi (fs ++ (p, i) ∷ []) ≡ p
 before_put hi [] p i = refl

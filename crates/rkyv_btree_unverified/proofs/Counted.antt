@@ -8,13 +8,13 @@ use Rattle.rkyv_btree_base.specs.Kind.{Kind, IsLawful}
 use Rattle.rkyv_btree_base.specs.Layout.{NodeLayout, layout_of, are_fitting, leaf_size}
 use Rattle.rkyv_btree_base.specs.Spells.{Spells, SpellsRow, SpellsChild}
 use Rattle.rkyv_btree_base.specs.Tree.{Tree, leaf, inner, Row, last, step, Child, absent, child, row_entries, height, row_height, child_height, nodes, row_nodes, child_nodes as spelled_child_nodes}
-use Rattle.rkyv_btree_unverified.specs.mirror.Walked.{chain_end, child_nodes, children_nodes, tree_nodes, rest_nodes, path_nodes, down_nodes}
+use Rattle.rkyv_btree_unverified.specs.mirror.Walked.{child_nodes, children_nodes, tree_nodes, rest_nodes, path_nodes, down_nodes, chain_end}
 use Rattle.rkyv_btree_unverified.proofs.Chains.{all_end}
 use Rattle.rkyv_btree_verify.proofs.Answered.{keys, values, sound}
 use Rattle.rkyv_btree_verify.proofs.Claims.{tree_nodes as claimed_nodes, root_inside}
 use Rattle.rkyv_btree_view.specs.Map.{IsMap}
-use Rattle.rkyv_btree_walk.specs.mirror.Below.{root_place}
-use Rattle.rkyv_btree_walk.specs.mirror.Node.{is_leaf, child_place}
+use Rattle.rkyv_btree_walk.specs.Below.{root_place}
+use Rattle.rkyv_btree_walk.specs.Nodes.{is_leaf, child_place}
 
 module _ (s : NodeLayout) (b : List ℕ) where
   tree_is : (m p : ℕ) → tree_nodes s b (suc m) p ≡ suc (children_nodes s b (tree_nodes s b m) p (suc s.E) 0)

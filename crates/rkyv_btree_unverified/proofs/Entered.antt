@@ -1,5 +1,5 @@
 -- A walk down from where a path leads, node by node.
-use Rattle.std.proofs.Common.{◌≡◌, ℕ, zero, suc, ◌+◌, ◌-◌, ◌*◌, ◌≤◌, ◌<◌, List, [], ◌∷◌, ◌++◌, length, refl, sym, ◌∙◌, subst, arith, Option, Some, None, Err, IsTrue, true, slice_index}
+use Rattle.std.proofs.Common.{◌≡◌, ℕ, zero, suc, ◌+◌, ◌-◌, ◌*◌, ◌≤◌, ◌<◌, List, [], ◌∷◌, ◌++◌, length, length-append, refl, sym, ap, ◌∙◌, subst, arith, Option, Some, None, Ok, Err, IsTrue, true, slice_index}
 use Rattle.std.proofs.lemmas.Bool.{eq-eqb}
 use Rattle.std.specs.Prelude.{pos}
 use Rattle.rkyv_btree_base.specs.Kind.{Kind, IsLawful}
@@ -10,15 +10,18 @@ use Rattle.rkyv_btree_base.specs.Refusals.{IsInner}
 use Rattle.rkyv_btree_base.specs.Spells.{IsNodeAt}
 use Rattle.rkyv_btree_unverified.proofs.Chains.{way_low, way_reached, way_put, all_end, all_before, entries_put}
 use Rattle.rkyv_btree_unverified.proofs.Counted.{enter_nodes, leaf_nodes, skip_nodes}
+use Rattle.rkyv_btree_unverified.proofs.Faultless.{leaf_tree, inner_tree, no_child, some_child, path_without}
+use Rattle.rkyv_btree_unverified.proofs.Goes.{leaf_of}
 use Rattle.rkyv_btree_unverified.proofs.OnWalks.{end_passes, end_short, enter_rest, leaf_rest_is}
 use Rattle.rkyv_btree_unverified.proofs.Passes.{tree_node, with_level}
 use Rattle.rkyv_btree_unverified.specs.Steps.{HasRoom, NodeGives, ChildGives}
-use Rattle.rkyv_btree_unverified.specs.Walks.{IsReached, of_node, of_child, too_deep, too_many_nodes}
+use Rattle.rkyv_btree_unverified.specs.Walks.{IsReached, Fails, of_node, of_child, too_deep, too_many_nodes}
+use Rattle.rkyv_btree_unverified.specs.mirror.Faultless.{FaultlessChild, FaultlessFrom, FaultlessTree, FaultlessPath, FaultlessDown}
 use Rattle.rkyv_btree_unverified.specs.mirror.Passes.{NodePasses, Passes}
-use Rattle.rkyv_btree_unverified.specs.mirror.Walked.{IsWay, IsLeafRun, LeadsTo, FewLeft, OnMaps, Fails, LeafFound, chain_end, path_entries, path_nodes, down_rest}
+use Rattle.rkyv_btree_unverified.specs.mirror.Walked.{IsWay, IsLeafRun, LeadsTo, LeadsNowhere, FewLeft, OnMaps, LeafFound, path_entries, path_nodes, chain_end, down_rest}
 use Rattle.rkyv_btree_view.specs.Map.{IsMap}
-use Rattle.rkyv_btree_walk.specs.mirror.Below.{root_place}
-use Rattle.rkyv_btree_walk.specs.mirror.Node.{is_leaf, entry_count, child_place}
+use Rattle.rkyv_btree_walk.specs.Below.{root_place}
+use Rattle.rkyv_btree_walk.specs.Nodes.{is_leaf, entry_count, child_place}
 
 -- a node takes room for E entries
 pub one_less : (E n : ℕ) → ¬ (n ≡ 0) → E * n ≡ E * (n - 1) + E
@@ -36,20 +39,18 @@ module _ (K V : Kind) (E : ℕ) (b : List ℕ) where
   -- and all entries are left that were
   pub record IsDescending (at : ℕ) (old : List (ℕ × ℕ)) (before : ℕ) (fs : List (ℕ × ℕ)) (nodes p hi : ℕ) : Type 0 where
     pub down : IsDown at old before fs nodes p hi
-    pub rest : OnMaps K V E b at (down_rest (layout_of K V E) b at fs ≡ down_rest (layout_of K V E) b at old)
-
-  pub starts : (at : ℕ) (old : List (ℕ × ℕ)) (before p hi : ℕ) → IsWay (layout_of K V E) b at old → LeadsTo K V E b at old p hi → FewLeft K V E b at old before → IsDescending at old before old before p hi
-  starts at old before p hi way leads few = record { down = record { way = way; leads = leads; most = omega arith; few = few }; rest = λ m map. refl }
+    pub rest : down_rest (layout_of K V E) b at fs ≡ down_rest (layout_of K V E) b at old
+    pub faultless : FaultlessTree K V E b (32 - length fs) hi p → FaultlessPath K V E b 32 at fs → FaultlessDown K V E b at old
 
   -- where a path leads to no child, the entries of its last node come next
-  pub no_child : (at : ℕ) (fs : List (ℕ × ℕ)) (nodes : ℕ) → IsWay (layout_of K V E) b at fs → FewLeft K V E b at fs nodes → chain_end (layout_of K V E) b (root_place b at) fs ≡ None
-      → LeafFound K V E b at fs nodes fs nodes (record { node = 0; count = 0 })
-  no_child at fs nodes way few leads = record {
+  pub no_leaf : (at : ℕ) (fs : List (ℕ × ℕ)) (nodes : ℕ) → IsWay (layout_of K V E) b at fs → FewLeft K V E b at fs nodes → LeadsNowhere K V E b at fs → LeafFound K V E b at fs nodes fs nodes (record { node = 0; count = 0 })
+  no_leaf at fs nodes way few nowhere = record {
     way = way;
     run = λ x. absurd (omega (arith, x));
     most = omega arith;
-    rest = λ m map. rw leads refl;
-    few = λ m map. let left = few m map in let less = rw leads at left in omega (arith, less);
+    rest = rw nowhere.leads refl;
+    few = λ m map. let left = few m map in let less = rw nowhere.leads at left in omega (arith, less);
+    faultless = λ left. record { pending = nowhere.faultless; path = left.path };
   }
 
   -- the node lies in the buffer
@@ -153,9 +154,12 @@ module _ (K V : Kind) (E : ℕ) (b : List ℕ) where
           few = few_on;
         }
 
-  module _ (k : IsLawful K) (v : IsLawful V) (fits : IsTrue (are_fitting K V E)) (KR VR : List ℕ → ℕ → ℕ → ℕ → Refusal → Type 0) (at : ℕ) (old : List (ℕ × ℕ)) (before : ℕ) (fs : List (ℕ × ℕ)) (nodes p hi : ℕ) (inv : IsDescending at old before fs nodes p hi) (some : ¬ (nodes ≡ 0)) where
-    pub leaf_found : (n : ℕ) → slice_index b p ≡ 0 → n ≡ entry_count (layout_of K V E) b p → n ≤ E → LeafFound K V E b at old before fs (nodes - 1) (record { node = p; count = n })
-    leaf_found n byte count few =
+  module _ (k : IsLawful K) (v : IsLawful V) (fits : IsTrue (are_fitting K V E)) (KR VR : List ℕ → ℕ → ℕ → ℕ → Refusal → Type 0) (at : ℕ) (old : List (ℕ × ℕ)) (before : ℕ) (fs : List (ℕ × ℕ)) (nodes p hi : ℕ) (inv : IsDescending at old before fs nodes p hi) (some : ¬ (nodes ≡ 0)) (less : length fs < 32) where
+    levels : 32 - length fs ≡ suc (31 - length fs)
+    levels = omega (arith, less)
+
+    pub leaf_found : (n : ℕ) → slice_index b p ≡ 0 → NodeGives K V E b hi p (Ok n) → n ≡ entry_count (layout_of K V E) b p → n ≤ E → LeafFound K V E b at old before fs (nodes - 1) (record { node = p; count = n })
+    leaf_found n byte gives count few =
         let run = leaf_runs k v fits KR VR at old before fs nodes p hi inv.down some n byte count few in
         let leaf : is_leaf (layout_of K V E) b p ≡ true = eq-eqb (slice_index b p) 0 byte in
         let most = inv.down.most in
@@ -163,28 +167,44 @@ module _ (K V : Kind) (E : ℕ) (b : List ℕ) where
           way = inv.down.way;
           run = λ x. run;
           most = omega (arith, most, one_less E nodes some, few);
-          rest = λ m map. leaf_rest_is K V E b k v fits at m map fs inv.down.way p n run.leads leaf run.count ∙ inv.rest m map;
+          rest = leaf_rest_is (layout_of K V E) b at fs less p n run.leads leaf run.count ∙ inv.rest;
           few = leaf_few k v fits KR VR at old before fs nodes p hi inv.down some;
+          faultless = λ left. inv.faultless (rw levels (leaf_tree K V E b (31 - length fs) hi p n gives (leaf_of K V E b hi p n gives byte) (λ i low. left.entries i (omega arith) low))) left.path;
         }
 
-    module _ (less : length fs < 32) (all : List (ℕ × ℕ)) (ends : all ≡ fs ++ (p, 0) ∷ []) (is : IsInner K V E b 0 hi p) where
-      rest_on : OnMaps K V E b at (down_rest (layout_of K V E) b at all ≡ down_rest (layout_of K V E) b at old)
-      rest_on m map =
-          let to = inv.down.leads.leads in
-          rw ends (enter_rest (layout_of K V E) b at fs (end_short K V E b k v fits at m map fs inv.down.way p to) p to) ∙ inv.rest m map
+    module _ (all : List (ℕ × ℕ)) (ends : all ≡ fs ++ (p, 0) ∷ []) (is : IsInner K V E b 0 hi p) where
+      rest_on : down_rest (layout_of K V E) b at all ≡ down_rest (layout_of K V E) b at old
+      rest_on = rw ends (enter_rest (layout_of K V E) b at fs less p inv.down.leads.leads) ∙ inv.rest
+
+      abbrev First : Type 0
+      First = FaultlessChild K V E b (FaultlessTree K V E b (31 - length fs)) hi p 0
+
+      -- where its first pointer is good, and what is left of the path with it, so is what was left
+      entered : First → FaultlessPath K V E b 32 at all → FaultlessDown K V E b at old
+      entered first path =
+          let parts = path_without K V E b at fs all p 0 ends less path in
+          let from = subst (λ h. FaultlessFrom K V E b (FaultlessTree K V E b (31 - length fs)) h p 0) (sym inv.down.leads.before) parts.1 in
+          inv.faultless (rw levels (inner_tree K V E b (31 - length fs) hi p is first from)) parts.0
 
       -- with no child there, the entries of the node come next
-      pub none_found : ◌≡◌ {A = Option ℕ} None (child_place (layout_of K V E) b p 0) → LeafFound K V E b at old before all (nodes - 1) (record { node = p; count = 0 })
-      none_found none =
+      pub none_found : ◌≡◌ {A = Option ℕ} None (child_place (layout_of K V E) b p 0) → ChildGives K V E b hi p 0 (Ok None) → LeafFound K V E b at old before all (nodes - 1) (record { node = p; count = 0 })
+      none_found none gives =
           let most = most_on k v fits KR VR at old before fs nodes p hi inv.down some less 0 (omega arith) all ends is in
           let leads = none_on k v fits KR VR at old before fs nodes p hi inv.down some less 0 (omega arith) all ends is none in
           record {
             way = way_on k v fits KR VR at old before fs nodes p hi inv.down some less 0 (omega arith) all ends is;
             run = λ x. absurd (omega (arith, x));
             most = omega (arith, most);
-            rest = λ m map. let rest = rest_on m map in rw leads at rest;
+            rest = let rest = rest_on in rw leads at rest;
             few = none_few k v fits KR VR at old before fs nodes p hi inv.down some less 0 (omega arith) all ends is none;
+            faultless = λ left. entered (no_child K V E b _ hi p 0 gives) left.path;
           }
 
-      pub goes_on : (q : ℕ) → ◌≡◌ {A = Option ℕ} (Some q) (child_place (layout_of K V E) b p 0) → HasRoom K V E p q → IsDescending at old before all (nodes - 1) q p
-      goes_on q to room = record { down = down_on k v fits KR VR at old before fs nodes p hi inv.down some less 0 (omega arith) all ends is q to room; rest = rest_on }
+      pub goes_on : (q : ℕ) → ◌≡◌ {A = Option ℕ} (Some q) (child_place (layout_of K V E) b p 0) → HasRoom K V E p q → ChildGives K V E b hi p 0 (Ok (Some q)) → IsDescending at old before all (nodes - 1) q p
+      goes_on q to room gives =
+          let below : 32 - length all ≡ 31 - length fs = omega (arith, ap length ends, length-append fs ((p, 0) ∷ [])) in
+          record {
+            down = down_on k v fits KR VR at old before fs nodes p hi inv.down some less 0 (omega arith) all ends is q to room;
+            rest = rest_on;
+            faultless = λ tree path. entered (some_child K V E b _ hi p 0 q gives (subst (λ n. FaultlessTree K V E b n p q) below tree)) path;
+          }

@@ -109,6 +109,16 @@ module _ (K V : Kind) (E : ℕ) (b : List ℕ) where
   is_head at r (bad_root h some bad) = placed at h ∙ rw (ne_eqb (map_len K V E b at) 0 some, is_place K V E at (place_at b at) _ bad) refl
   is_head at r (root h some ok) = placed at h ∙ rw (ne_eqb (map_len K V E b at) 0 some, is_place K V E at (place_at b at) _ ok) refl
 
+  -- so each step gives one thing
+  pub one_node : (hi p : ℕ) (r s : Result ℕ Refusal) → NodeGives K V E b hi p r → NodeGives K V E b hi p s → r ≡ s
+  one_node hi p r s h k = sym (is_node hi p r h) ∙ is_node hi p s k
+
+  pub one_pointer : (hi p i : ℕ) (r s : Result (Option ℕ) Refusal) → ChildGives K V E b hi p i r → ChildGives K V E b hi p i s → r ≡ s
+  one_pointer hi p i r s h k = sym (is_child hi p i r h) ∙ is_child hi p i s k
+
+  pub one_head : (at : ℕ) (r s : Result (Option ℕ) Refusal) → HeadGives K V E b at r → HeadGives K V E b at s → r ≡ s
+  one_head at r s h k = sym (is_head at r h) ∙ is_head at s k
+
   module _ (comparison : K.Value → Ordering) (KR VR : List ℕ → ℕ → ℕ → ℕ → Refusal → Type 0) (k : IsLawful K) (v : IsLawful V) (kr : AreRefusals K KR) (vr : AreRefusals V VR) where
     -- what is refused isn't valid
     pub no_key : (e : Refusal) (at : ℕ) → KR b 0 at at e → IsTrue (stands K b at) → ⊥
@@ -217,14 +227,14 @@ module _ (K V : Kind) (E : ℕ) (b : List ℕ) where
 
     one_halt : (tree : ℕ → R → Type 0) → ((q : ℕ) (r s : R) → tree q r → tree q s → r ≡ s) → (hi p : ℕ) (halt : Halt) (r s : R) → AtHalt K V E b comparison KR VR tree hi p halt r → AtHalt K V E b comparison KR VR tree hi p halt s → r ≡ s
     one_halt tree one hi p (Found i) r s h m = h ∙ sym m
-    one_halt tree one hi p (Below i) r s h m = one_then (λ x y c d. sym (is_child hi p i x c) ∙ is_child hi p i y d) (one_child tree one) r s h m
+    one_halt tree one hi p (Below i) r s h m = one_then (one_pointer hi p i) (one_child tree one) r s h m
 
     one_tree : (levels hi p : ℕ) (r s : R) → TreeGives K V E b comparison KR VR levels hi p r → TreeGives K V E b comparison KR VR levels hi p s → r ≡ s
     unfolding TreeGives
     one_tree zero hi p r s h m = h ∙ sym m
     one_tree (suc levels) hi p r s h m =
-        one_then (λ x y c d. sym (is_node hi p x c) ∙ is_node hi p y d)
+        one_then (one_node hi p)
         (λ n. one_then (one_keys p n) (one_halt (TreeGives K V E b comparison KR VR levels p) (λ q. one_tree levels p q) hi p)) r s h m
 
     pub one_lookup : (at : ℕ) (r s : R) → LookupGives K V E b comparison KR VR at r → LookupGives K V E b comparison KR VR at s → r ≡ s
-    one_lookup at r s h m = one_then (λ x y c d. sym (is_head at x c) ∙ is_head at y d) (one_child (TreeGives K V E b comparison KR VR 32 at) (λ q. one_tree 32 at q)) r s h m
+    one_lookup at r s h m = one_then (one_head at) (one_child (TreeGives K V E b comparison KR VR 32 at) (λ q. one_tree 32 at q)) r s h m

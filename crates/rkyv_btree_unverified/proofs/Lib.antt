@@ -1,14 +1,17 @@
 -- The lemmas of lookups and walks in bytes that nobody has validated.
 pub mod Along
-pub mod AlongKeys
 pub mod Chains
 pub mod Counted
 pub mod Entered
 pub mod Exact
+pub mod Faultless
 pub mod Found
+pub mod Froms
 pub mod Goes
+pub mod Lent
 pub mod OnMaps
 pub mod OnWalks
+pub mod OnWays
 pub mod Passes
 pub mod Pending
 pub mod Places

@@ -19,7 +19,7 @@ use Rattle.rkyv_btree_unverified.specs.declared.unverified_search.Halt.{Halt}
 use Rattle.rkyv_btree_unverified.specs.mirror.Passes.{NodePasses, Passes}
 use Rattle.rkyv_btree_view.specs.Map.{IsMap}
 use Rattle.rkyv_btree_walk.proofs.Searches.{leaf_alone, search_finds, search_ends, search_down}
-use Rattle.rkyv_btree_walk.specs.mirror.Node.{child_place, entry_count, is_leaf}
+use Rattle.rkyv_btree_walk.specs.Nodes.{child_place, entry_count, is_leaf}
 use Rattle.rkyv_btree_walk.specs.mirror.Search.{comparison_at, searched, searched_map}
 
 abbrev R : Type 0

@@ -1,22 +1,23 @@
 -- In an accepted map the nodes of a path stand, and what is left of the path is known.
-use Rattle.std.proofs.Common.{◌≡◌, ℕ, zero, suc, ◌+◌, ◌-◌, ◌≤◌, ◌<◌, List, [], ◌∷◌, ◌++◌, length, length-append, append-nil, append_assoc, map, refl, sym, ap, ◌∙◌, subst, arith, Option, Some, IsTrue, true, inl, inr}
+use Rattle.std.proofs.Common.{◌≡◌, ℕ, zero, suc, ◌+◌, ◌-◌, ◌≤◌, ◌<◌, List, [], ◌∷◌, ◌++◌, length, length-append, append-nil, append_assoc, refl, sym, ap, ◌∙◌, subst, arith, Option, Some, IsTrue, true, false, inl, inr}
 use Rattle.std.proofs.lemmas.Bool.{cases_eq, eq-eqb, ne_eqb}
 use Rattle.std.specs.Prelude.{ℤ, pos, negsuc}
 use Rattle.rkyv_btree_base.proofs.MapLaws.{map_laws}
 use Rattle.rkyv_btree_base.specs.Bytes.{number_at, place_at}
 use Rattle.rkyv_btree_base.specs.Kind.{Kind, IsLawful}
 use Rattle.rkyv_btree_base.specs.Layout.{NodeLayout, layout_of, are_fitting, inner_size, len_at}
-use Rattle.rkyv_btree_base.specs.Read.{tree_at, tree_of, map_tree, entry_at}
+use Rattle.rkyv_btree_base.specs.Read.{run, tree_at, tree_of, map_tree, read_map}
 use Rattle.rkyv_btree_base.specs.Tree.{list}
 use Rattle.rkyv_btree_unverified.proofs.Chains.{all_end, is_inner, natural_is, some_is, way_parts}
 use Rattle.rkyv_btree_unverified.proofs.Passes.{accepted_passes, child_passes, none_left}
 use Rattle.rkyv_btree_unverified.specs.mirror.Passes.{Passes}
-use Rattle.rkyv_btree_unverified.specs.mirror.Walked.{IsChain, IsWay, chain_end, chain_before, down_rest}
+use Rattle.rkyv_btree_unverified.specs.mirror.Walked.{IsChain, IsWay, chain_before, chain_end, down_rest}
 use Rattle.rkyv_btree_view.specs.Map.{IsMap}
-use Rattle.rkyv_btree_walk.proofs.Paths.{rest_snoc, tree_from, put_leaf, pop_end as walk_pop_end, pop_more}
-use Rattle.rkyv_btree_walk.specs.mirror.Below.{root_place}
-use Rattle.rkyv_btree_walk.specs.mirror.Node.{natural, is_leaf, child_place}
-use Rattle.rkyv_btree_walk.specs.mirror.Path.{child_list, node_rest, tree_rest, path_rest, walk_rest, IsPath}
+use Rattle.rkyv_btree_walk.proofs.Paths.{rest_snoc, rest_end, rest_more, tree_from, leaf_list}
+use Rattle.rkyv_btree_walk.specs.Below.{root_place}
+use Rattle.rkyv_btree_walk.specs.Nodes.{natural, is_leaf, child_place}
+use Rattle.rkyv_btree_walk.specs.Paths.{child_list, node_rest, path_rest, walk_rest}
+use Rattle.rkyv_btree_walk.specs.mirror.Path.{tree_rest, IsPath}
 
 -- what is left once a node is put on a path, which may lead further down
 module _ (s : NodeLayout) (b : List ℕ) (at : ℕ) (fs : List (ℕ × ℕ)) (short : length fs < 32) where
@@ -39,6 +40,28 @@ module _ (s : NodeLayout) (b : List ℕ) (at : ℕ) (fs : List (ℕ × ℕ)) (sh
   -- an inner node is read
   pub enter_rest : (p : ℕ) → chain_end s b (root_place b at) fs ≡ Some p → down_rest s b at (fs ++ (p, 0) ∷ []) ≡ down_rest s b at fs
   enter_rest p leads = rest_put p 0 ∙ sym (rest_at p leads)
+
+  -- all entries of a leaf are left, and then the path
+  pub leaf_rest_is : (p n : ℕ) → chain_end s b (root_place b at) fs ≡ Some p → is_leaf s b p ≡ true → n ≡ number_at b (p + len_at s) 4 → walk_rest s b p 0 n fs ≡ down_rest s b at fs
+  leaf_rest_is p n leads leaf count =
+      let levels : 32 - length fs ≡ suc (31 - length fs) = omega arith in
+      let here : tree_rest s b (32 - length fs) p 0 ≡ run s b p (number_at b (p + len_at s) 4 - 0) 0 = rw levels (leaf_list s b (31 - length fs) p leaf) in
+      rw count (ap (λ xs. xs ++ path_rest s b 32 fs) (sym here)) ∙ sym (rest_at p leads)
+
+  module _ (all : List (ℕ × ℕ)) (p i : ℕ) (ends : all ≡ fs ++ (p, i) ∷ []) (inner : is_leaf s b p ≡ false) where
+    last_rest : path_rest s b 32 all ≡ node_rest s b (31 - length fs) p i ++ path_rest s b 32 fs
+    last_rest = ap (path_rest s b 32) ends ∙ rest_snoc s b (31 - length fs) 32 fs (p, i) (omega arith)
+
+    -- an entry of the path's last node is taken
+    pub take_rest : i < s.E → path_rest s b 32 all ≡ (p, i) ∷ down_rest s b at (fs ++ (p, i + 1) ∷ [])
+    take_rest low =
+        let levels : 32 - length fs ≡ suc (31 - length fs) = omega arith in
+        let after : down_rest s b at (fs ++ (p, i + 1) ∷ []) ≡ tree_rest s b (suc (31 - length fs)) p (i + 1) ++ path_rest s b 32 fs = subst (λ n. down_rest s b at (fs ++ (p, i + 1) ∷ []) ≡ tree_rest s b n p (i + 1) ++ path_rest s b 32 fs) levels (rest_put p (i + 1)) in
+        last_rest ∙ ap (λ xs. xs ++ path_rest s b 32 fs) (rest_more s b (31 - length fs) p i (rw inner low)) ∙ ap (λ xs. (p, i) ∷ xs) (sym after)
+
+    -- the node is left
+    pub leave_rest : s.E ≤ i → path_rest s b 32 all ≡ path_rest s b 32 fs
+    leave_rest high = last_rest ∙ ap (λ xs. xs ++ path_rest s b 32 fs) (rest_end s b (31 - length fs) p i (rw inner high))
 
 module _ (K V : Kind) (E : ℕ) (b : List ℕ) where
   chain_passes : (levels hi : ℕ) (to : Option ℕ) (fs : List (ℕ × ℕ)) → ((q : ℕ) → to ≡ Some q → Passes K V E b levels hi q) → IsChain (layout_of K V E) b hi to fs
@@ -77,26 +100,12 @@ module _ (K V : Kind) (E : ℕ) (b : List ℕ) where
           some_level zero e = absurd (none_left K V E b (32 - length fs) (chain_before at fs) q e (end_passes q leads))
           some_level (suc n) e = omega (arith, e)
 
-      -- all entries of a leaf are left, and then the path
-      pub leaf_rest_is : (p n : ℕ) → chain_end (layout_of K V E) b (root_place b at) fs ≡ Some p → is_leaf (layout_of K V E) b p ≡ true → n ≡ number_at b (p + len_at (layout_of K V E)) 4
-          → walk_rest (layout_of K V E) b p 0 n fs ≡ down_rest (layout_of K V E) b at fs
-      leaf_rest_is p n leads leaf count =
-          rw count (put_leaf K V E b 32 p 0 fs passes.0 (end_passes p leads).stands leaf ∙ sym (rest_at (layout_of K V E) b at fs (end_short p leads) p leads))
-
     module _ (fs all : List (ℕ × ℕ)) (p i : ℕ) (ends : all ≡ fs ++ (p, i) ∷ []) (way : IsWay (layout_of K V E) b at all) where
       before : IsWay (layout_of K V E) b at fs
       before = (way_parts (layout_of K V E) b at fs p i all ends way).0
 
       leads : chain_end (layout_of K V E) b (root_place b at) fs ≡ Some p
       leads = (way_parts (layout_of K V E) b at fs p i all ends way).1
-
-      -- an entry of the path's last node is taken
-      pub take_rest : i < E → path_rest (layout_of K V E) b 32 all ≡ (p, i) ∷ down_rest (layout_of K V E) b at (fs ++ (p, i + 1) ∷ [])
-      take_rest low = pop_more K V E b 32 p i fs all ends (passes all way).0 low ∙ ap (λ xs. (p, i) ∷ xs) (sym (rest_put (layout_of K V E) b at fs (end_short fs before p leads) p (i + 1)))
-
-      -- the node is left
-      pub leave_rest : E ≤ i → path_rest (layout_of K V E) b 32 all ≡ path_rest (layout_of K V E) b 32 fs
-      leave_rest high = walk_pop_end K V E b 32 p i fs all ends (passes all way).0 high
 
       pub last_passes : Passes K V E b (32 - length fs) (chain_before at fs) p
       last_passes = end_passes fs before p leads
@@ -118,6 +127,6 @@ module _ (s : NodeLayout) (b : List ℕ) where
         | inr e ↦ rw (ne_eqb (number_at b (at + 4) 4) 0 e) (root_rest (place_at b at))
       ]
 
-module _ (K V : Kind) (E : ℕ) (b : List ℕ) (k : IsLawful K) (v : IsLawful V) (at : ℕ) (m : List (K.Value × V.Value)) (is : IsMap K V E b at m) where
-  pub whole_is : map (entry_at K V E b) (down_rest (layout_of K V E) b at []) ≡ m
-  whole_is = ap (map (entry_at K V E b)) (whole_rest (layout_of K V E) b at) ∙ sym ((map_laws K V E k v).is_read b 0 at at is.0 m is.1)
+-- a map is read as its entries
+pub map_is_read : (K V : Kind) (E : ℕ) (b : List ℕ) → IsLawful K → IsLawful V → (at : ℕ) (m : List (K.Value × V.Value)) → IsMap K V E b at m → read_map K V E b at ≡ m
+map_is_read K V E b k v at m is = sym ((map_laws K V E k v).is_read b 0 at at is.0 m is.1)

@@ -1,5 +1,5 @@
 -- Where a tree is spelled, its nodes pass all checks.
-use Rattle.std.proofs.Common.{◌≡◌, ◌*◌, min, ◌%◌, ℕ, zero, suc, ◌+◌, ◌-◌, ◌≤◌, ◌<◌, IsTrue, List, length, refl, sym, subst, ap, ◌∙◌, arith, true, false, Option, Some, None, Ok, IfSome, slice_index, inl, inr}
+use Rattle.std.proofs.Common.{◌≡◌, ◌*◌, min, ◌%◌, ℕ, zero, suc, ◌+◌, ◌-◌, ◌≤◌, ◌<◌, IsTrue, List, length, refl, subst, ap, arith, true, false, Option, Some, None, Ok, slice_index, inl, inr}
 use Rattle.std.proofs.lemmas.Bool.{eq-eqb, ne_eqb, cases_lt}
 use Rattle.std.specs.Prelude.{ℤ, pos, negsuc}
 use Rattle.rkyv_btree_base.specs.Bytes.{target_at, place_at, number_at}
@@ -9,14 +9,12 @@ use Rattle.rkyv_btree_base.specs.Layout.{NodeLayout, layout_of, are_fitting, poi
 use Rattle.std.specs.declared.cmp.Ordering.{Ordering}
 use Rattle.std.specs.declared.cmp.Ordering.TheVariants.{Less, Equal, Greater}
 use Rattle.rkyv_btree_walk.specs.mirror.Search.{comparison_at, searched, searched_map}
-use Rattle.std.specs.Option.{option_map}
-use Rattle.rkyv_btree_base.specs.Read.{entry_at}
-use Rattle.rkyv_btree_view.specs.Lookup.{found_at}
 use Rattle.rkyv_btree_base.specs.Map.{map_kind}
 use Rattle.rkyv_btree_base.specs.Spells.{Spells, SpellsRow, SpellsChild, Accepted}
 use Rattle.rkyv_btree_base.specs.Tree.{Tree, leaf, inner, Row, last, step, Child, absent, child, row_entries, height, row_height, child_height}
 use Rattle.rkyv_btree_base.proofs.Sizes.{room_of}
-use Rattle.rkyv_btree_walk.specs.mirror.Node.{natural, is_leaf, child_place, entry_count, EntryStands}
+use Rattle.rkyv_btree_walk.specs.Nodes.{natural, is_leaf, child_place, entry_count}
+use Rattle.rkyv_btree_walk.specs.mirror.Node.{EntryStands}
 use Rattle.rkyv_btree_walk.proofs.Nodes.{spelled_stands, child_stands, tree_node as tree_stands}
 use Rattle.rkyv_btree_base.specs.Refusing.{Misplaced, too_long, no_room, unaligned}
 use Rattle.rkyv_btree_base.specs.Views.{stands}
@@ -227,17 +225,8 @@ module _ (K V : Kind) (E : ℕ) (b : List ℕ) (k : IsLawful K) (v : IsLawful V)
       let some2 : 0 < number_at b (at + 4) 4 = omega (arith, some) in
       ap (λ r. r.1) (root_searched K V E k v b at st (omega (arith, n, some2)) q (rw to refl) comparison)
 
--- what is found at a place is what a lookup in a map that was checked finds
-pub found_there : (K V : Kind) (E : ℕ) (b : List ℕ) (at : ℕ) (compare : K.Value → Ordering) (place found : Option (ℕ × ℕ)) → place ≡ found → place ≡ (searched_map (layout_of K V E) b (comparison_at K V E b compare) at).0
-    → option_map (entry_at K V E b) found ≡ found_at K V E b at compare
-found_there K V E b at compare place found is h = ap (option_map (entry_at K V E b)) (sym is ∙ h)
-
 pub hit_equal : (comparison : ℕ × ℕ → Ordering) (p i : ℕ) (next : Next) → next ≡ Hit i → NextEqual comparison p next → comparison (p, i) ≡ Equal
 hit_equal comparison p i next is h = rw is at h
-
--- and it is equal
-pub equal_there : (K V : Kind) (E : ℕ) (b : List ℕ) (compare : K.Value → Ordering) (place : Option (ℕ × ℕ)) (e : ℕ × ℕ) (r : K.Value × V.Value) → place ≡ Some e → IfSome place (λ e. comparison_at K V E b compare e ≡ Equal) → r ≡ entry_at K V E b e → compare r.0 ≡ Equal
-equal_there K V E b compare place e r is h read = ap (λ x. compare x.0) read ∙ (rw is at h)
 
 -- how many entries were asked, where the search of a node stops here
 pub found_compared : (n i before after : ℕ) (halt : Halt) → halt ≡ Found i → after ≡ before + comparisons_by n halt → after ≡ before + (i + 1)

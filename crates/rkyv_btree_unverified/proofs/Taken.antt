@@ -1,53 +1,65 @@
 -- Entries that a walk takes of a path, and of a leaf.
-use Rattle.std.proofs.Common.{◌≡◌, ℕ, ◌+◌, ◌-◌, ◌≤◌, ◌<◌, List, [], ◌∷◌, ◌++◌, length, refl, sym, ◌∙◌, subst, arith, Option, Some, None, Result, Ok, Err, IsTrue, true, false, slice_index}
-use Rattle.std.proofs.lemmas.Bool.{eq-eqb}
+use Rattle.std.proofs.Common.{◌≡◌, ℕ, ◌+◌, ◌-◌, ◌≤◌, ◌<◌, List, [], ◌∷◌, ◌++◌, length, refl, sym, ◌∙◌, subst, arith, Option, Some, None, Result, Ok, Err, IsTrue, true, false, inl, inr, slice_index}
+use Rattle.std.proofs.lemmas.Bool.{cases_eq, eq-eqb}
 use Rattle.rkyv_btree_base.proofs.Sizes.{room_of}
 use Rattle.rkyv_btree_base.specs.Kind.{Kind, IsLawful}
 use Rattle.rkyv_btree_base.specs.Layout.{layout_of, are_fitting, inner_size, leaf_size}
 use Rattle.rkyv_btree_base.specs.Refusal.{Refusal}
+use Rattle.std.specs.Prelude.{◌≢◌}
 use Rattle.rkyv_btree_unverified.proofs.Chains.{way_low, way_placed, way_short, way_parts, way_put, entries_put, inner_entry, leaf_entry, is_inner}
 use Rattle.rkyv_btree_unverified.proofs.Counted.{take_nodes, leave_nodes}
+use Rattle.rkyv_btree_unverified.proofs.Faultless.{from_next, from_end, path_with, path_without, pending_child}
 use Rattle.rkyv_btree_unverified.proofs.OnWalks.{end_passes, last_passes, last_short, take_rest, leave_rest}
 use Rattle.rkyv_btree_unverified.proofs.Passes.{root_entries, with_level}
-use Rattle.rkyv_btree_unverified.specs.Walks.{EntryRefuses, of_entry}
+use Rattle.rkyv_btree_unverified.specs.Walks.{EntryRefuses, Fails, of_entry}
 use Rattle.rkyv_btree_unverified.specs.declared.unverified_walk.Phase.{Phase}
 use Rattle.rkyv_btree_unverified.specs.declared.unverified_walk.Phase.TheVariants.{Descend, Advance, Over}
 use Rattle.rkyv_btree_unverified.specs.declared.unverified_walk.UnverifiedWalk.{UnverifiedWalk}
-use Rattle.rkyv_btree_unverified.specs.mirror.Walked.{IsWay, IsLeafRun, OnMaps, Fails, IsClimbed, HasLeaf, HasPhase, IsUnverifiedWalk, Finishes, TakesEntry, GoesDown, LeafFound, Stepped, HasAt, chain_before, path_entries, path_nodes, unverified_left, walk_turns, most_at}
+use Rattle.rkyv_btree_unverified.specs.mirror.Faultless.{FaultlessPath, FaultlessDown, FaultlessAt, FaultlessPhase, FaultlessLeft}
+use Rattle.rkyv_btree_unverified.specs.mirror.Walked.{IsWay, IsLeafRun, OnMaps, IsClimbed, HasClimbed, HasPhase, IsUnverifiedWalk, Finishes, TakesEntry, GoesDown, Stepped, HasAt, chain_before, path_entries, path_nodes, walk_most, unverified_left}
 use Rattle.rkyv_btree_view.specs.Map.{IsMap}
 use Rattle.rkyv_btree_walk.proofs.Paths.{walk_more, walk_end}
-use Rattle.rkyv_btree_walk.specs.mirror.Node.{is_leaf, EntryStands}
-use Rattle.rkyv_btree_walk.specs.mirror.Path.{path_rest}
+use Rattle.rkyv_btree_walk.specs.Nodes.{is_leaf}
+use Rattle.rkyv_btree_walk.specs.mirror.Node.{EntryStands}
+use Rattle.rkyv_btree_walk.specs.Paths.{path_rest}
 
 pub none_of : {X : Type 0} (xs : List X) → (0 < length xs → ⊥) → xs ≡ []
 none_of [] h = refl
 none_of (x ∷ xs) h = absurd (h (omega arith))
 
 module _ (K V : Kind) (E : ℕ) (b : List ℕ) where
-  -- an item comes of a walk that is at a leaf
-  pub some_turns : (at : ℕ) (w : UnverifiedWalk) → HasAt K V E b at w → 0 < walk_turns E w
-  some_turns at w has = rw has.1 (omega arith)
-
-  -- and none of one that is over
-  pub over_none : (w : UnverifiedWalk) (n : ℕ) → w.phase ≡ Over → n < walk_turns E w → ⊥
-  over_none w n over less = let never : n < 0 = rw over at less in omega (arith, never)
+  -- a walk that is at a leaf isn't over
+  pub has_begun : (at : ℕ) (w : UnverifiedWalk) → HasAt K V E b at w → w.phase ≢ Over
+  has_begun at w has over = let never : Advance ≡ Over = sym has.1 ∙ over in cc never
 
   -- what a walk has in a phase is what it has
   has_phase : (at : ℕ) (w : UnverifiedWalk) (phase : Phase) → w.phase ≡ phase → HasPhase K V E b phase at w → IsUnverifiedWalk K V E b at w
   has_phase at w phase is has = subst (λ ph. HasPhase K V E b ph at w) (sym is) has
 
+  -- what is left of a walk at a leaf is what is left of it there
+  left_at : (at : ℕ) (w : UnverifiedWalk) → w.phase ≡ Advance → FaultlessAt K V E b at w.node w.next w.end w.path.items → FaultlessLeft K V E b at w
+  left_at at w is left = subst (λ ph. FaultlessPhase K V E b ph at w) (sym is) left
+
+  at_leaf : (at : ℕ) (w : UnverifiedWalk) → w.phase ≡ Advance → FaultlessLeft K V E b at w → FaultlessAt K V E b at w.node w.next w.end w.path.items
+  at_leaf at w is left = subst (λ ph. FaultlessPhase K V E b ph at w) is left
+
+  -- and of one that goes down, what is left on its way
+  left_down : (at : ℕ) (w : UnverifiedWalk) → w.phase ≡ Descend → FaultlessDown K V E b at w.path.items → FaultlessLeft K V E b at w
+  left_down at w is left = subst (λ ph. FaultlessPhase K V E b ph at w) (sym is) left
+
+  down_left : (at : ℕ) (w : UnverifiedWalk) → w.phase ≡ Descend → FaultlessLeft K V E b at w → FaultlessDown K V E b at w.path.items
+  down_left at w is left = subst (λ ph. FaultlessPhase K V E b ph at w) is left
+
   -- a walk that goes up has come from an old path to this one
   pub record IsClimbing (at : ℕ) (old fs : List (ℕ × ℕ)) : Type 0 where
     pub way : IsWay (layout_of K V E) b at fs
     pub most : path_entries E fs ≤ path_entries E old
-    pub rest : OnMaps K V E b at (path_rest (layout_of K V E) b 32 fs ≡ path_rest (layout_of K V E) b 32 old)
+    pub rest : path_rest (layout_of K V E) b 32 fs ≡ path_rest (layout_of K V E) b 32 old
     pub few : OnMaps K V E b at (path_nodes (layout_of K V E) b 32 fs ≤ path_nodes (layout_of K V E) b 32 old)
+    pub faultless : FaultlessPath K V E b 32 at fs → FaultlessPath K V E b 32 at old
 
-  pub climb_starts : (at : ℕ) (old : List (ℕ × ℕ)) → IsWay (layout_of K V E) b at old → IsClimbing at old old
-  climb_starts at old way = record { way = way; most = omega arith; rest = λ m map. refl; few = λ m map. omega arith }
-
-  pub climb_ends : (at : ℕ) (old fs : List (ℕ × ℕ)) → fs ≡ [] → IsClimbing at old fs → OnMaps K V E b at (path_rest (layout_of K V E) b 32 old ≡ [])
-  climb_ends at old fs none inv m map = sym (inv.rest m map) ∙ rw none refl
+  pub climb_ends : (at : ℕ) (old fs : List (ℕ × ℕ)) → fs ≡ [] → IsClimbing at old fs → HasClimbed K V E b at old
+  climb_ends at old fs none inv = record { rest = sym inv.rest ∙ rw none refl; faultless = inv.faultless (rw none tt) }
 
   module _ (k : IsLawful K) (v : IsLawful V) (fits : IsTrue (are_fitting K V E)) (at : ℕ) where
     module _ (old fs all : List (ℕ × ℕ)) (p i : ℕ) (ends : all ≡ fs ++ (p, i) ∷ []) (inv : IsClimbing at old all) where
@@ -93,12 +105,17 @@ module _ (K V : Kind) (E : ℕ) (b : List ℕ) where
               within = low;
             };
             less = omega (arith, most, before, after, low);
-            rest = λ m map. sym (inv.rest m map) ∙ take_rest K V E b k v fits at m map fs all p i ends inv.way low ∙ rw is refl;
+            rest = sym inv.rest ∙ take_rest (layout_of K V E) b at fs (way_short (layout_of K V E) b at fs p i all ends inv.way) all p i ends (is_inner (layout_of K V E) b (chain_before at fs) p (inner_size (layout_of K V E)) parts.2) low ∙ rw is refl;
             few = λ m map.
                 let few = inv.few m map in
                 let same = take_nodes (layout_of K V E) b at fs (last_short K V E b k v fits at m map fs all p i ends inv.way) p i low in
                 let few2 : path_nodes (layout_of K V E) b 32 (fs ++ (p, i) ∷ []) ≤ path_nodes (layout_of K V E) b 32 old = rw (← ends) few in
                 rw is (omega (arith, same, few2));
+            faultless = λ down.
+                let short = way_short (layout_of K V E) b at fs p i all ends inv.way in
+                let child = pending_child K V E b at fs new p (i + 1) is short down.pending in
+                let after = path_without K V E b at fs new p (i + 1) is short down.path in
+                inv.faultless (path_with K V E b at fs all p i ends short after.0 (from_next K V E b _ (chain_before at fs) p i stands child after.1));
           }
 
       pub climbs_on : E ≤ i → IsClimbing at old fs
@@ -109,12 +126,13 @@ module _ (K V : Kind) (E : ℕ) (b : List ℕ) where
           record {
             way = parts.0;
             most = omega (arith, most, before);
-            rest = λ m map. sym (leave_rest K V E b k v fits at m map fs all p i ends inv.way high) ∙ inv.rest m map;
+            rest = sym (leave_rest (layout_of K V E) b at fs (way_short (layout_of K V E) b at fs p i all ends inv.way) all p i ends (is_inner (layout_of K V E) b (chain_before at fs) p (inner_size (layout_of K V E)) parts.2) high) ∙ inv.rest;
             few = λ m map.
                 let few = inv.few m map in
                 let less = leave_nodes (layout_of K V E) b at fs (last_short K V E b k v fits at m map fs all p i ends inv.way) p i in
                 let few2 : path_nodes (layout_of K V E) b 32 (fs ++ (p, i) ∷ []) ≤ path_nodes (layout_of K V E) b 32 old = rw (← ends) few in
                 omega (arith, less, few2);
+            faultless = λ path. inv.faultless (path_with K V E b at fs all p i ends (way_short (layout_of K V E) b at fs p i all ends inv.way) path (from_end K V E b _ (chain_before at fs) p i high));
           }
 
     -- the next entry of a leaf
@@ -148,15 +166,11 @@ module _ (K V : Kind) (E : ℕ) (b : List ℕ) where
         no_map = λ m map. never (leaf_stands m map);
       }
 
-      -- the walk after it
-      module _ (new : UnverifiedWalk) (path : new.path.items ≡ w.path.items) (node : new.node ≡ w.node) (next : new.next ≡ w.next + 1) (end : new.end ≡ w.end) (nodes : new.nodes ≡ w.nodes) (phase : new.phase ≡ Advance) where
-        pub leaf_walks : IsUnverifiedWalk K V E b at new
-        leaf_walks = has_phase at new Advance phase (record {
-          way = rw path has.0.way;
-          run = λ x. rw (path, node, end) run;
-          few = λ m map. rw (path, nodes) (has.0.few m map);
-        })
+      pub leaf_some : 0 < walk_most E w
+      leaf_some = rw has.1 (omega (arith, less))
 
+      -- the walk after it
+      module _ (new : UnverifiedWalk) (path : new.path.items ≡ w.path.items) (node : new.node ≡ w.node) (next : new.next ≡ w.next + 1) (end : new.end ≡ w.end) (nodes : new.nodes ≡ w.nodes) (taken : new.taken ≡ w.taken + 1) (phase : new.phase ≡ Advance) where
         pub leaf_takes : EntryStands K V E b (w.node, w.next) → TakesEntry K V E b at w new (w.node, w.next)
         leaf_takes stands =
             let old_phase = has.1 in
@@ -169,9 +183,19 @@ module _ (K V : Kind) (E : ℕ) (b : List ℕ) where
                 inside = leaf_inside;
                 within = leaf_within;
               };
+              more = taken;
               less = rw (phase, old_phase, path, nodes) (omega (arith, fewer));
-              turns = rw (phase, old_phase, path, nodes) (omega (arith, fewer));
-              rest = λ m map. rw (phase, old_phase, path, node, next, end) (walk_more (layout_of K V E) b w.node w.next w.end w.path.items less);
+              rest = rw (phase, old_phase, path, node, next, end) (walk_more (layout_of K V E) b w.node w.next w.end w.path.items less);
+              goes_on = λ over. let never : Advance ≡ Over = sym phase ∙ over in cc never;
+              faultless = λ left.
+                  let after : FaultlessAt K V E b at w.node (w.next + 1) w.end w.path.items = rw (← path, ← node, ← next, ← end) (at_leaf at new phase left) in
+                  left_at at w old_phase (record {
+                    entries = λ j le low. elim (cases_eq j w.next) [
+                      | inl e ↦ subst (λ i. EntryStands K V E b (w.node, i)) (sym e) stands
+                      | inr e ↦ after.entries j (omega (arith, le, e)) low
+                    ];
+                    path = after.path;
+                  });
             }
 
     -- the next entry of the path, where none is left of the leaf
@@ -179,13 +203,16 @@ module _ (K V : Kind) (E : ℕ) (b : List ℕ) where
       places_are : unverified_left (layout_of K V E) b at w ≡ path_rest (layout_of K V E) b 32 w.path.items
       places_are = rw has.1 (walk_end (layout_of K V E) b w.node w.next w.end w.path.items none)
 
-      pub path_turns : (new : UnverifiedWalk) → new.phase ≡ Over → walk_turns E new < walk_turns E w
-      path_turns new over = rw (over, has.1) (omega arith)
+      on_path : FaultlessPath K V E b 32 at w.path.items → FaultlessLeft K V E b at w
+      on_path path = left_at at w has.1 (record { entries = λ j le low. absurd (omega (arith, none, le, low)); path = path })
 
-      pub path_finishes : (new : UnverifiedWalk) → new.phase ≡ Over → OnMaps K V E b at (path_rest (layout_of K V E) b 32 w.path.items ≡ []) → Finishes K V E b at w new
-      path_finishes new over rest = record { over = over; none = λ m map. places_are ∙ rest m map }
+      pub path_some : (new : List (ℕ × ℕ)) (e : ℕ × ℕ) → IsClimbed K V E b at w.path.items new e → 0 < walk_most E w
+      path_some new e climb = let less = climb.less in rw has.1 (omega (arith, less))
 
-      module _ (new : UnverifiedWalk) (nodes : new.nodes ≡ w.nodes) (phase : new.phase ≡ Descend) (e : ℕ × ℕ) (climb : IsClimbed K V E b at w.path.items new.path.items e) where
+      pub path_finishes : (new : UnverifiedWalk) → new.phase ≡ Over → HasClimbed K V E b at w.path.items → Finishes K V E b at w new
+      path_finishes new over climb = record { over = over; none = places_are ∙ climb.rest; faultless = λ begun. on_path climb.faultless }
+
+      module _ (new : UnverifiedWalk) (nodes : new.nodes ≡ w.nodes) (taken : new.taken ≡ w.taken + 1) (phase : new.phase ≡ Descend) (e : ℕ × ℕ) (climb : IsClimbed K V E b at w.path.items new.path.items e) where
         pub path_walks : IsUnverifiedWalk K V E b at new
         path_walks = has_phase at new Descend phase (record {
           way = climb.way;
@@ -198,46 +225,31 @@ module _ (K V : Kind) (E : ℕ) (b : List ℕ) where
             let old_phase = has.1 in
             record {
               taken = climb.taken;
+              more = taken;
               less = rw (phase, old_phase, nodes) (omega (arith, less));
-              turns = rw (phase, old_phase, nodes) (omega (arith, less));
-              rest = λ m map. places_are ∙ climb.rest m map ∙ rw phase refl;
+              rest = places_are ∙ climb.rest ∙ rw phase refl;
+              goes_on = λ over. let never : Descend ≡ Over = sym phase ∙ over in cc never;
+              faultless = λ left. on_path (climb.faultless (down_left at new phase left));
             }
 
   module _ (at : ℕ) where
-    -- a walk is at the leaf to which it goes down
-    module _ (old new : UnverifiedWalk) (phase : new.phase ≡ Advance) (leaf : LeafFound K V E b at old.path.items old.nodes new.path.items new.nodes (record { node = new.node; count = new.end })) (start : new.next ≡ 0) where
-      has_leaf : HasLeaf K V E b at new
-      has_leaf = record { way = leaf.way; run = λ less. leaf.run (omega (arith, less)); few = leaf.few }
-
-      pub down_walks : IsUnverifiedWalk K V E b at new
-      down_walks = has_phase at new Advance phase has_leaf
-
-      pub down_goes : GoesDown K V E b at old new
-      down_goes =
-          let most = leaf.most in
-          record {
-            has = has_leaf;
-            phase = phase;
-            most = rw (phase, start) (omega (arith, most));
-            rest = λ m map. rw (phase, start) (leaf.rest m map);
-          }
-
     -- what a walk gives once it is down is what it gives
     module _ (KR VR : List ℕ → ℕ → ℕ → ℕ → Refusal → Type 0) (old mid new : UnverifiedWalk) (phase : old.phase ≡ Descend) (down : GoesDown K V E b at old mid) where
-      turns_less : {n : ℕ} → n < walk_turns E mid → n < walk_turns E old
-      turns_less less =
-          let most : most_at E Advance mid ≤ most_at E Descend old = rw down.phase at down.most in
-          rw phase (let l = rw down.phase at less in omega (arith, l, most))
-
       pub steps_on : (r : Result (Option (ℕ × ℕ)) Refusal) → Stepped K V E b KR VR at mid new r → Stepped K V E b KR VR at old new r
-      steps_on (Err r) s = (s.0, turns_less s.1)
-      steps_on (Ok None) s = record { over = s.over; none = λ m map. rw phase (sym (down.rest m map) ∙ s.none m map) }
+      steps_on (Err r) s = record { fails = s.fails; begun = λ over. let never : Descend ≡ Over = sym phase ∙ over in cc never; over = s.over }
+      steps_on (Ok None) s = record {
+        over = s.over;
+        none = rw phase (sym down.rest ∙ s.none);
+        faultless = λ begun. left_down at old phase (down.faultless (s.faultless (λ over. let never : Advance ≡ Over = sym down.phase ∙ over in cc never)));
+      }
       steps_on (Ok (Some e)) s =
           let less = s.less in
           let most = down.most in
           record {
             taken = s.taken;
+            more = rw (← down.taken) s.more;
             less = rw phase (omega (arith, less, most));
-            turns = turns_less s.turns;
-            rest = λ m map. rw phase (sym (down.rest m map) ∙ s.rest m map);
+            rest = rw phase (sym down.rest ∙ s.rest);
+            goes_on = s.goes_on;
+            faultless = λ left. left_down at old phase (down.faultless (s.faultless left));
           }

@@ -1,5 +1,5 @@
 -- What is left of a list up to the first element past a bound, and between two bounds.
-use Rattle.std.proofs.Common.{◌≡◌, ℕ, List, [], ◌∷◌, ◌++◌, map, refl, sym, ap, ◌∙◌, subst, Bool, true, false, not, ◌&&◌, inl, inr}
+use Rattle.std.proofs.Common.{◌≡◌, ℕ, List, [], ◌∷◌, ◌++◌, map, refl, sym, ap, ◌∙◌, Bool, true, false, not, ◌&&◌, inl, inr}
 use Rattle.std.proofs.lemmas.Bool.{cases_Bool}
 use Rattle.std.specs.Prelude.{filter}
 use Rattle.std.specs.Ordering.{is_le, is_lt}
@@ -7,13 +7,12 @@ use Rattle.std.specs.Range.Bound.{bound_map}
 use Rattle.std.specs.declared.cmp.Ordering.{Ordering}
 use Rattle.std.specs.declared.ops.Bound.{Bound}
 use Rattle.std.specs.declared.ops.Bound.TheVariants.{Included, Excluded, Unbounded}
-use Rattle.rkyv_btree_base.specs.Kind.{Kind, IsLawful}
+use Rattle.rkyv_btree_base.specs.Kind.{Kind}
 use Rattle.rkyv_btree_base.specs.Layout.{layout_of}
-use Rattle.rkyv_btree_base.specs.Read.{entry_at}
-use Rattle.rkyv_btree_unverified.proofs.OnWalks.{whole_is}
-use Rattle.rkyv_btree_unverified.specs.mirror.Sought.{from_place, past_place, until, IsSought}
-use Rattle.rkyv_btree_unverified.specs.mirror.Walked.{down_rest}
-use Rattle.rkyv_btree_view.specs.Map.{IsMap}
+use Rattle.rkyv_btree_base.specs.Read.{entry_at, map_tree, read_map}
+use Rattle.rkyv_btree_base.specs.Tree.{Tree, list}
+use Rattle.rkyv_btree_unverified.proofs.Froms.{from_end, from_kept, from_whole}
+use Rattle.rkyv_btree_unverified.specs.EntriesFrom.{entries_from, from_place, past_place, places_from, until}
 use Rattle.rkyv_btree_walk.proofs.Ranges.{from_rises, past_rises, within_means, run_means}
 use Rattle.rkyv_btree_walk.proofs.Seeks.{rises_right}
 use Rattle.rkyv_btree_walk.specs.Bounds.{IsRun, OrderedFor, entries_within, is_from}
@@ -33,6 +32,10 @@ module _ {X : Type 0} where
         | inl t ↦ rw t (x ∷ xs, refl)
         | inr t ↦ let r = until_front test xs in rw t (r.0, ap (λ ys. x ∷ ys) r.1)
       ]
+
+  until_all : (xs : List X) → until (λ _. false) xs ≡ xs
+  until_all [] = refl
+  until_all (x ∷ xs) = ap (λ ys. x ∷ ys) (until_all xs)
 
   none_kept : (test : X → Bool) (xs : List X) → AllPass test xs → filter (λ e. not (test e)) xs ≡ []
   none_kept test [] h = refl
@@ -83,35 +86,41 @@ module _ (K V : Kind) (E : ℕ) {T : Type 0} (compared_at : T → List ℕ → �
     past_same (Included n) e = ap is_lt (agree n b _)
     past_same (Excluded n) e = ap is_le (agree n b _)
 
-  module _ (k : IsLawful K) (v : IsLawful V) (at : ℕ) (m : List (K.Value × V.Value)) (is : IsMap K V E b at m) (low high : Bound T) (rest : List (ℕ × ℕ)) (sought : IsSought (from_place K V E compared_at b low) (down_rest (layout_of K V E) b at []) rest) where
-    abbrev all : List (ℕ × ℕ)
-    all = down_rest (layout_of K V E) b at []
+  module _ (at : ℕ) (low high : Bound T) where
+    abbrev tree : Tree (ℕ × ℕ)
+    tree = map_tree (layout_of K V E) b at
 
-    -- what is sought and not past a bound is a run of the entries
-    pub until_run : IsRun (map (entry_at K V E b) (until (past_place K V E compared_at b high) rest)) m
+    abbrev from : ℕ × ℕ → Bool
+    from = from_place K V E compared_at b low
+
+    abbrev past : ℕ × ℕ → Bool
+    past = past_place K V E compared_at b high
+
+    -- from one bound up to the other is a run of the entries
+    pub until_run : IsRun (map (entry_at K V E b) (until past (places_from K V E compared_at b low at))) (read_map K V E b at)
     until_run =
-        let past = past_place K V E compared_at b high in
-        let front = until_front past rest in
-        let run : IsRun (until past rest) all = (sought.0.0, front.0, sought.0.1 ∙ ap (λ xs. sought.0.0 ++ xs) front.1) in
-        subst (λ l. IsRun (map (entry_at K V E b) (until past rest)) l) (whole_is K V E b k v at m is) (run_means (entry_at K V E b) (until past rest) all run)
+        let front = until_front past (places_from K V E compared_at b low at) in
+        let end = from_end from tree in
+        let run : IsRun (until past (places_from K V E compared_at b low at)) (list tree) = (end.0, front.0, end.1 ∙ ap (λ xs. end.0 ++ xs) front.1) in
+        run_means (entry_at K V E b) (until past (places_from K V E compared_at b low at)) (list tree) run
 
     -- and all that are within both, where the entries are ordered for both
-    pub until_within : (compared : T → K.Value → Ordering) → ((n : T) (b : List ℕ) (at : ℕ) → compared_at n b at ≡ compared n (K.read b at)) → OrderedFor (bound_map compared low) m → OrderedFor (bound_map compared high) m
-        → map (entry_at K V E b) (until (past_place K V E compared_at b high) rest) ≡ entries_within (bound_map compared low) (bound_map compared high) m
+    pub until_within : (compared : T → K.Value → Ordering) → ((n : T) (b : List ℕ) (at : ℕ) → compared_at n b at ≡ compared n (K.read b at)) → OrderedFor (bound_map compared low) (read_map K V E b at) → OrderedFor (bound_map compared high) (read_map K V E b at)
+        → map (entry_at K V E b) (until past (places_from K V E compared_at b low at)) ≡ entries_within (bound_map compared low) (bound_map compared high) (read_map K V E b at)
     until_within compared agree lo hi =
         let means = entry_at K V E b in
-        let whole : map means all ≡ m = whole_is K V E b k v at m is in
-        let from = from_place K V E compared_at b low in
-        let past = past_place K V E compared_at b high in
-        let from_up = rises_alike from _ (from_same compared agree low) all (from_rises means all (bound_map compared low) (subst (λ l. OrderedFor (bound_map compared low) l) (sym whole) lo)) in
-        let past_up = rises_alike past _ (past_same compared agree high) all (past_rises means all (bound_map compared high) (subst (λ l. OrderedFor (bound_map compared high) l) (sym whole) hi)) in
-        let past_rest : Rises past rest = rises_right past sought.0.0 rest (rw sought.0.1 at past_up) in
-        let kept : rest ≡ filter from all = sought.1 from_up in
+        let end = from_end from tree in
+        let from_up = rises_alike from _ (from_same compared agree low) (list tree) (from_rises means (list tree) (bound_map compared low) lo) in
+        let past_up = rises_alike past _ (past_same compared agree high) (list tree) (past_rises means (list tree) (bound_map compared high) hi) in
+        let past_rest : Rises past (entries_from from tree) = rises_right past end.0 (entries_from from tree) (rw end.1 at past_up) in
         ap (map means)
-        (until_kept past rest past_rest ∙ ap (filter (λ e. not (past e))) kept ∙ kept_both from past all
-        ∙ kept_same _ _ (λ e. both_same (from_same compared agree low e) (past_same compared agree high e)) all)
-        ∙ within_means means (bound_map compared low) (bound_map compared high) all
-        ∙ ap (entries_within (bound_map compared low) (bound_map compared high)) whole
+        (until_kept past (entries_from from tree) past_rest ∙ ap (filter (λ e. not (past e))) (from_kept from tree from_up) ∙ kept_both from past (list tree)
+        ∙ kept_same _ _ (λ e. both_same (from_same compared agree low e) (past_same compared agree high e)) (list tree))
+        ∙ within_means means (bound_map compared low) (bound_map compared high) (list tree)
       where
         both_same : {a c p q : Bool} → a ≡ c → p ≡ q → (a && not p) ≡ (c && not q)
         both_same e f = rw (e, f) refl
+
+    -- without bounds these are all of them
+    pub until_whole : low ≡ Unbounded → high ≡ Unbounded → map (entry_at K V E b) (until past (places_from K V E compared_at b low at)) ≡ read_map K V E b at
+    until_whole no_low no_high = rw (no_low, no_high) (ap (map (entry_at K V E b)) (until_all (entries_from (λ _. true) tree) ∙ from_whole tree))

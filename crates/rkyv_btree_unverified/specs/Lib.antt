@@ -1,4 +1,6 @@
 -- What lookups promise in bytes that nobody has validated.
+pub mod EntriesFrom
+pub mod Left
 pub mod Lookups
 pub mod Steps
 pub mod UnverifiedIter
@@ -6,5 +8,6 @@ pub mod UnverifiedKeys
 pub mod UnverifiedRange
 pub mod UnverifiedRangeKeys
 pub mod Walks
+pub mod Ways
 pub mod laws
 pub mod mirror

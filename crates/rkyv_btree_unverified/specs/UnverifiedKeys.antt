@@ -21,11 +21,11 @@ module _ {M K V : Type 0} {g : ArchivedMap.Ghosts M K V} {m : Portable.Ghosts M}
   abbrev pub key_position_of : UnverifiedKeys M K V g m k v → ℕ
   key_position_of s = position_of s.entries
 
-  -- if the bytes are a map, the keys that an iterator has left, in order
+  -- of the keys to which the pointers lead, those that an iterator has left, in order
   abbrev pub unverified_keys_left : UnverifiedKeys M K V g m k v → List k.kind.Value
   unverified_keys_left s = map (λ e. e.0) (entries_left s.entries)
 
-  -- on all bytes an upper bound of the keys that it still lends, and of the items
+  -- an upper bound of the keys that it still lends, and of the items
   abbrev pub most_keys_left : UnverifiedKeys M K V g m k v → ℕ
   most_keys_left s = most_left s.entries
 

@@ -2,18 +2,17 @@
 use Rattle.std.specs.Prelude.{◌≡◌, ℕ, ◌<◌, List, [], ◌∷◌, map, false, Option, Some, None, Result, Ok, Err}
 use Rattle.std.specs.declared.cmp.Ordering.{Ordering}
 use Rattle.std.specs.declared.ops.Bound.{Bound}
-use Rattle.rkyv_btree_base.specs.Layout.{layout_of}
 use Rattle.rkyv_btree_base.specs.Read.{entry_at}
 use Rattle.rkyv_btree_base.specs.Refusal.{Refusal}
 use Rattle.rkyv_btree_portable.specs.declared.check.Portable
 use Rattle.rkyv_btree_walk.specs.declared.archived_map.ArchivedMap
+use Rattle.rkyv_btree_unverified.specs.EntriesFrom.{is_past_place, past_place, until}
+use Rattle.rkyv_btree_unverified.specs.Left.{most_of, turns_of}
 use Rattle.rkyv_btree_unverified.specs.Steps.{entry_places, places}
-use Rattle.rkyv_btree_unverified.specs.Walks.{IsReachedEntry, WalkRefuses}
+use Rattle.rkyv_btree_unverified.specs.Walks.{IsReachedEntry, WalkRefuses, NoMap}
+use Rattle.rkyv_btree_unverified.specs.Ways.{places_left}
 use Rattle.rkyv_btree_unverified.specs.declared.unverified_range.UnverifiedRange.{UnverifiedRange}
 use Rattle.rkyv_btree_unverified.specs.declared.unverified_walk.Phase.TheVariants.{Over}
-use Rattle.rkyv_btree_unverified.specs.mirror.Sought.{is_past_place, past_place, until}
-use Rattle.rkyv_btree_unverified.specs.mirror.Walked.{unverified_left, walk_most, walk_turns}
-use Rattle.rkyv_btree_view.specs.Map.{IsMap}
 use Rattle.rkyv_btree_view.specs.View.{view_entry}
 use Rattle.rkyv_btree_view.specs.declared.view.View.{View}
 
@@ -26,57 +25,53 @@ module _ {M T R K V : Type 0} {g : ArchivedMap.Ghosts M K V} {m : Portable.Ghost
   range_position_of s = s.pos
 
   -- the range of keys that it lends
-  abbrev pub asked_range : UnverifiedRange M T R K V g m k v → R
-  asked_range s = s.range
+  abbrev pub key_range : UnverifiedRange M T R K V g m k v → R
+  key_range s = s.range
 
-  -- on all bytes an upper bound of the entries that it still lends, and of the items
+  -- an upper bound of the entries that it still lends, and of the items
   abbrev pub most_range_left : UnverifiedRange M T R K V g m k v → ℕ
-  most_range_left s = walk_most g.E s.walk
+  most_range_left s = most_of k.kind v.kind g.E s.buf.now s.walk
 
   abbrev pub range_turns_left : UnverifiedRange M T R K V g m k v → ℕ
-  range_turns_left s = walk_turns g.E s.walk
+  range_turns_left s = turns_of k.kind v.kind g.E s.buf.now s.walk
 
   -- it is over: only `None` follows
   abbrev pub IsRangeOver : UnverifiedRange M T R K V g m k v → Type 0
   IsRangeOver s = s.walk.phase ≡ Over
 
-  -- if the bytes are a map, this holds
-  abbrev pub IfRangeMap : UnverifiedRange M T R K V g m k v → Type 0 → Type 0
-  IfRangeMap s Holds = (m : List (k.kind.Value × v.kind.Value)) → IsMap k.kind v.kind g.E s.buf.now s.pos m → Holds
-
   module _ (compared : T → List ℕ → ℕ → Ordering) (end_bound : R → Bound T) where
-    -- if the bytes are a map, the entries that an iterator has left, in order
+    -- of the entries to which the pointers lead, those of the range that an iterator has left, in order
     abbrev pub unverified_range_left : UnverifiedRange M T R K V g m k v → List (k.kind.Value × v.kind.Value)
     unverified_range_left s = map (entry_at k.kind v.kind g.E s.buf.now)
-        (until (past_place k.kind v.kind g.E compared s.buf.now (end_bound s.range)) (unverified_left (layout_of k.kind v.kind g.E) s.buf.now s.pos s.walk))
+        (until (past_place k.kind v.kind g.E compared s.buf.now (end_bound s.range)) (places_left k.kind v.kind g.E s.buf.now s.pos s.walk))
 
     module _ (has_bounds : R → Type 0) where
-      -- an entry that it lends is one of the buffer, at the places of an entry that is reached, not past the end of the range; less is
-      -- left
+      -- an entry that it lends is the first that is left, at the places of an entry that is reached, and not past the end of the
+      -- range; less is left
       pub record RangeLends (s : UnverifiedRange M T R K V g m k v) (e : View K k × View V v) (t : UnverifiedRange M T R K V g m k v) : Type 0 where
         pub buffer : (e.0.buf.now ≡ s.buf.now) × (e.1.buf.now ≡ s.buf.now)
+        pub entries : has_bounds s.range → unverified_range_left s ≡ view_entry e ∷ unverified_range_left t
         pub place : ℕ × ℕ
-        pub stands_at : places e ≡ entry_places k.kind v.kind g.E place
         pub reached : IsReachedEntry k.kind v.kind g.E s.buf.now s.pos place
+        pub places : places e ≡ entry_places k.kind v.kind g.E place
         pub within : has_bounds s.range → is_past_place compared e.0.buf.now (end_bound s.range) e.0.pos ≡ false
         pub less : most_range_left t < most_range_left s
-        pub entries : has_bounds s.range → IfRangeMap s (unverified_range_left s ≡ view_entry e ∷ unverified_range_left t)
 
       -- at the end of a range nothing is left
       pub record RangeEnds (s t : UnverifiedRange M T R K V g m k v) : Type 0 where
-        pub entries : has_bounds s.range → IfRangeMap s (unverified_range_left s ≡ [])
+        pub entries : has_bounds s.range → unverified_range_left s ≡ []
         pub over : IsRangeOver t
 
       module _ (KR VR : List ℕ → ℕ → ℕ → ℕ → Refusal → Type 0) where
         -- an error has its reason, the bytes are no map, and it is the last item
-        pub record RangeFails (s : UnverifiedRange M T R K V g m k v) (r : Refusal) (t : UnverifiedRange M T R K V g m k v) : Type 0 where
-          pub refuses : WalkRefuses k.kind v.kind g.E s.buf.now KR VR s.pos r
-          pub no_map : IfRangeMap s ⊥
+        pub record RangeFails (s : UnverifiedRange M T R K V g m k v) (e : Refusal) (t : UnverifiedRange M T R K V g m k v) : Type 0 where
+          pub refuses : WalkRefuses k.kind v.kind g.E s.buf.now KR VR s.pos e
+          pub no_map : NoMap k.kind v.kind g.E s.buf.now s.pos
           pub over : IsRangeOver t
 
         abbrev pub RangeItemGives : UnverifiedRange M T R K V g m k v → Option (Result (View K k × View V v) Refusal) → UnverifiedRange M T R K V g m k v → Type 0
         RangeItemGives s None t = RangeEnds s t
-        RangeItemGives s (Some (Err r)) t = RangeFails s r t
+        RangeItemGives s (Some (Err e)) t = RangeFails s e t
         RangeItemGives s (Some (Ok e)) t = RangeLends s e t
 
         -- a call of `next`, with its item

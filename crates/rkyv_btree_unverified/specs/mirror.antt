@@ -1,4 +1,5 @@
 -- Functions that follow the code.
+pub mod Faultless
 pub mod Passes
 pub mod Sought
 pub mod Walked

@@ -2,12 +2,14 @@
 ghost use Rattle.std.specs.Prelude.{◌≡◌, ◌≤◌, ◌*◌, ◌/◌, ℕ, Ok, IsTrue, length, map};
 ghost use Rattle.std.specs.Iterator.{IsFinite};
 ghost use Rattle.rkyv_btree_base.specs.Layout.{are_fitting, layout_of, leaf_size};
-ghost use Rattle.rkyv_btree_unverified.specs.mirror.Walked.{IsUnverifiedWalk, IsTaken};
-ghost use Rattle.rkyv_btree_unverified.specs.laws.Walked.{walk-prop};
+ghost use Rattle.rkyv_btree_unverified.specs.Walks.{Fails, IsFaultless};
+ghost use Rattle.rkyv_btree_unverified.specs.mirror.Walked.{IsCounted, HasLeft, IsTaken, places_of};
+ghost use Rattle.rkyv_btree_unverified.specs.mirror.Faultless.{FaultlessLeft};
+ghost use Rattle.rkyv_btree_unverified.specs.laws.Walked.{counted-prop, left-prop, faultless-prop};
 ghost use Rattle.rkyv_btree_unverified.specs.Steps.{places, entry_places};
 ghost use Rattle.rkyv_btree_view.specs.Map.{IsMap};
 ghost use Rattle.rkyv_btree_view.specs.View.{view_entry};
-ghost use Rattle.rkyv_btree_base.specs.Read.{entry_at};
+ghost use Rattle.rkyv_btree_base.specs.Read.{entry_at, read_map};
 
 use crate::unverified::{Unverified, UnverifiedEntries};
 use crate::unverified_node::leaf_size;
@@ -31,7 +33,9 @@ pub struct UnverifiedIter<'a, M: ArchivedMap> {
     walk: UnverifiedWalk,
     of: PhantomData<M>,
     ghost fitting: { IsTrue (are_fitting M.Key.kind M.Mapped.kind M.E) },
-    ghost walks: { IsUnverifiedWalk M.Key.kind M.Mapped.kind M.E buf.now pos walk } by { walk-prop M.Key.kind M.Mapped.kind M.E buf.now pos walk },
+    ghost walks: { IsCounted M.Key.kind M.Mapped.kind M.E buf.now pos walk } by { counted-prop M.Key.kind M.Mapped.kind M.E buf.now pos walk },
+    ghost left: { HasLeft M.Key.kind M.Mapped.kind M.E buf.now pos walk (places_of M.Key.kind M.Mapped.kind M.E buf.now pos) } by { left-prop M.Key.kind M.Mapped.kind M.E buf.now pos walk (places_of M.Key.kind M.Mapped.kind M.E buf.now pos) },
+    ghost faultless: { FaultlessLeft M.Key.kind M.Mapped.kind M.E buf.now pos walk → IsFaultless M.Key.kind M.Mapped.kind M.E buf.now pos } by { faultless-prop M.Key.kind M.Mapped.kind M.E buf.now pos walk },
 }
 
 /// Returns the views of the entry at a place.
@@ -94,13 +98,14 @@ impl<
     V: CheckBytes,
     M: ArchivedMap<Key = K, Mapped = V> + UnverifiedEntries,
 > Unverified<'a, M> {
-    ghost use Rattle.rkyv_btree_unverified.specs.UnverifiedIter.{buffer_of, position_of, entries_left, most_left, ShowsItems};
+    ghost use Rattle.rkyv_btree_unverified.specs.UnverifiedIter.{buffer_of, position_of, entries_left, most_left, Agrees, IfNoError, ShowsItems};
 
     /// Returns an iterator over the entries, in order. It validates each node, key and value when it comes to it. No memory is
     /// allocated, by the iterator either.
     ///
-    /// Each item is an entry or an error, and an error is the last item. Entries before an error are valid, but the bytes may be no
-    /// map.
+    /// Each item is an entry or an error, and an error is the last item. On all bytes the entries are those to which the pointers lead, and
+    /// `None` comes after all of them. Entries before an error are valid, but the bytes may be no map. If no item is an error, nothing to
+    /// which the pointers lead is at fault.
     ///
     /// # Examples
     ///
@@ -117,6 +122,15 @@ impl<
         ensures most { most_left result
             ≤ M.E * (length self.entry.buf.now / leaf_size (layout_of K.kind V.kind M.E)) }
         ensures ends { IsFinite (⟦<UnverifiedIter<'a, M> as Iterator>⟧.remaining result) }
+        // The items are the entries to which the pointers lead, in order, to their end or up to an error.
+        ensures whole { entries_left result
+            ≡ read_map K.kind V.kind M.E self.entry.buf.now self.entry.pos }
+        ensures agrees { Agrees ⟦<UnverifiedIter<'a, M> as Iterator>⟧.next_gives
+            (Fails K.kind V.kind M.E self.entry.buf.now K.Refuses V.Refuses self.entry.pos)
+            view_entry result (read_map K.kind V.kind M.E self.entry.buf.now self.entry.pos) }
+        // If no item is an error, nothing to which the pointers lead is at fault.
+        ensures faultless { IfNoError ⟦<UnverifiedIter<'a, M> as Iterator>⟧.next_gives result
+            (IsFaultless K.kind V.kind M.E self.entry.buf.now self.entry.pos) }
         // On a map the items are its entries, and no error.
         ensures yields { (m : _) → IsMap K.kind V.kind M.E self.entry.buf.now self.entry.pos m →
             ShowsItems ⟦<UnverifiedIter<'a, M> as Iterator>⟧.next_gives view_entry result m }
@@ -132,6 +146,7 @@ impl<
                 next: 0,
                 end: 0,
                 nodes: self.buf.len() / leaf_size::<K, V, M>() as usize,
+                taken: 0,
                 phase: Phase::Descend,
             },
             of: PhantomData,

@@ -6,7 +6,7 @@ ghost use Rattle.rkyv_btree_base.specs.Refusals.{leaf_len};
 ghost use Rattle.rkyv_btree_base.specs.Views.{stands};
 ghost use Rattle.rkyv_btree_unverified.specs.Steps.{HasRoom, NodeGives, PlaceGives};
 ghost use Rattle.rkyv_btree_unverified.specs.mirror.Passes.{NodePasses};
-ghost use Rattle.rkyv_btree_walk.specs.mirror.Node.{is_leaf, entry_count};
+ghost use Rattle.rkyv_btree_walk.specs.Nodes.{is_leaf, entry_count};
 
 use rkyv_btree_base::bytes::num32;
 use rkyv_btree_base::check::{CheckBytes, Portable, Window};

@@ -3,10 +3,12 @@ ghost use Rattle.std.specs.Prelude.{◌≡◌, ◌≤◌, ◌*◌, ◌/◌, IfEr
 ghost use Rattle.std.specs.Iterator.{IsFinite};
 ghost use Rattle.rkyv_btree_base.specs.Increasing.{Increasing};
 ghost use Rattle.rkyv_btree_base.specs.Layout.{are_fitting, layout_of, leaf_size};
-ghost use Rattle.rkyv_btree_unverified.specs.Walks.{WalkRefuses};
-ghost use Rattle.rkyv_btree_unverified.specs.laws.Walked.{walk-prop};
-ghost use Rattle.rkyv_btree_unverified.specs.mirror.Sought.{is_past_place};
-ghost use Rattle.rkyv_btree_unverified.specs.mirror.Walked.{IsUnverifiedWalk};
+ghost use Rattle.rkyv_btree_base.specs.Read.{read_map};
+ghost use Rattle.rkyv_btree_unverified.specs.EntriesFrom.{entries_between, is_past_place};
+ghost use Rattle.rkyv_btree_unverified.specs.Walks.{Fails, WalkRefuses};
+ghost use Rattle.rkyv_btree_unverified.specs.laws.Walked.{counted-prop};
+ghost use Rattle.rkyv_btree_unverified.specs.mirror.Walked.{IsCounted};
+ghost use Rattle.std.specs.declared.ops.Bound.TheVariants.{Unbounded};
 ghost use Rattle.rkyv_btree_view.specs.Map.{IsMap};
 ghost use Rattle.rkyv_btree_view.specs.Range.{ByNativeBounds};
 ghost use Rattle.rkyv_btree_view.specs.View.{view_entry};
@@ -38,7 +40,7 @@ pub struct UnverifiedRange<'a, M: ArchivedMap, T, R> {
     of: PhantomData<M>,
     by: PhantomData<T>,
     ghost fitting: { IsTrue (are_fitting M.Key.kind M.Mapped.kind M.E) },
-    ghost walks: { IsUnverifiedWalk M.Key.kind M.Mapped.kind M.E buf.now pos walk } by { walk-prop M.Key.kind M.Mapped.kind M.E buf.now pos walk },
+    ghost walks: { IsCounted M.Key.kind M.Mapped.kind M.E buf.now pos walk } by { counted-prop M.Key.kind M.Mapped.kind M.E buf.now pos walk },
 }
 
 /// Returns whether a key is past the end of a range.
@@ -114,11 +116,14 @@ impl<
     V: CheckBytes,
     M: ArchivedMap<Key = K, Mapped = V> + UnverifiedEntries,
 > Unverified<'a, M> {
-    ghost use Rattle.rkyv_btree_unverified.specs.UnverifiedIter.{ShowsItems};
-    ghost use Rattle.rkyv_btree_unverified.specs.UnverifiedRange.{asked_range, range_buffer_of, range_position_of, most_range_left, unverified_range_left};
+    ghost use Rattle.rkyv_btree_unverified.specs.UnverifiedIter.{Agrees, ShowsItems};
+    ghost use Rattle.rkyv_btree_unverified.specs.UnverifiedRange.{key_range, range_buffer_of, range_position_of, most_range_left, unverified_range_left};
 
     /// Returns an iterator over the entries whose keys are in a range of native values, as `3..=9` or `"b"..`, in order. It validates each
     /// node, key and value when it comes to it, and the keys that it compares. No memory is allocated, by the iterator either.
+    ///
+    /// Each item is an entry or an error, and an error is the last item. On all bytes the entries are a run of those to which the pointers
+    /// lead, and `None` comes after all of it. If the keys increase, they are all in the range.
     ///
     /// # Errors
     ///
@@ -131,7 +136,7 @@ impl<
         K: CompareWith<T>,
         ensures buffer { IfOk result (λ entries. range_buffer_of entries ≡ self.entry.buf.now) }
         ensures position { IfOk result (λ entries. range_position_of entries ≡ self.entry.pos) }
-        ensures range { IfOk result (λ entries. asked_range entries ≡ range) }
+        ensures range { IfOk result (λ entries. key_range entries ≡ range) }
         // On all bytes it ends, after no more entries than the leaves that fit into the buffer can have.
         ensures most { IfOk result (λ entries. most_range_left entries
             ≤ M.E * (length self.entry.buf.now / leaf_size (layout_of K.kind V.kind M.E))) }
@@ -142,26 +147,49 @@ impl<
             (WalkRefuses K.kind V.kind M.E self.entry.buf.now K.Refuses V.Refuses self.entry.pos) }
         ensures accepts { (m : _) → IsMap K.kind V.kind M.E self.entry.buf.now self.entry.pos m →
             IsOk result }
-        // On a map the items are a contiguous run of its entries, and no error.
+        // Of the entries to which the pointers lead these are left, in any order of the keys.
+        ensures left { R.has_bounds range → IfOk result (λ entries.
+            unverified_range_left K.compared_at R.end_bound entries
+            ≡ entries_between K.kind V.kind M.E K.compared_at self.entry.buf.now
+            (R.start_bound range) (R.end_bound range) self.entry.pos) }
+        // The items are these, to their end or up to an error.
+        ensures agrees { R.has_bounds range → IfOk result (λ entries.
+            Agrees ⟦<UnverifiedRange<'a, M, T, R> as Iterator>⟧.next_gives
+            (Fails K.kind V.kind M.E self.entry.buf.now K.Refuses V.Refuses self.entry.pos)
+            view_entry entries
+            (entries_between K.kind V.kind M.E K.compared_at self.entry.buf.now
+            (R.start_bound range) (R.end_bound range) self.entry.pos)) }
+        // They are a contiguous run of all.
+        ensures run { IfOk result (λ entries. IsRun
+            (unverified_range_left K.compared_at R.end_bound entries)
+            (read_map K.kind V.kind M.E self.entry.buf.now self.entry.pos)) }
+        // Between no bounds they are all.
+        ensures whole { R.has_bounds range →
+            R.start_bound range ≡ Unbounded → R.end_bound range ≡ Unbounded →
+            IfOk result (λ entries. unverified_range_left K.compared_at R.end_bound entries
+            ≡ read_map K.kind V.kind M.E self.entry.buf.now self.entry.pos) }
+        // If the keys increase, they are all in the range.
+        ensures sorted { R.has_bounds range → ByNativeBounds K.kind K.compared_at
+            (R.start_bound range) (R.end_bound range) (λ lo hi.
+            Increasing K.kind.order (read_map K.kind V.kind M.E self.entry.buf.now self.entry.pos) →
+            IfOk result (λ entries. unverified_range_left K.compared_at R.end_bound entries
+            ≡ entries_within lo hi
+            (read_map K.kind V.kind M.E self.entry.buf.now self.entry.pos))) }
+        // So they are if the entries are ordered for both bounds.
+        ensures within { R.has_bounds range → ByNativeBounds K.kind K.compared_at
+            (R.start_bound range) (R.end_bound range) (λ lo hi.
+            OrderedFor lo (read_map K.kind V.kind M.E self.entry.buf.now self.entry.pos) →
+            OrderedFor hi (read_map K.kind V.kind M.E self.entry.buf.now self.entry.pos) →
+            IfOk result (λ entries. unverified_range_left K.compared_at R.end_bound entries
+            ≡ entries_within lo hi
+            (read_map K.kind V.kind M.E self.entry.buf.now self.entry.pos))) }
+        // On a map there is no error, and these are its entries.
+        ensures reads { (m : _) → IsMap K.kind V.kind M.E self.entry.buf.now self.entry.pos m →
+            read_map K.kind V.kind M.E self.entry.buf.now self.entry.pos ≡ m }
         ensures yields { (m : _) → IsMap K.kind V.kind M.E self.entry.buf.now self.entry.pos m →
             R.has_bounds range → IfOk result (λ entries.
             ShowsItems ⟦<UnverifiedRange<'a, M, T, R> as Iterator>⟧.next_gives view_entry entries
             (unverified_range_left K.compared_at R.end_bound entries)) }
-        ensures run { (m : _) → IsMap K.kind V.kind M.E self.entry.buf.now self.entry.pos m →
-            IfOk result (λ entries.
-            IsRun (unverified_range_left K.compared_at R.end_bound entries) m) }
-        // If the keys increase, these are all entries in the range.
-        ensures sorted { (m : _) → IsMap K.kind V.kind M.E self.entry.buf.now self.entry.pos m →
-            R.has_bounds range → ByNativeBounds K.kind K.compared_at
-            (R.start_bound range) (R.end_bound range) (λ lo hi. Increasing K.kind.order m →
-            IfOk result (λ entries. unverified_range_left K.compared_at R.end_bound entries
-            ≡ entries_within lo hi m)) }
-        // So they are if the entries are ordered for both bounds.
-        ensures within { (m : _) → IsMap K.kind V.kind M.E self.entry.buf.now self.entry.pos m →
-            R.has_bounds range → ByNativeBounds K.kind K.compared_at
-            (R.start_bound range) (R.end_bound range) (λ lo hi. OrderedFor lo m → OrderedFor hi m →
-            IfOk result (λ entries. unverified_range_left K.compared_at R.end_bound entries
-            ≡ entries_within lo hi m)) }
     {
         let mut walk = UnverifiedWalk {
             path: ArrayVec::new(),
@@ -169,6 +197,7 @@ impl<
             next: 0,
             end: 0,
             nodes: self.buf.len() / leaf_size::<K, V, M>() as usize,
+            taken: 0,
             phase: Phase::Descend,
         };
         match begin::<T, K, V, M>(self.buf, self.pos, range.start_bound(), &mut walk) {

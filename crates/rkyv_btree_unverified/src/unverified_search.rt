@@ -5,8 +5,9 @@ ghost use Rattle.std.specs.declared.cmp.Ordering.TheVariants.{Equal};
 ghost use Rattle.rkyv_btree_base.specs.Layout.{layout_of, are_fitting, leaf_size, inner_size};
 ghost use Rattle.rkyv_btree_base.specs.Views.{stands};
 ghost use Rattle.rkyv_btree_walk.specs.Search.{compared_of, shown_value};
-ghost use Rattle.rkyv_btree_walk.specs.mirror.Node.{EntryStands, RunStands, entry_count};
-ghost use Rattle.rkyv_btree_walk.specs.mirror.Search.{comparison_at, searched, searched_map, TellsBy};
+ghost use Rattle.rkyv_btree_walk.specs.mirror.Node.{EntryStands, RunStands};
+ghost use Rattle.rkyv_btree_walk.specs.Nodes.{entry_count};
+ghost use Rattle.rkyv_btree_walk.specs.mirror.Search.{comparison_at, searched, searched_map, IsComparedBy};
 ghost use Rattle.rkyv_btree_view.specs.Map.{IsMap};
 ghost use Rattle.rkyv_btree_unverified.specs.Lookups.{LookupGives, LookupGivesWithin, TreeGives};
 ghost use Rattle.rkyv_btree_unverified.specs.Steps.{HasRoom, KeysGive};
@@ -42,8 +43,8 @@ fn compare_at<'a, Q, K: CheckBytes, W: Shows<'a, K>, C: Fn(&Q, W) -> Compared>(
     requires fitting { IsTrue K.kind.is_fitting }
     ensures stands { IfOk result (λ _. IsTrue (stands K.kind buf.now pos)) }
     ensures accepts { IsTrue (stands K.kind buf.now pos) → IsOk result }
-    ensures tells { (c : Q → K.kind.Value → Comparison) →
-        TellsBy (C.post cmp.now) (shown_value K.kind W.Shows) c
+    ensures compares { (c : Q → K.kind.Value → Comparison) →
+        IsComparedBy (C.post cmp.now) (shown_value K.kind W.Shows) c
         → IfOk result (λ r. r ≡ compared_of (c key.now (K.kind.read buf.now pos))) }
     ensures refused { IfErr result (λ refusal. K.Refuses buf.now 0 pos pos refusal) }
 {
@@ -84,7 +85,7 @@ fn search_keys<
     ensures accepts { ((i : ℕ) → i < count → EntryStands K.kind V.kind M.E buf.now
         (node, i)) → IsOk result }
     ensures gives { (c : Q → K.kind.Value → Comparison)
-        → TellsBy (C.post cmp.now) (shown_value K.kind W.Shows) c
+        → IsComparedBy (C.post cmp.now) (shown_value K.kind W.Shows) c
         → KeysGive K.kind V.kind M.E buf.now (c key.now) K.Refuses V.Refuses node count result }
 {
     for i in 0..count {
@@ -145,26 +146,26 @@ fn search_node<
     ensures more { steps.old ≤ steps.new }
     ensures counts { (m : ℕ) → Passes K.kind V.kind M.E buf.now (suc m) hi node
         → (c : Q → K.kind.Value → Comparison)
-        → TellsBy (C.post cmp.now) (shown_value K.kind W.Shows) c
+        → IsComparedBy (C.post cmp.now) (shown_value K.kind W.Shows) c
         → let s = layout_of K.kind V.kind M.E in
         let comparison = comparison_at K.kind V.kind M.E buf.now (c key.now) in
         IfOk result (NextCounts s buf.now comparison m steps.old steps.new
         (searched s buf.now comparison (suc m) node).1) }
     ensures stands { IfOk result (NextStands K.kind V.kind M.E buf.now node) }
     ensures equal { (c : Q → K.kind.Value → Comparison)
-        → TellsBy (C.post cmp.now) (shown_value K.kind W.Shows) c
+        → IsComparedBy (C.post cmp.now) (shown_value K.kind W.Shows) c
         → IfOk result (NextEqual (comparison_at K.kind V.kind M.E buf.now (c key.now)) node) }
     ensures accepts { (m : ℕ) → Passes K.kind V.kind M.E buf.now (suc m) hi node → IsOk result }
     ensures passes { (m : ℕ) → Passes K.kind V.kind M.E buf.now (suc m) hi node
         → IfOk result (NextPasses K.kind V.kind M.E buf.now m node) }
     ensures found { (m : ℕ) → Passes K.kind V.kind M.E buf.now (suc m) hi node
         → (c : Q → K.kind.Value → Comparison)
-        → TellsBy (C.post cmp.now) (shown_value K.kind W.Shows) c
+        → IsComparedBy (C.post cmp.now) (shown_value K.kind W.Shows) c
         → let s = layout_of K.kind V.kind M.E in
         let comparison = comparison_at K.kind V.kind M.E buf.now (c key.now) in
         IfOk result (NextFinds s buf.now comparison m node (searched s buf.now comparison (suc m) node).0) }
     ensures gives { (c : Q → K.kind.Value → Comparison)
-        → TellsBy (C.post cmp.now) (shown_value K.kind W.Shows) c
+        → IsComparedBy (C.post cmp.now) (shown_value K.kind W.Shows) c
         → (m : ℕ) → NextGives K.kind V.kind M.E buf.now
         (c key.now) K.Refuses V.Refuses m hi node result }
 {
@@ -222,26 +223,26 @@ fn search_tree<
     ensures nodes { nodes.new ≤ nodes.old + 32 }
     ensures counts { Passes K.kind V.kind M.E buf.now 32 hi root
         → (c : Q → K.kind.Value → Comparison)
-        → TellsBy (C.post cmp.now) (shown_value K.kind W.Shows) c
+        → IsComparedBy (C.post cmp.now) (shown_value K.kind W.Shows) c
         → IfOk result (λ _. steps.new ≡ steps.old + (searched (layout_of K.kind V.kind M.E) buf.now
         (comparison_at K.kind V.kind M.E buf.now (c key.now)) 32 root).1) }
     ensures stands { IfOk result (λ found. IfSome found (λ e.
         RunStands K.kind V.kind M.E buf.now e.0 e.1 (e.1 + 1))) }
     ensures equal { (c : Q → K.kind.Value → Comparison)
-        → TellsBy (C.post cmp.now) (shown_value K.kind W.Shows) c
+        → IsComparedBy (C.post cmp.now) (shown_value K.kind W.Shows) c
         → IfOk result (λ found. IfSome found (λ e.
         comparison_at K.kind V.kind M.E buf.now (c key.now) e ≡ Equal)) }
     ensures accepts { Passes K.kind V.kind M.E buf.now 32 hi root → IsOk result }
     ensures found { Passes K.kind V.kind M.E buf.now 32 hi root
         → (c : Q → K.kind.Value → Comparison)
-        → TellsBy (C.post cmp.now) (shown_value K.kind W.Shows) c
+        → IsComparedBy (C.post cmp.now) (shown_value K.kind W.Shows) c
         → IfOk result (λ found. found ≡ (searched (layout_of K.kind V.kind M.E) buf.now
         (comparison_at K.kind V.kind M.E buf.now (c key.now)) 32 root).0) }
     ensures gives { (c : Q → K.kind.Value → Comparison)
-        → TellsBy (C.post cmp.now) (shown_value K.kind W.Shows) c
+        → IsComparedBy (C.post cmp.now) (shown_value K.kind W.Shows) c
         → TreeGives K.kind V.kind M.E buf.now (c key.now) K.Refuses V.Refuses 32 hi root result }
     ensures deep { (c : Q → K.kind.Value → Comparison)
-        → TellsBy (C.post cmp.now) (shown_value K.kind W.Shows) c
+        → IsComparedBy (C.post cmp.now) (shown_value K.kind W.Shows) c
         → IfOk result (λ found. TreeGives K.kind V.kind M.E buf.now (c key.now) K.Refuses V.Refuses
         (nodes.new - nodes.old) hi root (Ok found)) }
 {
@@ -295,7 +296,7 @@ pub(crate) fn search<
     ensures nodes { nodes.new ≤ nodes.old + 32 }
     ensures counts { (m : _) → IsMap K.kind V.kind M.E buf.now pos m
         → (c : Q → K.kind.Value → Comparison)
-        → TellsBy (C.post cmp.now) (shown_value K.kind W.Shows) c
+        → IsComparedBy (C.post cmp.now) (shown_value K.kind W.Shows) c
         → IfOk result (λ _. steps.new ≡ steps.old + (searched_map
         (layout_of K.kind V.kind M.E) buf.now
         (comparison_at K.kind V.kind M.E buf.now (c key.now)) pos).1) }
@@ -303,20 +304,20 @@ pub(crate) fn search<
     ensures stands { IfOk result (λ found. IfSome found (λ e.
         RunStands K.kind V.kind M.E buf.now e.0 e.1 (e.1 + 1))) }
     ensures equal { (c : Q → K.kind.Value → Comparison)
-        → TellsBy (C.post cmp.now) (shown_value K.kind W.Shows) c
+        → IsComparedBy (C.post cmp.now) (shown_value K.kind W.Shows) c
         → IfOk result (λ found. IfSome found (λ e.
         comparison_at K.kind V.kind M.E buf.now (c key.now) e ≡ Equal)) }
     ensures accepts { (m : _) → IsMap K.kind V.kind M.E buf.now pos m → IsOk result }
     ensures found { (m : _) → IsMap K.kind V.kind M.E buf.now pos m
         → (c : Q → K.kind.Value → Comparison)
-        → TellsBy (C.post cmp.now) (shown_value K.kind W.Shows) c
+        → IsComparedBy (C.post cmp.now) (shown_value K.kind W.Shows) c
         → IfOk result (λ found. found ≡ (searched_map (layout_of K.kind V.kind M.E) buf.now
         (comparison_at K.kind V.kind M.E buf.now (c key.now)) pos).0) }
     ensures gives { (c : Q → K.kind.Value → Comparison)
-        → TellsBy (C.post cmp.now) (shown_value K.kind W.Shows) c
+        → IsComparedBy (C.post cmp.now) (shown_value K.kind W.Shows) c
         → LookupGives K.kind V.kind M.E buf.now (c key.now) K.Refuses V.Refuses pos result }
     ensures deep { (c : Q → K.kind.Value → Comparison)
-        → TellsBy (C.post cmp.now) (shown_value K.kind W.Shows) c
+        → IsComparedBy (C.post cmp.now) (shown_value K.kind W.Shows) c
         → IfOk result (λ found. LookupGivesWithin K.kind V.kind M.E buf.now (c key.now) K.Refuses
         V.Refuses (nodes.new - nodes.old) pos (Ok found)) }
 {

@@ -5,10 +5,11 @@ ghost use Rattle.rkyv_btree_base.specs.Layout.{layout_of, are_fitting, leaf_size
 ghost use Rattle.rkyv_btree_base.specs.Views.{stands};
 ghost use Rattle.rkyv_btree_walk.specs.mirror.Node.{EntryStands};
 ghost use Rattle.rkyv_btree_walk.specs.mirror.Range.{IsFirst, is_reached};
+ghost use Rattle.rkyv_btree_unverified.specs.EntriesFrom.{from_place};
 ghost use Rattle.rkyv_btree_unverified.specs.Steps.{key_place};
 ghost use Rattle.rkyv_btree_unverified.specs.declared.unverified_walk.Phase.TheVariants.{Descend};
 ghost use Rattle.rkyv_btree_unverified.specs.mirror.Walked.{LeadsTo, FewLeft};
-ghost use Rattle.rkyv_btree_unverified.specs.mirror.Sought.{from_place, reached_place, PartGives, BeginGives};
+ghost use Rattle.rkyv_btree_unverified.specs.mirror.Sought.{reached_place, PartGives, BeginGives};
 
 use crate::unverified_node::{check_at, entries_in};
 use crate::unverified_walk::{Phase, UnverifiedWalk, child_before, head};
@@ -171,6 +172,7 @@ fn begin_at<T, K: CheckBytes + CompareWith<T>, V: CheckBytes, M: ArchivedMap<Key
     requires fitting { IsTrue (are_fitting K.kind V.kind M.E) }
     requires empty { walk.old.path.items ≡ [] }
     requires phase { walk.old.phase ≡ Descend }
+    requires taken { walk.old.taken ≡ 0 }
     requires few { FewLeft K.kind V.kind M.E buf.now pos [] walk.old.nodes }
     ensures gives { BeginGives K.kind V.kind M.E buf.now K.Refuses V.Refuses pos
         (reached_place K.kind V.kind M.E K.compared_at buf.now key.now past)
@@ -207,6 +209,7 @@ pub(crate) fn begin<
     requires fitting { IsTrue (are_fitting K.kind V.kind M.E) }
     requires empty { walk.old.path.items ≡ [] }
     requires phase { walk.old.phase ≡ Descend }
+    requires taken { walk.old.taken ≡ 0 }
     requires few { FewLeft K.kind V.kind M.E buf.now pos [] walk.old.nodes }
     ensures gives { BeginGives K.kind V.kind M.E buf.now K.Refuses V.Refuses pos
         (from_place K.kind V.kind M.E K.compared_at buf.now (bound_map (λ key. key.now) low.entry))

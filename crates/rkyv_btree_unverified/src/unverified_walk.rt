@@ -4,13 +4,15 @@ ghost use Rattle.std.specs.Prelude.{◌≡◌, ℕ, ◌+◌, ◌*◌, ◌≤◌,
 ghost use Rattle.rkyv_btree_base.specs.Layout.{layout_of, are_fitting, leaf_size};
 ghost use Rattle.rkyv_btree_base.specs.Refusals.{IsInner};
 ghost use Rattle.rkyv_btree_base.specs.Refusing.{HasPlace};
-ghost use Rattle.rkyv_btree_walk.specs.mirror.Below.{root_place};
-ghost use Rattle.rkyv_btree_walk.specs.mirror.Node.{EntryStands, child_place};
+ghost use Rattle.rkyv_btree_walk.specs.Below.{root_place};
+ghost use Rattle.rkyv_btree_walk.specs.mirror.Node.{EntryStands};
+ghost use Rattle.rkyv_btree_walk.specs.Nodes.{child_place};
 ghost use Rattle.rkyv_btree_view.specs.Map.{IsMap};
+ghost use Rattle.rkyv_btree_unverified.specs.Left.{most_of};
 ghost use Rattle.rkyv_btree_unverified.specs.Steps.{HasRoom, HeadGives, ChildGives};
 ghost use Rattle.rkyv_btree_unverified.specs.Walks.{EntryRefuses};
 ghost use Rattle.rkyv_btree_unverified.specs.mirror.Passes.{Passes};
-ghost use Rattle.rkyv_btree_unverified.specs.mirror.Walked.{IsWay, LeadsTo, PendingGives, FewLeft, LeafGives, Climbs, IsUnverifiedWalk, Comes, Stepped, HasAt};
+ghost use Rattle.rkyv_btree_unverified.specs.mirror.Walked.{IsWay, LeadsOn, PendingGives, FewLeft, LeafGives, Climbs, IsCounted, IsUnverifiedWalk, Comes, Stepped, HasAt, walk_most};
 
 use crate::unverified_node::{check_at, entries_in, node_place};
 use rkyv_btree_base::bytes::num32;
@@ -45,6 +47,8 @@ pub struct UnverifiedWalk {
     pub end: u32,
     /// How many more nodes the walk may read.
     pub nodes: usize,
+    /// How many entries it has taken.
+    pub taken: usize,
     /// What it does next.
     pub phase: Phase,
 }
@@ -187,7 +191,7 @@ fn descend<K: CheckBytes, V: CheckBytes, M: ArchivedMap<Key = K, Mapped = V>>(
 ) -> Result<Leaf, Refusal>
     requires fitting { IsTrue (are_fitting K.kind V.kind M.E) }
     requires way { IsWay (layout_of K.kind V.kind M.E) buf.now pos path.old.items }
-    requires leads { LeadsTo K.kind V.kind M.E buf.now pos path.old.items node hi }
+    requires leads { LeadsOn K.kind V.kind M.E buf.now pos path.old.items node hi }
     requires few { FewLeft K.kind V.kind M.E buf.now pos path.old.items nodes.old }
     ensures gives { LeafGives K.kind V.kind M.E buf.now K.Refuses V.Refuses pos path.old.items
         nodes.old path.new.items nodes.new result }
@@ -319,6 +323,7 @@ fn advance<K: CheckBytes, V: CheckBytes, M: ArchivedMap<Key = K, Mapped = V>>(
 ) -> Result<Option<(u32, u32)>, Refusal>
     requires fitting { IsTrue (are_fitting K.kind V.kind M.E) }
     requires has { HasAt K.kind V.kind M.E buf.now pos walk.old }
+    requires most { walk_most M.E walk.old ≤ most_of K.kind V.kind M.E buf.now walk.old }
     ensures walks { IsUnverifiedWalk K.kind V.kind M.E buf.now pos walk.new }
     ensures steps { Stepped K.kind V.kind M.E buf.now K.Refuses V.Refuses pos walk.old walk.new
         result }
@@ -332,6 +337,7 @@ fn advance<K: CheckBytes, V: CheckBytes, M: ArchivedMap<Key = K, Mapped = V>>(
             }
             Ok(_) => {
                 walk.next = next + 1;
+                walk.taken += 1;
                 Ok(Some((node, next)))
             }
         };
@@ -347,6 +353,7 @@ fn advance<K: CheckBytes, V: CheckBytes, M: ArchivedMap<Key = K, Mapped = V>>(
         }
         Ok(Some(entry)) => {
             walk.phase = Phase::Descend;
+            walk.taken += 1;
             Ok(Some(entry))
         }
     }
@@ -364,8 +371,8 @@ pub(crate) fn step<K: CheckBytes, V: CheckBytes, M: ArchivedMap<Key = K, Mapped 
     walk: &mut UnverifiedWalk,
 ) -> Result<Option<(u32, u32)>, Refusal>
     requires fitting { IsTrue (are_fitting K.kind V.kind M.E) }
-    requires walks { IsUnverifiedWalk K.kind V.kind M.E buf.now pos walk.old }
-    ensures walks { IsUnverifiedWalk K.kind V.kind M.E buf.now pos walk.new }
+    requires walks { IsCounted K.kind V.kind M.E buf.now pos walk.old }
+    ensures walks { IsCounted K.kind V.kind M.E buf.now pos walk.new }
     ensures steps { Stepped K.kind V.kind M.E buf.now K.Refuses V.Refuses pos walk.old walk.new
         result }
 {

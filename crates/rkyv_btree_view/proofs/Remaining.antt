@@ -1,8 +1,7 @@
 -- The entries that remain of an iterator are what its walk has left.
-use Rattle.std.proofs.Common.{◌≡◌, ℕ, ◌+◌, ◌-◌, ◌<◌, List, [], ◌∷◌, ◌++◌, length, map, Option, Some, None, refl, sym, ap, ◌∙◌, arith, append-nil, append_assoc, length-append}
+use Rattle.std.proofs.Common.{◌≡◌, ℕ, ◌+◌, ◌-◌, ◌<◌, List, [], ◌∷◌, ◌++◌, length, map, Option, Some, None, sym, ap, ◌∙◌, arith, append-nil, append_assoc, length-append}
 use Rattle.std.proofs.Math.Seq.{drop-append_seam}
 use Rattle.std.proofs.lemmas.List.{drop-map, length-map}
-use Rattle.std.specs.Prelude.{drop}
 use Rattle.rkyv_btree_base.specs.Kind.{Kind}
 use Rattle.rkyv_btree_base.specs.Layout.{layout_of}
 use Rattle.rkyv_btree_base.specs.Read.{entry_at, read_map}
@@ -11,7 +10,7 @@ use Rattle.rkyv_btree_walk.specs.EntryPlaces.{entry_places, place_of}
 use Rattle.rkyv_btree_walk.specs.declared.entry_walk.Walk.{Walk}
 use Rattle.rkyv_btree_walk.specs.declared.entry_place.EntryPlace.{EntryPlace}
 use Rattle.rkyv_btree_walk.specs.mirror.Along.{walk_left, IsWalk, Takes}
-use Rattle.rkyv_btree_walk.specs.mirror.Range.{IsEnd}
+use Rattle.rkyv_btree_walk.specs.Bounds.{IsEnd}
 use Rattle.rkyv_btree_view.specs.Iter.{last_of}
 use mathlib.Core.Logic.{∥∥₁_map}
 
@@ -33,11 +32,19 @@ pub shorter : {X : Type 0} (x : X) (xs rest : List X) → xs ≡ x ∷ rest → 
 shorter x xs rest is = omega (arith, ap length is)
 
 module _ (K V : Kind) (E : ℕ) (b : List ℕ) (at : ℕ) (w : Walk) (is : IsWalk (layout_of K V E) b at w) (end : ∥ IsEnd (walk_left (layout_of K V E) b w) (entry_places K V E b at) ∥₁) where
-  pub remaining_is : last_of (w.behind + (w.end - w.next)) (read_map K V E b at) ≡ map (entry_at K V E b) (walk_left (layout_of K V E) b w)
-  remaining_is =
+  -- so they are the last of the map's places
+  pub last_places : last_of (w.behind + (w.end - w.next)) (entry_places K V E b at) ≡ walk_left (layout_of K V E) b w
+  last_places =
       let left = walk_left (layout_of K V E) b w in
       let places = entry_places K V E b at in
-      rw is.counted (last_mapped (entry_at K V E b) (length left) places ∙ ap (map (entry_at K V E b)) (places_had (last_of (length left) places) left (∥∥₁_map end (last_is_end left places))))
+      rw is.counted (places_had (last_of (length left) places) left (∥∥₁_map end (last_is_end left places)))
+
+  -- as many as the walk counts
+  pub last_count : length (last_of (w.behind + (w.end - w.next)) (entry_places K V E b at)) ≡ w.behind + (w.end - w.next)
+  last_count = ap length last_places ∙ sym is.counted
+
+  pub remaining_is : last_of (w.behind + (w.end - w.next)) (read_map K V E b at) ≡ map (entry_at K V E b) (walk_left (layout_of K V E) b w)
+  remaining_is = last_mapped (entry_at K V E b) (w.behind + (w.end - w.next)) (entry_places K V E b at) ∙ ap (map (entry_at K V E b)) last_places
 
   -- and there are as many
   pub remaining_count : length (last_of (w.behind + (w.end - w.next)) (read_map K V E b at)) ≡ w.behind + (w.end - w.next)

@@ -6,15 +6,14 @@ use Rattle.std.specs.declared.ops.Bound.{Bound}
 use Rattle.rkyv_btree_base.specs.Kind.{Kind}
 use Rattle.rkyv_btree_portable.specs.declared.check.Portable
 use Rattle.rkyv_btree_walk.specs.declared.archived_map.ArchivedMap
-use Rattle.rkyv_btree_base.specs.Layout.{layout_of}
 use Rattle.rkyv_btree_base.specs.Read.{entry_at}
-use Rattle.rkyv_btree_walk.specs.mirror.Along.{range_left as places_left}
+use Rattle.rkyv_btree_walk.specs.Remaining.{places_between}
 use Rattle.rkyv_btree_view.specs.declared.range.Range.{Range}
 
--- the entries that a range has left, in order
+-- the entries that a range has left, in order: those of the map from the first that its walk notes on, up to its stop
 abbrev pub range_left : {M K V : Type 0} {g : ArchivedMap.Ghosts M K V} {m : Portable.Ghosts M} {k : Portable.Ghosts K}
     {v : Portable.Ghosts V} → Range M K V g m k v → List (k.kind.Value × v.kind.Value)
-range_left {g} {k} {v} s = map (entry_at k.kind v.kind g.E s.buf.now) (places_left (layout_of k.kind v.kind g.E) s.buf.now s.walk)
+range_left {g} {k} {v} s = map (entry_at k.kind v.kind g.E s.buf.now) (places_between k.kind v.kind g.E s.buf.now s.pos s.walk)
 
 -- what holds of two bounds of native values, which are compared with what stands at a position of a buffer
 abbrev pub ByNativeBounds : {N : Type 0} (K : Kind) → (N → List ℕ → ℕ → Ordering) → Bound N → Bound N

@@ -8,7 +8,7 @@ ghost use Rattle.rkyv_btree_base.specs.Views.{stands};
 ghost use Rattle.rkyv_btree_walk.specs.EntryPlaces.{entry_places, place_of};
 ghost use Rattle.rkyv_btree_walk.specs.mirror.Along.{walk_left, IsWalk};
 ghost use Rattle.rkyv_btree_walk.specs.mirror.Node.{RunStands};
-ghost use Rattle.rkyv_btree_walk.specs.mirror.Range.{IsEnd};
+ghost use Rattle.rkyv_btree_walk.specs.Bounds.{IsEnd};
 ghost use Rattle.rkyv_btree_view.specs.View.{view_entry, entries_of};
 
 use crate::map_view::ShowsEntries;

@@ -4,13 +4,12 @@ ghost use Rattle.std.specs.Iterator.{IsFinite};
 ghost use Rattle.std.specs.Range.Bound.{bound_map};
 ghost use Rattle.std.specs.declared.ops.Bound.TheVariants.{Unbounded};
 ghost use Rattle.rkyv_btree_base.specs.Increasing.{Increasing};
-ghost use Rattle.rkyv_btree_base.specs.Layout.{layout_of};
 ghost use Rattle.rkyv_btree_base.specs.Views.{stands};
 ghost use Rattle.rkyv_btree_view.specs.Items.{ShowsAll};
 ghost use Rattle.rkyv_btree_view.specs.View.{view_value, view_entry, entries_of};
 ghost use Rattle.rkyv_btree_walk.specs.Bounds.{IsRun, OrderedFor, entries_within, ByBounds};
-ghost use Rattle.rkyv_btree_walk.specs.mirror.Along.{IsRangeWalk};
 ghost use Rattle.rkyv_btree_walk.specs.Search.{shown_value};
+ghost use Rattle.rkyv_btree_walk.specs.WalkBetween.{IsWalkBetween};
 
 use crate::compare::ViewOrd;
 use crate::compare_native::CompareWith;
@@ -34,7 +33,7 @@ pub struct Range<'a, M: ArchivedMap> {
     walk: RangeWalk,
     of: PhantomData<M>,
     ghost valid: { IsTrue (stands M.kind buf.now pos) },
-    ghost walks: { IsRangeWalk (layout_of M.Key.kind M.Mapped.kind M.E) buf.now pos walk },
+    ghost walks: { IsWalkBetween M.Key.kind M.Mapped.kind M.E buf.now pos walk },
 }
 
 impl<'a, K: Portable, V: Portable, M: ArchivedMap<Key = K, Mapped = V>> Iterator for Range<'a, M> {
@@ -52,6 +51,7 @@ impl<'a, K: Portable, V: Portable, M: ArchivedMap<Key = K, Mapped = V>> Iterator
     #[inline(always)]
     fn next(&mut self) -> Option<(View<'a, K>, View<'a, V>)> {
         let buf = self.buf;
+        M::opened(buf, self.pos);
         let place = step_before::<K, V, M>(buf, self.pos, &mut self.walk)?;
         Some(entry::<K, V, M>(buf, self.pos, place))
     }

@@ -50,7 +50,7 @@ impl<'a, K: Portable, V: Portable, M: ArchivedMap<Key = K, Mapped = V>> View<'a,
 
 impl<'a, K: Portable, V: Portable, M: ArchivedMap<Key = K, Mapped = V> + ShowsEntries> View<'a, M> {
     /// Calls `visit` with the key and the value of each entry, in order, up to the first call that breaks, whose value
-    /// it returns. Where no call breaks, it returns `None`. The walk takes no memory.
+    /// it returns. It returns `None` if no call breaks. No memory is allocated.
     ///
     /// # Examples
     ///

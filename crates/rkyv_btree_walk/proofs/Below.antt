@@ -8,8 +8,9 @@ use Rattle.rkyv_btree_base.specs.Map.{map_kind}
 use Rattle.rkyv_btree_base.specs.Read.{read_map}
 use Rattle.rkyv_btree_base.specs.Views.{stands}
 use Rattle.rkyv_btree_base.proofs.MapLaws.{map_length}
-use Rattle.rkyv_btree_walk.specs.mirror.Below.{root_place, IsBelow, PathBelow, RunBelow, WalkBelow}
-use Rattle.rkyv_btree_walk.specs.mirror.Node.{natural, is_leaf, child_place, TreeStands, RunStands}
+use Rattle.rkyv_btree_walk.specs.Below.{root_place, IsBelow, PathBelow, RunBelow, WalkBelow}
+use Rattle.rkyv_btree_walk.specs.Nodes.{natural, is_leaf, child_place}
+use Rattle.rkyv_btree_walk.specs.mirror.Node.{TreeStands, RunStands}
 use Rattle.rkyv_btree_walk.specs.mirror.Path.{IsPath}
 use Rattle.rkyv_btree_walk.proofs.Nodes.{tree_levels, tree_node, child_stands}
 use Rattle.rkyv_btree_walk.proofs.Roots.{root_stands}

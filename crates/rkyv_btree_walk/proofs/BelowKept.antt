@@ -1,6 +1,6 @@
 -- Two buffers of which the same tree is read have the same paths and entries below a root, and as much is left of a walk:
 -- the tree holds at each entry its node and its number.
-use Rattle.std.proofs.Common.{◌≡◌, ℕ, zero, suc, ◌+◌, ◌-◌, ◌≤◌, ◌<◌, List, [], ◌∷◌, length, refl, sym, ap, ◌∙◌, arith, Bool, true, false, Option, Some, None, inl, inr, IsTrue}
+use Rattle.std.proofs.Common.{◌≡◌, ℕ, zero, suc, ◌+◌, ◌-◌, ◌≤◌, ◌<◌, List, [], ◌∷◌, ◌++◌, length, refl, sym, ap, ◌∙◌, arith, Bool, true, false, Option, Some, None, inl, inr, IsTrue}
 use Rattle.std.specs.Prelude.{ℤ, pos, negsuc, nat_eq}
 use Rattle.std.proofs.lemmas.Bool.{cases_Bool, cases_lt, eq-eqb}
 use Rattle.rkyv_btree_base.specs.Bytes.{number_at, target_at, place_at}
@@ -12,10 +12,10 @@ use Rattle.rkyv_btree_base.specs.Tree.{Tree, leaf, inner, Row, last, step, Child
 use Rattle.rkyv_btree_base.specs.Views.{stands}
 use Rattle.rkyv_btree_base.specs.laws.Views.{fitting_of}
 use Rattle.rkyv_btree_base.proofs.Sizes.{sound_of}
-use Rattle.rkyv_btree_walk.specs.mirror.Below.{root_place, IsBelow, PathBelow, RunBelow, WalkBelow}
-use Rattle.rkyv_btree_walk.specs.mirror.Node.{natural, is_leaf, entry_count, child_place}
-use Rattle.rkyv_btree_walk.specs.mirror.Path.{row_rest, node_rest, path_rest, walk_rest}
-use Rattle.rkyv_btree_walk.specs.mirror.Range.{range_rest}
+use Rattle.rkyv_btree_walk.specs.Below.{root_place, IsBelow, PathBelow, RunBelow, WalkBelow}
+use Rattle.rkyv_btree_walk.specs.Nodes.{natural, is_leaf, entry_count, child_place}
+use Rattle.rkyv_btree_walk.specs.Paths.{row_rest, node_rest, path_rest, walk_rest}
+use Rattle.rkyv_btree_walk.specs.WalkBetween.{IsPlaced}
 use Rattle.rkyv_btree_walk.proofs.Below.{below_stands, place_stands}
 use Rattle.rkyv_btree_walk.proofs.Paths.{run_length}
 use Rattle.rkyv_btree_walk.proofs.Searches.{child_at, children_of, inner_children}
@@ -232,9 +232,18 @@ module _ (K V : Kind) (E : ℕ) (k : IsLawful K) (v : IsLawful V) (b c : List �
       path_kept (layout_of K V E) b c (root_place b at) (root_place c at) 32 some_entries alike_under deep_under 0 fs walk.1,
     )
 
-    -- and as much is left of it, and of a range
+    -- and as much is left of it
     pub walk_rest_kept : walk_rest (layout_of K V E) b p i n fs ≡ walk_rest (layout_of K V E) c p i n fs
     walk_rest_kept = rw (run_same (layout_of K V E) b c p (n - i) i, map_path_rest_kept fs walk.1) refl
 
-    pub range_rest_kept : (stop : Option (ℕ × ℕ)) → range_rest (layout_of K V E) b stop p i n fs ≡ range_rest (layout_of K V E) c stop p i n fs
-    range_rest_kept stop = rw (run_same (layout_of K V E) b c p (n - i) i, map_path_rest_kept fs walk.1) refl
+    -- so it has its place in a list
+    pub placed_kept : (all : List (ℕ × ℕ)) (stop : Option (ℕ × ℕ)) → IsPlaced (layout_of K V E) b all stop p i n fs → IsPlaced (layout_of K V E) c all stop p i n fs
+    placed_kept all stop (inl w) = inl (record { ends = (w.ends.0, w.ends.1 ∙ ap (λ xs. w.ends.0 ++ xs) walk_rest_kept); off = w.off })
+    placed_kept all stop (inr w) =
+        inr (record {
+          none = w.none;
+          skipped = w.skipped;
+          later = w.later;
+          is = w.is ∙ ap (λ xs. w.skipped ++ (xs ++ w.later)) (run_same (layout_of K V E) b c p (n - i) i);
+          stops = w.stops;
+        })

@@ -4,8 +4,9 @@ use Rattle.std.proofs.Common.{◌≡◌, ℕ, zero, suc, ◌+◌, ◌≤◌, ◌
 use Rattle.rkyv_btree_base.specs.Layout.{NodeLayout}
 use Rattle.rkyv_btree_base.specs.Read.{tree_at}
 use Rattle.rkyv_btree_base.specs.Tree.{list}
-use Rattle.rkyv_btree_walk.specs.mirror.Node.{entry_count, child_place}
-use Rattle.rkyv_btree_walk.specs.mirror.Path.{node_rest, child_list, tree_rest}
+use Rattle.rkyv_btree_walk.specs.Nodes.{entry_count, child_place}
+use Rattle.rkyv_btree_walk.specs.Paths.{node_rest, child_list}
+use Rattle.rkyv_btree_walk.specs.mirror.Path.{tree_rest}
 use Rattle.rkyv_btree_walk.specs.mirror.Search.{IsListed}
 use Rattle.rkyv_btree_walk.proofs.Paths.{rest_more, tree_from}
 

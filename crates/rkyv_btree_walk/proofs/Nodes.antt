@@ -9,7 +9,8 @@ use Rattle.rkyv_btree_base.specs.Spells.{Entries, Spells, SpellsRow, SpellsChild
 use Rattle.rkyv_btree_base.specs.Tree.{Tree, leaf, inner, Row, last, step, Child, absent, child, row_entries, height, row_height, child_height}
 use Rattle.rkyv_btree_base.specs.laws.Views.{stands_of}
 use Rattle.rkyv_btree_base.proofs.Sizes.{room_of}
-use Rattle.rkyv_btree_walk.specs.mirror.Node.{EntryStands, natural, LeadsBefore, is_leaf, child_place, NodeStands, TreeStands}
+use Rattle.rkyv_btree_walk.specs.mirror.Node.{EntryStands, LeadsBefore, NodeStands, TreeStands}
+use Rattle.rkyv_btree_walk.specs.Nodes.{natural, is_leaf, child_place}
 
 module _ (K V : Kind) (E : ℕ) (b : List ℕ) where
   -- a tree has a level for its root, which stands

@@ -8,8 +8,10 @@ use Rattle.rkyv_btree_base.specs.Kind.{Kind}
 use Rattle.rkyv_btree_base.specs.Layout.{NodeLayout, layout_of, len_at, pointer_at}
 use Rattle.rkyv_btree_base.specs.Read.{run, child_of, row_at, tree_at}
 use Rattle.rkyv_btree_base.specs.Tree.{list, row_list, child_list as tree_child_list}
-use Rattle.rkyv_btree_walk.specs.mirror.Node.{natural, is_leaf, entry_count, child_place, NodeStands, TreeStands, RunStands}
-use Rattle.rkyv_btree_walk.specs.mirror.Path.{row_rest, node_rest, child_list, tree_rest, path_rest, walk_rest, IsPath}
+use Rattle.rkyv_btree_walk.specs.Nodes.{natural, is_leaf, entry_count, child_place}
+use Rattle.rkyv_btree_walk.specs.mirror.Node.{NodeStands, TreeStands, RunStands}
+use Rattle.rkyv_btree_walk.specs.Paths.{row_rest, node_rest, path_rest, walk_rest, child_list}
+use Rattle.rkyv_btree_walk.specs.mirror.Path.{tree_rest, IsPath}
 use Rattle.rkyv_btree_walk.proofs.Nodes.{tree_levels, tree_node, child_stands}
 
 module _ (s : NodeLayout) (b : List ℕ) (m : ℕ) where

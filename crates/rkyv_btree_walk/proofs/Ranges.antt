@@ -11,7 +11,9 @@ use Rattle.std.specs.declared.ops.Bound.TheVariants.{Included, Excluded, Unbound
 use Rattle.rkyv_btree_base.specs.Layout.{NodeLayout}
 use Rattle.rkyv_btree_base.specs.Read.{run}
 use Rattle.rkyv_btree_walk.specs.Bounds.{IsRun, is_from, is_to, OrderedFor}
-use Rattle.rkyv_btree_walk.specs.mirror.Range.{is_reached, AllPass, Rises, is_past, first_of, first_passes, is_stop, take_before, range_rest}
+use Rattle.rkyv_btree_walk.specs.mirror.Range.{is_reached, AllPass, Rises, is_past, first_of, first_passes}
+use Rattle.rkyv_btree_walk.specs.Paths.{range_rest}
+use Rattle.rkyv_btree_walk.specs.Remaining.{is_stop, take_before}
 use Rattle.rkyv_btree_walk.proofs.Hits.{rank, NoneAbove, Falls, ordered_falls, falls_map}
 use Rattle.rkyv_btree_walk.proofs.Seeks.{rises_right}
 

@@ -15,7 +15,8 @@ use Rattle.rkyv_btree_base.specs.laws.Views.{means_read, fitting_of}
 use Rattle.rkyv_btree_base.proofs.MapLaws.{map_laws, map_length, map_short}
 use Rattle.rkyv_btree_walk.specs.Search.{compared_entries, probe}
 use Rattle.rkyv_btree_walk.specs.mirror.Search.{searched, searched_map}
-use Rattle.rkyv_btree_walk.specs.mirror.Node.{natural, LeadsBefore, TreeStands, TreeCanBeRead}
+use Rattle.rkyv_btree_walk.specs.Nodes.{natural}
+use Rattle.rkyv_btree_walk.specs.mirror.Node.{LeadsBefore, TreeStands, TreeCanBeRead}
 use Rattle.rkyv_btree_walk.specs.mirror.Path.{tree_rest}
 use Rattle.rkyv_btree_walk.proofs.Nodes.{starts_before, spelled_stands}
 use Rattle.rkyv_btree_walk.proofs.Paths.{tree_from}

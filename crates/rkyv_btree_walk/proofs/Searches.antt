@@ -13,7 +13,8 @@ use Rattle.rkyv_btree_base.specs.Tree.{Tree, Row, last, step, Child, absent, chi
 use Rattle.std.specs.Ordering.{match_ordering}
 use Rattle.rkyv_btree_walk.specs.Search.{compared_in_leaf, compared_entries, compared_in_row, compared_in_child, first_equal, compared_of}
 use Rattle.rkyv_btree_walk.specs.declared.search.Stop.TheVariants.{At, Before}
-use Rattle.rkyv_btree_walk.specs.mirror.Node.{natural, is_leaf, entry_count, child_place, NodeStands, TreeStands, RunStands}
+use Rattle.rkyv_btree_walk.specs.Nodes.{natural, is_leaf, entry_count, child_place}
+use Rattle.rkyv_btree_walk.specs.mirror.Node.{NodeStands, TreeStands, RunStands}
 use Rattle.rkyv_btree_walk.specs.mirror.Search.{StopsAt, searched, comparison_at}
 use Rattle.rkyv_btree_walk.proofs.Nodes.{tree_levels, child_stands}
 

@@ -7,8 +7,10 @@ use Rattle.rkyv_btree_base.specs.Bytes.{number_at}
 use Rattle.rkyv_btree_base.specs.Kind.{Kind}
 use Rattle.rkyv_btree_base.specs.Layout.{NodeLayout, layout_of, len_at}
 use Rattle.rkyv_btree_base.specs.Read.{run}
-use Rattle.rkyv_btree_walk.specs.mirror.Node.{is_leaf, entry_count, child_place, NodeStands, TreeStands}
-use Rattle.rkyv_btree_walk.specs.mirror.Path.{node_rest, child_list, tree_rest, path_rest, walk_rest, IsPath}
+use Rattle.rkyv_btree_walk.specs.Nodes.{is_leaf, entry_count, child_place}
+use Rattle.rkyv_btree_walk.specs.mirror.Node.{NodeStands, TreeStands}
+use Rattle.rkyv_btree_walk.specs.Paths.{node_rest, path_rest, walk_rest, child_list}
+use Rattle.rkyv_btree_walk.specs.mirror.Path.{tree_rest, IsPath}
 use Rattle.rkyv_btree_walk.specs.mirror.Range.{IsFirst, Climbs, AllPass, Rises}
 use Rattle.rkyv_btree_walk.proofs.Nodes.{tree_levels}
 use Rattle.rkyv_btree_walk.proofs.Paths.{rest_end, rest_more, tree_absent, rest_snoc, put_absent, put_child}

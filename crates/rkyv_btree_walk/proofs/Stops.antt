@@ -8,8 +8,10 @@ use Rattle.rkyv_btree_base.specs.Kind.{Kind}
 use Rattle.rkyv_btree_base.specs.Layout.{NodeLayout, layout_of}
 use Rattle.rkyv_btree_base.specs.Read.{run}
 use Rattle.rkyv_btree_walk.specs.Visit.{or_else}
-use Rattle.rkyv_btree_walk.specs.mirror.Node.{is_leaf, entry_count, child_place, TreeStands}
-use Rattle.rkyv_btree_walk.specs.mirror.Path.{node_rest, child_list, tree_rest, path_rest, IsPath}
+use Rattle.rkyv_btree_walk.specs.Nodes.{is_leaf, entry_count, child_place}
+use Rattle.rkyv_btree_walk.specs.mirror.Node.{TreeStands}
+use Rattle.rkyv_btree_walk.specs.Paths.{node_rest, path_rest, child_list}
+use Rattle.rkyv_btree_walk.specs.mirror.Path.{tree_rest, IsPath}
 use Rattle.rkyv_btree_walk.specs.mirror.Range.{IsFirst, Rises, first_of}
 use Rattle.rkyv_btree_walk.proofs.Nodes.{tree_levels, child_stands}
 use Rattle.rkyv_btree_walk.proofs.Paths.{rest_end, rest_more, rest_snoc, tree_from}

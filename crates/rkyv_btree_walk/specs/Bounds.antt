@@ -12,6 +12,10 @@ use Rattle.rkyv_btree_walk.specs.Search.{OrderedBy, ComparesBy}
 abbrev pub IsRun : {X : Type 0} → List X → List X → Type 0
 IsRun {X} range all = (skipped later : List X) × (all ≡ skipped ++ (range ++ later))
 
+-- a list ends with these
+abbrev pub IsEnd : {X : Type 0} → List X → List X → Type 0
+IsEnd {X} rest all = (skipped : List X) × (all ≡ skipped ++ rest)
+
 module _ {A : Type 0} where
   -- whether a key isn't before a low bound
   abbrev pub is_from : Bound (A → Ordering) → A → Bool

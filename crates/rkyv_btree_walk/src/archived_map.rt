@@ -11,7 +11,7 @@ use rkyv_btree_base::layout;
 use rkyv_btree_base::map::ArchivedBTreeMap;
 use rkyv_btree_base::set::ArchivedBTreeSet;
 
-/// A type of archived maps: what its keys and values are, and where they stand in a node. A walk is over such a type.
+/// A type of archived maps: what its keys and values are, and their positions in a node. A walk is over such a type.
 /// Positions in a node count from its first byte, which is its kind.
 pub trait ArchivedMap: Portable {
     /// The archived type of the keys.
@@ -37,25 +37,25 @@ pub trait ArchivedMap: Portable {
     fn entries_per_node() -> usize
         ensures { result ≡ E };
 
-    /// Where key `i` of a node stands.
+    /// Returns the position of key `i` in a node.
     fn key_at(i: usize) -> u32
         requires fitting { IsTrue (are_fitting Self.Key.kind Self.Mapped.kind E) }
         requires within { i ≤ E }
         ensures { result ≡ key_at (layout_of Self.Key.kind Self.Mapped.kind E) i };
 
-    /// Where value `i` of a node stands.
+    /// Returns the position of value `i` in a node.
     fn value_at(i: usize) -> u32
         requires fitting { IsTrue (are_fitting Self.Key.kind Self.Mapped.kind E) }
         requires within { i ≤ E }
         ensures { result ≡ value_at (layout_of Self.Key.kind Self.Mapped.kind E) i };
 
-    /// Where a leaf's length stands.
+    /// Returns the position of a leaf's length.
     fn len_at() -> u32
         requires { IsTrue (are_fitting Self.Key.kind Self.Mapped.kind E) }
         ensures value { result ≡ len_at (layout_of Self.Key.kind Self.Mapped.kind E) }
         ensures inside { result + 4 ≤ leaf_size (layout_of Self.Key.kind Self.Mapped.kind E) };
 
-    /// Where pointer `i` of an inner node stands.
+    /// Returns the position of pointer `i` in an inner node.
     fn pointer_at(i: usize) -> u32
         requires fitting { IsTrue (are_fitting Self.Key.kind Self.Mapped.kind E) }
         requires within { i ≤ E }

@@ -2,13 +2,14 @@
 ghost use Rattle.std.specs.Prelude.{◌≡◌, ◌+◌, ◌≤◌, ◌<◌, length, IsTrue, Some, true, false};
 ghost use Rattle.rkyv_btree_base.specs.Bytes.{place_at, number_at};
 ghost use Rattle.rkyv_btree_base.specs.Layout.{layout_of, are_fitting, key_at, value_at, leaf_size, len_at};
-ghost use Rattle.rkyv_btree_walk.specs.mirror.Node.{natural, LeadsBefore, is_leaf as is_leaf_at, child_place, NodeStands};
+ghost use Rattle.rkyv_btree_walk.specs.Nodes.{natural, is_leaf as is_leaf_at, child_place};
+ghost use Rattle.rkyv_btree_walk.specs.mirror.Node.{LeadsBefore, NodeStands};
 
 use crate::archived_map::ArchivedMap;
 use rkyv_btree_base::bytes::{num32, target};
 use rkyv_btree_base::check::Portable;
 
-/// The position of a node, which stands before `end`.
+/// Returns the position of a node, which is before `end`.
 fn node_at(place: i64, end: u32) -> u32
     requires { LeadsBefore end (Some place) }
     ensures { natural (Some place) ≡ Some result }

@@ -5,9 +5,12 @@ ghost use Rattle.rkyv_btree_base.specs.Layout.{layout_of, len_at, are_fitting};
 ghost use Rattle.rkyv_btree_base.specs.Read.{map_tree};
 ghost use Rattle.rkyv_btree_base.specs.Tree.{list};
 ghost use Rattle.rkyv_btree_base.specs.Views.{stands};
-ghost use Rattle.rkyv_btree_walk.specs.mirror.Below.{root_place, IsBelow, PathBelow, LeafBelow, StepStaysBelow};
-ghost use Rattle.rkyv_btree_walk.specs.mirror.Node.{is_leaf as is_leaf_at, child_place, TreeStands};
-ghost use Rattle.rkyv_btree_walk.specs.mirror.Path.{tree_rest, path_rest, leaf_rest, LeafStands, StepStands, Steps, IsPath};
+ghost use Rattle.rkyv_btree_walk.specs.Below.{root_place, IsBelow, PathBelow};
+ghost use Rattle.rkyv_btree_walk.specs.mirror.Below.{LeafBelow, StepStaysBelow};
+ghost use Rattle.rkyv_btree_walk.specs.Nodes.{is_leaf as is_leaf_at, child_place};
+ghost use Rattle.rkyv_btree_walk.specs.mirror.Node.{TreeStands};
+ghost use Rattle.rkyv_btree_walk.specs.mirror.Path.{tree_rest, leaf_rest, LeafStands, StepStands, Steps, IsPath};
+ghost use Rattle.rkyv_btree_walk.specs.Paths.{path_rest};
 
 use crate::archived_map::{ArchivedMap, map_len};
 use crate::node::{child, is_leaf, leaf_count, root};
@@ -17,10 +20,10 @@ use rkyv_btree_base::check::Portable;
 /// The inner nodes from the root on, one a level, each with the number of its next entry. A tree has at most 32 levels.
 pub type Path = ArrayVec<(u32, u32), 32>;
 
-/// A leaf that a walk has come to, with the number of its entries. Where no leaf comes next, that is 0.
+/// A leaf that a walk has come to, with the number of its entries, which is 0 if no leaf comes next.
 #[derive(Clone, Copy)]
 pub struct Leaf {
-    /// Where it stands.
+    /// The position of the leaf.
     pub node: u32,
     /// How many entries it has.
     pub count: u32,
@@ -29,7 +32,7 @@ pub struct Leaf {
 /// An entry of an inner node, and the leaf after it.
 #[derive(Clone, Copy)]
 pub struct Step {
-    /// Where the inner node stands.
+    /// The position of the inner node.
     pub node: u32,
     /// The number of the entry in it.
     pub index: u32,
@@ -135,8 +138,8 @@ fn leaf_after<K: Portable, V: Portable, M: ArchivedMap<Key = K, Mapped = V>>(
     None
 }
 
-/// Takes the next entry of the path's last node, and finds the leaf after it. Where one of the two is missing, the path is
-/// unchanged.
+/// Takes the next entry of the path's last node, and finds the leaf after it. The path is unchanged if one of the two is
+/// missing.
 #[inline(always)]
 pub(crate) fn next_leaf<K: Portable, V: Portable, M: ArchivedMap<Key = K, Mapped = V>>(
     buf: &[u8],

@@ -9,14 +9,20 @@ ghost use Rattle.rkyv_btree_base.specs.Map.{map_kind};
 ghost use Rattle.rkyv_btree_base.specs.Read.{map_tree, read_map};
 ghost use Rattle.rkyv_btree_base.specs.Tree.{list};
 ghost use Rattle.rkyv_btree_base.specs.Views.{stands};
-ghost use Rattle.rkyv_btree_walk.specs.Bounds.{IsRun, IsWithin, ByBounds};
+ghost use Rattle.rkyv_btree_walk.specs.Bounds.{IsRun, IsWithin, ByBounds, IsEnd};
+ghost use Rattle.rkyv_btree_walk.specs.EntryPlaces.{entry_places};
+ghost use Rattle.rkyv_btree_walk.specs.Remaining.{is_stop as stops_at, take_before};
 ghost use Rattle.rkyv_btree_walk.specs.Search.{ComparesBy, shown_value};
-ghost use Rattle.rkyv_btree_walk.specs.mirror.Below.{root_place, PartBelow, PathStaysBelow, StepStaysBelow};
-ghost use Rattle.rkyv_btree_walk.specs.mirror.Node.{natural, RunStands, TreeCanBeRead};
-ghost use Rattle.rkyv_btree_walk.specs.mirror.Path.{path_rest, IsPath, LeafStands, StepStands, Steps};
-ghost use Rattle.rkyv_btree_walk.specs.mirror.Range.{from_at, past_at, IsKept, IsEnd, IsFound, IsMiddle, first_of, first_passes};
-ghost use Rattle.rkyv_btree_walk.specs.mirror.Range.{is_stop as stops_at, take_before, range_rest, tree_list, part_rest};
-ghost use Rattle.rkyv_btree_walk.specs.mirror.Range.{part_range, read_range, PartStands, StepsBefore};
+ghost use Rattle.rkyv_btree_walk.specs.Below.{root_place};
+ghost use Rattle.rkyv_btree_walk.specs.mirror.Below.{PartBelow, PathStaysBelow, StepStaysBelow};
+ghost use Rattle.rkyv_btree_walk.specs.Nodes.{natural};
+ghost use Rattle.rkyv_btree_walk.specs.mirror.Node.{RunStands, TreeCanBeRead};
+ghost use Rattle.rkyv_btree_walk.specs.Paths.{path_rest, range_rest};
+ghost use Rattle.rkyv_btree_walk.specs.mirror.Path.{IsPath, LeafStands, StepStands, Steps};
+ghost use Rattle.rkyv_btree_walk.specs.mirror.Range.{from_at, past_at, IsKept, IsFound, IsMiddle, first_of, first_passes};
+ghost use Rattle.rkyv_btree_walk.specs.mirror.Range.{tree_list, part_rest, part_range, read_range, PartStands};
+ghost use Rattle.rkyv_btree_walk.specs.mirror.Range.{StepsBefore, StepIsPlaced};
+ghost use Rattle.rkyv_btree_walk.specs.WalkBetween.{IsPlaced};
 
 use crate::archived_map::{ArchivedMap, map_len};
 use crate::node::{key_pos, root};
@@ -221,7 +227,8 @@ fn is_stop(stop: Option<(u32, u32)>, node: u32, index: u32) -> bool
     }
 }
 
-/// Where a leaf's part ends in a range: where the stop stands in it, there, and then nothing is left of the path either.
+/// Returns the number before which a leaf's part ends in a range. If the stop is in the part, that is its number, and
+/// nothing is left of the path.
 fn cut<K: Portable, V: Portable, M: ArchivedMap<Key = K, Mapped = V>>(
     _buf: &[u8],
     part: Part,
@@ -234,6 +241,10 @@ fn cut<K: Portable, V: Portable, M: ArchivedMap<Key = K, Mapped = V>>(
     ensures rest { let s = layout_of K.kind V.kind M.E in
         range_rest s _buf.now stop part.node part.next result path.new.items
         ≡ take_before stop (part_rest K.kind V.kind M.E _buf.now part path.old.items) }
+    ensures placed { (all : List (ℕ × ℕ))
+        → IsEnd (part_rest K.kind V.kind M.E _buf.now part path.old.items) all
+        → IsPlaced (layout_of K.kind V.kind M.E) _buf.now all stop part.node part.next result
+        path.new.items }
     ensures below { PathStaysBelow (layout_of K.kind V.kind M.E) _buf.now path.old.items
         path.new.items }
 {
@@ -266,6 +277,9 @@ fn before<K: Portable, V: Portable, M: ArchivedMap<Key = K, Mapped = V>>(
     ensures rest { let s = layout_of K.kind V.kind M.E in (all : List (ℕ × ℕ))
         → Steps s buf.now (Some step) all path.old.items
         → StepsBefore s buf.now stop result all path.new.items }
+    ensures placed { let s = layout_of K.kind V.kind M.E in (all old : List (ℕ × ℕ))
+        → Steps s buf.now (Some step) old path.old.items → IsEnd (path_rest s buf.now 32 old) all
+        → StepIsPlaced s buf.now all stop result path.new.items }
     ensures below { let s = layout_of K.kind V.kind M.E in (all : List (ℕ × ℕ))
         → StepStaysBelow s buf.now all path.old.items (Some step)
         → StepStaysBelow s buf.now all path.new.items result }
@@ -303,6 +317,9 @@ fn climb_before<K: Portable, V: Portable, M: ArchivedMap<Key = K, Mapped = V>>(
     ensures leaf { IfSome result (λ e. LeafStands K.kind V.kind M.E buf.now e.leaf) }
     ensures rest { StepsBefore (layout_of K.kind V.kind M.E) buf.now stop result path.old.items
         path.new.items }
+    ensures placed { let s = layout_of K.kind V.kind M.E in (all : List (ℕ × ℕ))
+        → IsEnd (path_rest s buf.now 32 path.old.items) all
+        → StepIsPlaced s buf.now all stop result path.new.items }
     ensures below { StepStaysBelow (layout_of K.kind V.kind M.E) buf.now path.old.items
         path.new.items result }
 {
@@ -327,6 +344,9 @@ pub fn advance_before<K: Portable, V: Portable, M: ArchivedMap<Key = K, Mapped =
     ensures leaf { IfSome result (λ e. LeafStands K.kind V.kind M.E buf.now e.leaf) }
     ensures rest { StepsBefore (layout_of K.kind V.kind M.E) buf.now stop result path.old.items
         path.new.items }
+    ensures placed { let s = layout_of K.kind V.kind M.E in (all : List (ℕ × ℕ))
+        → IsEnd (path_rest s buf.now 32 path.old.items) all
+        → StepIsPlaced s buf.now all stop result path.new.items }
     ensures below { StepStaysBelow (layout_of K.kind V.kind M.E) buf.now path.old.items
         path.new.items result }
 {
@@ -367,6 +387,9 @@ fn between_in<
         IsMiddle (from_at K.kind V.kind M.E buf.now lo) (past_at K.kind V.kind M.E buf.now hi)
         (tree_list K.kind V.kind M.E buf.now root)
         (part_range K.kind V.kind M.E buf.now result.1 result.0 path.new.items)) }
+    ensures placed { IsPlaced (layout_of K.kind V.kind M.E) buf.now
+        (tree_list K.kind V.kind M.E buf.now root)
+        result.1 result.0.node result.0.next result.0.end path.new.items }
     ensures below { PartBelow (layout_of K.kind V.kind M.E) buf.now (Some root) result.0
         path.new.items }
 {
@@ -382,7 +405,7 @@ fn between_in<
     (Part { node, next, end }, stop)
 }
 
-/// Where the root of a map with entries stands, and a tree with it.
+/// Returns the position of the root of a map with entries.
 #[inline(always)]
 fn tree_root<K: Portable, V: Portable, M: ArchivedMap<Key = K, Mapped = V>>(
     buf: &[u8],
@@ -396,8 +419,8 @@ fn tree_root<K: Portable, V: Portable, M: ArchivedMap<Key = K, Mapped = V>>(
     root(buf, pos)
 }
 
-/// Begins a walk between the bounds, of the map at `pos` with an empty path. Where its keys are ordered for both queries,
-/// it goes along all entries within them; else along some that stand one after the other.
+/// Begins a walk between the bounds, of the map at `pos` with an empty path. If its keys are ordered for both queries,
+/// it goes along all entries within them, and else along some contiguous run of entries.
 pub fn between<
     'a,
     Q,
@@ -429,6 +452,9 @@ pub fn between<
     ensures within { ByBounds (C.post cmp.now) (shown_value K.kind W.Shows) low.entry high.entry (λ lo hi.
         IsWithin lo hi (read_map K.kind V.kind M.E buf.now pos)
         (read_range K.kind V.kind M.E buf.now result.1 result.0 path.new.items)) }
+    ensures placed { IsPlaced (layout_of K.kind V.kind M.E) buf.now
+        (entry_places K.kind V.kind M.E buf.now pos)
+        result.1 result.0.node result.0.next result.0.end path.new.items }
     ensures below { PartBelow (layout_of K.kind V.kind M.E) buf.now (root_place buf.now pos)
         result.0 path.new.items }
 {

@@ -1,13 +1,15 @@
 //! A walk along the entries of a map between two bounds, by their places. Ranges and cursors of ranges are made of it.
-ghost use Rattle.std.specs.Prelude.{◌≡◌, ◌+◌, IfSome, IsTrue, map};
+ghost use Rattle.std.specs.Prelude.{◌≡◌, ℕ, ◌+◌, List, IfSome, IsTrue, map};
 ghost use Rattle.std.specs.declared.ops.Bound.TheVariants.{Unbounded};
 ghost use Rattle.rkyv_btree_base.specs.Layout.{layout_of};
 ghost use Rattle.rkyv_btree_base.specs.Read.{entry_at, read_map};
 ghost use Rattle.rkyv_btree_base.specs.Views.{stands};
 ghost use Rattle.rkyv_btree_walk.specs.Bounds.{IsRun, IsWithin, ByBounds};
 ghost use Rattle.rkyv_btree_walk.specs.EntryPlaces.{entry_places};
+ghost use Rattle.rkyv_btree_walk.specs.Remaining.{places_between};
 ghost use Rattle.rkyv_btree_walk.specs.Search.{shown_value};
-ghost use Rattle.rkyv_btree_walk.specs.mirror.Along.{range_left, IsRangeWalk, Takes};
+ghost use Rattle.rkyv_btree_walk.specs.WalkBetween.{IsWalkBetween, range_left, IsRangeWalk, IsPlacedWalk};
+ghost use Rattle.rkyv_btree_walk.specs.mirror.Along.{Takes};
 ghost use Rattle.rkyv_btree_walk.specs.mirror.Node.{RunStands};
 
 use crate::archived_map::ArchivedMap;
@@ -45,18 +47,19 @@ pub fn start_between<
 >(buf: &'a [u8], pos: u32, low: Bound<&Q>, high: Bound<&Q>, cmp: &C) -> RangeWalk
     requires callable { C.IsAlwaysCallable cmp.now }
     requires stands { IsTrue (stands M.kind buf.now pos) }
-    ensures walks { IsRangeWalk (layout_of K.kind V.kind M.E) buf.now pos result }
-    ensures run { IsRun (range_left (layout_of K.kind V.kind M.E) buf.now result)
+    ensures walks { IsWalkBetween K.kind V.kind M.E buf.now pos result }
+    ensures run { IsRun (places_between K.kind V.kind M.E buf.now pos result)
         (entry_places K.kind V.kind M.E buf.now pos) }
     ensures whole { low.entry ≡ Unbounded → high.entry ≡ Unbounded
         → map (entry_at K.kind V.kind M.E buf.now)
-        (range_left (layout_of K.kind V.kind M.E) buf.now result)
+        (places_between K.kind V.kind M.E buf.now pos result)
         ≡ read_map K.kind V.kind M.E buf.now pos }
     ensures within { ByBounds (C.post cmp.now) (shown_value K.kind W.Shows) low.entry high.entry (λ lo hi.
         IsWithin lo hi (read_map K.kind V.kind M.E buf.now pos)
         (map (entry_at K.kind V.kind M.E buf.now)
-        (range_left (layout_of K.kind V.kind M.E) buf.now result))) }
+        (places_between K.kind V.kind M.E buf.now pos result))) }
 {
+    M::opened(buf, pos);
     let mut path = ArrayVec::new();
     let (part, stop) = between::<Q, K, V, M, W, C>(buf, pos, low, high, cmp, &mut path);
     RangeWalk { path, part, stop }
@@ -74,6 +77,8 @@ pub fn step_before<K: Portable, V: Portable, M: ArchivedMap<Key = K, Mapped = V>
     ensures walks { IsRangeWalk (layout_of K.kind V.kind M.E) buf.now pos walk.new }
     ensures takes { let s = layout_of K.kind V.kind M.E in
         Takes (range_left s buf.now walk.old) (range_left s buf.now walk.new) result }
+    ensures placed { let s = layout_of K.kind V.kind M.E in (all : List (ℕ × ℕ))
+        → IsPlacedWalk s buf.now all walk.old → IsPlacedWalk s buf.now all walk.new }
     ensures stands { IfSome result (λ place.
         RunStands K.kind V.kind M.E buf.now place.node place.index (place.index + 1)) }
 {

@@ -8,7 +8,7 @@ ghost use Rattle.rkyv_btree_base.specs.Views.{stands};
 ghost use Rattle.rkyv_btree_walk.specs.Search.{compared_of, shown_value};
 ghost use Rattle.rkyv_btree_walk.specs.mirror.Node.{RunStands, CanBeSearched, TreeCanBeRead};
 ghost use Rattle.rkyv_btree_walk.specs.mirror.Path.{tree_rest};
-ghost use Rattle.rkyv_btree_walk.specs.mirror.Search.{StopsAt, StopsWithin, IsListed, comparisons_by, comparison_at, searched, searched_map, TellsBy};
+ghost use Rattle.rkyv_btree_walk.specs.mirror.Search.{StopsAt, StopsWithin, IsListed, comparisons_by, comparison_at, searched, searched_map, IsComparedBy};
 
 use crate::archived_map::{ArchivedMap, map_len};
 use crate::node::{child, is_leaf, key_pos, leaf_count, root};
@@ -38,7 +38,7 @@ impl Compared {
     }
 }
 
-/// Where the search of a node stops: at an entry that gives Equal, or before the first that gives Less, or after all.
+/// How the search of a node stops: at an entry that gives Equal, or before the first that gives Less, or after all.
 #[derive(Clone, Copy)]
 pub(crate) enum Stop {
     At(u32),
@@ -70,7 +70,7 @@ fn compare_at<'a, Q, K: Portable, W: Shows<'a, K>, C: Fn(&Q, W) -> Compared>(
 ) -> Compared
     requires callable { C.IsAlwaysCallable cmp.now }
     requires stands { IsTrue (stands K.kind buf.now pos) }
-    ensures { (c : Q → K.kind.Value → Comparison) → TellsBy (C.post cmp.now) (shown_value K.kind W.Shows) c
+    ensures { (c : Q → K.kind.Value → Comparison) → IsComparedBy (C.post cmp.now) (shown_value K.kind W.Shows) c
         → result ≡ compared_of (c key.now (K.kind.read buf.now pos)) }
 {
     cmp(key, W::at(buf, pos))
@@ -91,7 +91,7 @@ fn search_node<
     requires node { CanBeSearched K.kind V.kind M.E buf.now node count }
     ensures within { StopsWithin count result }
     ensures stops { (c : Q → K.kind.Value → Comparison)
-        → TellsBy (C.post cmp.now) (shown_value K.kind W.Shows) c
+        → IsComparedBy (C.post cmp.now) (shown_value K.kind W.Shows) c
         → StopsAt (λ i. comparison_at K.kind V.kind M.E buf.now (c key.now) (node, i)) count result }
 {
     for i in 0..count {
@@ -124,7 +124,7 @@ fn search_tree<
     requires tree { TreeCanBeRead K.kind V.kind M.E buf.now from }
     ensures stands { IfSome result.0 (λ e. RunStands K.kind V.kind M.E buf.now e.0 e.1 (e.1 + 1)) }
     ensures found { (c : Q → K.kind.Value → Comparison)
-        → TellsBy (C.post cmp.now) (shown_value K.kind W.Shows) c
+        → IsComparedBy (C.post cmp.now) (shown_value K.kind W.Shows) c
         → result ≡ searched (layout_of K.kind V.kind M.E) buf.now
         (comparison_at K.kind V.kind M.E buf.now (c key.now)) 32 from }
     ensures listed { let s = layout_of K.kind V.kind M.E in
@@ -172,7 +172,7 @@ pub fn search<
     requires stands { IsTrue (stands M.kind buf.now pos) }
     ensures stands { IfSome result.0 (λ e. RunStands K.kind V.kind M.E buf.now e.0 e.1 (e.1 + 1)) }
     ensures found { (c : Q → K.kind.Value → Comparison)
-        → TellsBy (C.post cmp.now) (shown_value K.kind W.Shows) c
+        → IsComparedBy (C.post cmp.now) (shown_value K.kind W.Shows) c
         → result ≡ searched_map (layout_of K.kind V.kind M.E) buf.now
         (comparison_at K.kind V.kind M.E buf.now (c key.now)) pos }
     ensures listed { let s = layout_of K.kind V.kind M.E in

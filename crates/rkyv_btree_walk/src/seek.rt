@@ -6,9 +6,11 @@ ghost use Rattle.rkyv_btree_base.specs.Layout.{layout_of, len_at, are_fitting};
 ghost use Rattle.rkyv_btree_base.specs.Views.{stands};
 ghost use Rattle.rkyv_btree_walk.specs.Search.{ComparesBy, shown_value};
 ghost use Rattle.rkyv_btree_walk.specs.mirror.Below.{PartBelow};
-ghost use Rattle.rkyv_btree_walk.specs.mirror.Node.{is_leaf as is_leaf_at, NodeStands, RunStands, RunCanBeRead, TreeStands, TreeCanBeRead};
+ghost use Rattle.rkyv_btree_walk.specs.Nodes.{is_leaf as is_leaf_at};
+ghost use Rattle.rkyv_btree_walk.specs.mirror.Node.{NodeStands, RunStands, RunCanBeRead, TreeStands, TreeCanBeRead};
 ghost use Rattle.rkyv_btree_walk.specs.mirror.Path.{tree_rest, IsPath};
-ghost use Rattle.rkyv_btree_walk.specs.mirror.Range.{is_reached, reached_at, IsFirst, Climbs, IsKept, IsEnd, IsFound, IsFoundOr};
+ghost use Rattle.rkyv_btree_walk.specs.mirror.Range.{is_reached, reached_at, IsFirst, Climbs, IsKept, IsFound, IsFoundOr};
+ghost use Rattle.rkyv_btree_walk.specs.Bounds.{IsEnd};
 ghost use Rattle.rkyv_btree_walk.specs.mirror.Range.{tree_list, part_rest, PartStands};
 
 use crate::archived_map::ArchivedMap;
@@ -21,7 +23,7 @@ use std::cmp::Ordering;
 /// What is left of a leaf: its entries from number `next` to before number `end`.
 #[derive(Clone, Copy)]
 pub struct Part {
-    /// Where the leaf stands.
+    /// The position of the leaf.
     pub node: u32,
     /// The number of the first entry left.
     pub next: u32,
@@ -147,7 +149,7 @@ fn seek_node<
     scan_node::<Q, K, V, M, W, C>(buf, node, from, count, key, cmp, past)
 }
 
-/// The number of entries in the leaf at `node`, all of which stand.
+/// Returns the number of entries in the leaf at `node`, all of which are valid.
 #[inline(always)]
 fn leaf_end<K: Portable, V: Portable, M: ArchivedMap<Key = K, Mapped = V>>(
     buf: &[u8],
@@ -163,7 +165,7 @@ fn leaf_end<K: Portable, V: Portable, M: ArchivedMap<Key = K, Mapped = V>>(
     leaf_count::<K, V, M>(buf, node)
 }
 
-/// The number of entries in the inner node at `_node`, all of which stand.
+/// Returns the number of entries in the inner node at `_node`, all of which are valid.
 #[inline(always)]
 fn inner_end<K: Portable, V: Portable, M: ArchivedMap<Key = K, Mapped = V>>(
     _buf: &[u8],

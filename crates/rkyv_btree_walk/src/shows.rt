@@ -7,10 +7,10 @@ use rkyv_btree_base::check::Portable;
 /// A type of views of `T`. `View<'a, T>` is the one: a call that takes a closure over views has a type parameter for
 /// each, which the closure's own types determine.
 pub trait Shows<'a, T: Portable> {
-    /// The buffer in which the view's value stands.
+    /// The buffer with the view's value.
     ghost bytes: { Self → List ℕ };
 
-    /// The position at which it stands.
+    /// The position of that value.
     ghost place: { Self → ℕ };
 
     /// The view of the value at position `pos` of `buf`.

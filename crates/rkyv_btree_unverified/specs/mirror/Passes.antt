@@ -7,7 +7,8 @@ use Rattle.rkyv_btree_base.specs.Layout.{NodeLayout, layout_of, leaf_size, inner
 use Rattle.rkyv_btree_base.specs.Refusal.{Refusal}
 use Rattle.rkyv_btree_unverified.specs.Lookups.{TreeGives}
 use Rattle.rkyv_btree_unverified.specs.Steps.{HasRoom}
-use Rattle.rkyv_btree_walk.specs.mirror.Node.{is_leaf, entry_count, child_place, EntryStands, TreeStands, RunStands}
+use Rattle.rkyv_btree_walk.specs.Nodes.{is_leaf, entry_count, child_place}
+use Rattle.rkyv_btree_walk.specs.mirror.Node.{EntryStands, TreeStands, RunStands}
 use Rattle.rkyv_btree_walk.specs.mirror.Search.{searched}
 use Rattle.rkyv_btree_unverified.specs.declared.unverified_search.Halt.{Halt}
 use Rattle.rkyv_btree_unverified.specs.declared.unverified_search.Next.{Next}

@@ -1,36 +1,18 @@
--- What a walk needs of the nodes that it meets. These are facts that functions of this room hand on, and mirror how the
--- code reads a node; no promise to a caller cites them.
-use Rattle.std.specs.Prelude.{◌≡◌, ℕ, zero, suc, ◌+◌, ◌≤◌, ◌<◌, IsTrue, List, length, Option, Some, None, Bool, false, ℤ, pos}
-use Rattle.std.specs.Prelude.{negsuc, slice_index, nat_eq, if◌then◌else◌}
-use Rattle.rkyv_btree_base.specs.Bytes.{number_at, target_at}
+-- What a walk needs of the nodes that it meets. These are facts that functions of this room hand on; no promise to a caller
+-- cites them.
+use Rattle.std.specs.Prelude.{◌≡◌, ℕ, zero, suc, ◌+◌, ◌≤◌, ◌<◌, IsTrue, List, length, Option, Some, None, false, ℤ, pos}
+use Rattle.std.specs.Prelude.{negsuc}
+use Rattle.rkyv_btree_base.specs.Bytes.{target_at}
 use Rattle.rkyv_btree_base.specs.Kind.{Kind}
-use Rattle.rkyv_btree_base.specs.Layout.{NodeLayout, are_fitting, layout_of, key_at, value_at, len_at, leaf_size, inner_size, pointer_at}
+use Rattle.rkyv_btree_base.specs.Layout.{are_fitting, layout_of, key_at, value_at, leaf_size, inner_size, pointer_at}
 use Rattle.rkyv_btree_base.specs.Views.{stands}
-
--- a place in a buffer, where it isn't before its start
-abbrev pub natural : Option ℤ → Option ℕ
-natural None = None
-natural (Some (negsuc n)) = None
-natural (Some (pos q)) = Some q
+use Rattle.rkyv_btree_walk.specs.Nodes.{is_leaf, entry_count, child_place}
 
 -- a pointer leads nowhere, or to a place before p
 abbrev pub LeadsBefore : ℕ → Option ℤ → Type 0
 LeadsBefore p None = Unit {0}
 LeadsBefore p (Some (negsuc n)) = ⊥
 LeadsBefore p (Some (pos q)) = q < p
-
-module _ (s : NodeLayout) (b : List ℕ) where
-  -- whether the node at p is a leaf
-  abbrev pub is_leaf : ℕ → Bool
-  is_leaf p = nat_eq (slice_index b p) 0
-
-  -- how many entries it has
-  abbrev pub entry_count : ℕ → ℕ
-  entry_count p = if is_leaf p then number_at b (p + len_at s) 4 else s.E
-
-  -- its child number i, which stands before entry i, or after the last one: a leaf has none
-  abbrev pub child_place : ℕ → ℕ → Option ℕ
-  child_place p i = if is_leaf p then None else natural (target_at b (p + pointer_at s i))
 
 module _ (K V : Kind) (E : ℕ) (b : List ℕ) where
   -- a key and a value stand at an entry, which is given by its node and its number

@@ -1,18 +1,21 @@
 -- Where a range begins and where it stops. These mirror the code, which seeks both places.
-use Rattle.std.specs.Prelude.{◌≡◌, ℕ, ◌-◌, ◌≤◌, ◌<◌, List, [], ◌∷◌, ◌++◌, map, filter, Option, Some, None, Bool, true, false, ◌&&◌, not, nat_eq, if◌then◌else◌}
+use Rattle.std.specs.Prelude.{◌≡◌, ℕ, ◌≤◌, ◌<◌, List, [], ◌∷◌, map, filter, Option, Some, None, Bool, true, false, ◌&&◌, not, if◌then◌else◌}
 use Rattle.std.specs.Ordering.{is_le, is_lt}
 use Rattle.std.specs.declared.cmp.Ordering.{Ordering}
 use Rattle.std.specs.declared.ops.Bound.{Bound}
 use Rattle.std.specs.declared.ops.Bound.TheVariants.{Included, Excluded, Unbounded}
 use Rattle.rkyv_btree_base.specs.Kind.{Kind}
 use Rattle.rkyv_btree_base.specs.Layout.{NodeLayout, layout_of}
-use Rattle.rkyv_btree_base.specs.Read.{run, entry_at}
+use Rattle.rkyv_btree_base.specs.Read.{entry_at}
 use Rattle.rkyv_btree_walk.specs.Bounds.{is_from}
+use Rattle.rkyv_btree_walk.specs.Remaining.{take_before}
 use Rattle.rkyv_btree_walk.specs.Visit.{or_else}
+use Rattle.rkyv_btree_walk.specs.WalkBetween.{IsPlaced}
 use Rattle.rkyv_btree_walk.specs.declared.path.Step.{Step}
 use Rattle.rkyv_btree_walk.specs.declared.seek.Part.{Part}
 use Rattle.rkyv_btree_walk.specs.mirror.Node.{RunStands}
-use Rattle.rkyv_btree_walk.specs.mirror.Path.{tree_rest, path_rest, walk_rest}
+use Rattle.rkyv_btree_walk.specs.mirror.Path.{tree_rest}
+use Rattle.rkyv_btree_walk.specs.Paths.{path_rest, range_rest, walk_rest}
 use Rattle.rkyv_btree_walk.specs.mirror.Search.{comparison_at}
 
 -- whether a key that compares so reaches the query: it isn't before it, or where `past` is true, it is after it
@@ -44,10 +47,6 @@ module _ {X : Type 0} (test : X → Bool) where
 -- the entries of a list that pass a test are these, where it rises along the list
 abbrev pub IsKept : {X : Type 0} → (X → Bool) → List X → List X → Type 0
 IsKept test all rest = Rises test all → rest ≡ filter test all
-
--- a list ends so
-abbrev pub IsEnd : {X : Type 0} → List X → List X → Type 0
-IsEnd {X} rest all = (skipped : List X) × (all ≡ skipped ++ rest)
 
 -- whether a key is past a high bound
 abbrev pub is_past : {A : Type 0} → Bound (A → Ordering) → A → Bool
@@ -85,26 +84,17 @@ abbrev pub first_passes : {X : Type 0} → (X → Bool) → List X → Bool
 first_passes test [] = false
 first_passes test (x ∷ xs) = test x
 
--- whether an entry is the one before which a range stops
-abbrev pub is_stop : Option (ℕ × ℕ) → ℕ × ℕ → Bool
-is_stop None e = false
-is_stop (Some stop) e = nat_eq stop.0 e.0 && nat_eq stop.1 e.1
-
--- the entries before that one, if there is one
-abbrev pub take_before : Option (ℕ × ℕ) → List (ℕ × ℕ) → List (ℕ × ℕ)
-take_before stop [] = []
-take_before stop (e ∷ es) = if is_stop stop e then [] else e ∷ take_before stop es
-
 module _ (s : NodeLayout) (b : List ℕ) (stop : Option (ℕ × ℕ)) where
-  -- what is left of a range: the entries of a leaf from number i to before number n, and of the path above it those before
-  -- the stop
-  abbrev pub range_rest : ℕ → ℕ → ℕ → List (ℕ × ℕ) → List (ℕ × ℕ)
-  range_rest p i n fs = run s b p (n - i) i ++ take_before stop (path_rest s b 32 fs)
-
   -- a step along a range takes its first entry from the path; or none is left, and none will be
   abbrev pub StepsBefore : Option Step → List (ℕ × ℕ) → List (ℕ × ℕ) → Type 0
   StepsBefore None old new = (take_before stop (path_rest s b 32 old) ≡ []) × (take_before stop (path_rest s b 32 new) ≡ [])
-  StepsBefore (Some e) old new = take_before stop (path_rest s b 32 old) ≡ (e.node, e.index) ∷ range_rest e.leaf.node 0 e.leaf.count new
+  StepsBefore (Some e) old new = take_before stop (path_rest s b 32 old) ≡ (e.node, e.index) ∷ range_rest s b stop e.leaf.node 0 e.leaf.count new
+
+module _ (s : NodeLayout) (b : List ℕ) (all : List (ℕ × ℕ)) (stop : Option (ℕ × ℕ)) where
+  -- a step leaves a walk with a place in the list, or with nothing
+  abbrev pub StepIsPlaced : Option Step → List (ℕ × ℕ) → Type 0
+  StepIsPlaced None fs = path_rest s b 32 fs ≡ []
+  StepIsPlaced (Some e) fs = IsPlaced s b all stop e.leaf.node 0 e.leaf.count fs
 
 module _ (K V : Kind) (E : ℕ) (b : List ℕ) where
   -- the entries of the tree at a root

@@ -12,8 +12,8 @@ use Rattle.rkyv_btree_walk.specs.declared.search.Stop.{Stop}
 use Rattle.rkyv_btree_walk.specs.declared.search.Stop.TheVariants.{At, Before}
 
 -- each result of a comparison is that of `compared`, for the query and what is read of the view
-abbrev pub TellsBy : {Q W A : Type 0} → (Bor Q → W → Compared → Type 0) → (W → A) → (Q → A → Ordering) → Type 0
-TellsBy {Q} {W} post read compared = (q : Bor Q) (w : W) (r : Compared) → post q w r → r ≡ compared_of (compared q.now (read w))
+abbrev pub IsComparedBy : {Q W A : Type 0} → (Bor Q → W → Compared → Type 0) → (W → A) → (Q → A → Ordering) → Type 0
+IsComparedBy {Q} {W} post read compared = (q : Bor Q) (w : W) (r : Compared) → post q w r → r ≡ compared_of (compared q.now (read w))
 
 -- a search along the comparisons of a node's entries, of which there are `count`, stops here
 abbrev pub StopsAt : (ℕ → Ordering) → ℕ → Stop → Type 0

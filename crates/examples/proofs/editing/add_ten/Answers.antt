@@ -29,12 +29,16 @@ along-preserved c =
     record {
       reference = c.write.ensures.same_reference ∙ c.next.ensures.same_buffer.same_reference ∙ c.along.invariant.reference;
       position = c.write.ensures.position ∙ c.next.ensures.same_buffer.position ∙ c.along.invariant.position;
-      adding = rw (c.write.ensures.position, c.write.ensures.remaining) (adding_more c.at-cursor.result.buf.now c.next.new.self.pos [] [] c.next.new.self.buf.now c.write.new.self.buf.now (remaining_places c.along.cursor) (remaining_places c.next.new.self) goes.0 c.read-value.result here goes.1 told puts);
+      adding = subst (λ (pos : ℕ). Adding c.at-cursor.result.buf.now pos [] [] c.write.new.self.buf.now (remaining_places c.write.new.self)) (sym c.write.ensures.position)
+          (subst (Adding c.at-cursor.result.buf.now c.next.new.self.pos [] [] c.write.new.self.buf.now) (sym c.write.ensures.remaining)
+          (adding_more c.at-cursor.result.buf.now c.next.new.self.pos [] [] c.next.new.self.buf.now c.write.new.self.buf.now (remaining_places c.along.cursor) (remaining_places c.next.new.self) goes.0 c.read-value.result here goes.1 told puts));
     }
 
 pub returns : goal.returns
 returns c m is =
     let position = c.along.invariant.position ∙ c.at-cursor.ensures.position in
-    let so_far : Adding c.args.buf.now c.args.pos [] [] c.along.cursor.buf.now (remaining_places c.along.cursor) = rw (c.at-cursor.ensures.buffer, position) at c.along.invariant.adding in
+    let so_far : Adding c.args.buf.now c.args.pos [] [] c.along.cursor.buf.now (remaining_places c.along.cursor) =
+    subst (λ (pos : ℕ). Adding c.args.buf.now pos [] [] c.along.cursor.buf.now (remaining_places c.along.cursor)) position
+    (subst (λ (b : List ℕ). Adding b c.along.cursor.pos [] [] c.along.cursor.buf.now (remaining_places c.along.cursor)) c.at-cursor.ensures.buffer c.along.invariant.adding) in
     let all = added_all c.args.buf.now c.along.cursor.buf.now c.args.pos (remaining_places c.along.cursor) m c.along-test.ensures.advances.0 so_far is in
     subst (λ (x : List ℕ). IsNumbers x c.args.pos (map plus_ten m)) (search rules) all

@@ -1,5 +1,5 @@
 -- 10 is added to the entry that is lent, and so to all between the bounds.
-use Rattle.std.proofs.Common.{◌≡◌, ◌∙◌, List, ℕ, ◌++◌, map, refl, ap, rules, subst}
+use Rattle.std.proofs.Common.{◌≡◌, ◌∙◌, List, ℕ, ◌++◌, map, refl, ap, rules, subst, sym}
 use Rattle.std.proofs.lemmas.List.{map-append}
 use Rattle.std.specs.Ordering.{nat_cmp}
 use Rattle.examples.specs.Editing.{IsNumbers, plus_ten}
@@ -25,7 +25,9 @@ along-preserved c =
       adding = λ skipped later start.
           let before : Adding c.by-cursor.result.buf.now c.along.cursor.pos skipped later c.by-cursor.result.buf.now (range_remaining_places c.by-cursor.result) = rw (c.write.ensures.position, c.next.ensures.same_buffer.position) at start in
           let here : Adding c.by-cursor.result.buf.now c.next.new.self.pos skipped later c.next.new.self.buf.now (range_remaining_places c.along.cursor) = rw (c.next.ensures.same_buffer.bytes, c.next.ensures.same_buffer.position) (c.along.invariant.adding skipped later before) in
-          rw (c.write.ensures.position, c.write.ensures.remaining) (adding_more c.by-cursor.result.buf.now c.next.new.self.pos skipped later c.next.new.self.buf.now c.write.new.self.buf.now (range_remaining_places c.along.cursor) (range_remaining_places c.next.new.self) goes.0 c.read-value.result here goes.1 told puts);
+          subst (λ (pos : ℕ). Adding c.by-cursor.result.buf.now pos skipped later c.write.new.self.buf.now (range_remaining_places c.write.new.self)) (sym c.write.ensures.position)
+          (subst (Adding c.by-cursor.result.buf.now c.next.new.self.pos skipped later c.write.new.self.buf.now) (sym c.write.ensures.remaining)
+          (adding_more c.by-cursor.result.buf.now c.next.new.self.pos skipped later c.next.new.self.buf.now c.write.new.self.buf.now (range_remaining_places c.along.cursor) (range_remaining_places c.next.new.self) goes.0 c.read-value.result here goes.1 told puts));
     }
 
 pub returns : goal.returns
@@ -37,7 +39,8 @@ returns c m is =
     let read = numbers_read b c.args.pos m is in
     let places : entry_places u32_kind u32_kind 5 by.buf.now by.pos ≡ entry_places u32_kind u32_kind 5 b c.args.pos = ap (λ x. entry_places u32_kind u32_kind 5 x by.pos) c.by-cursor.ensures.buffer ∙ ap (entry_places u32_kind u32_kind 5 b) c.by-cursor.ensures.position in
     let start : Adding by.buf.now by.pos run.0 run.1 by.buf.now (range_remaining_places by) = adding_start by.buf.now by.pos run.0 run.1 (range_remaining_places by) (places ∙ run.2) in
-    let reached : Adding by.buf.now by.pos run.0 run.1 c.along.cursor.buf.now (range_remaining_places c.along.cursor) = rw c.along.invariant.position at (c.along.invariant.adding run.0 run.1 (rw c.along.invariant.position start)) in
+    let reached : Adding by.buf.now by.pos run.0 run.1 c.along.cursor.buf.now (range_remaining_places c.along.cursor) =
+    subst (λ (pos : ℕ). Adding by.buf.now pos run.0 run.1 c.along.cursor.buf.now (range_remaining_places c.along.cursor)) c.along.invariant.position (c.along.invariant.adding run.0 run.1 (rw c.along.invariant.position start)) in
     let so_far : Adding b c.args.pos run.0 run.1 c.along.cursor.buf.now (range_remaining_places c.along.cursor) = rw (c.by-cursor.ensures.buffer, c.by-cursor.ensures.position) at reached in
     let within = map means (range_remaining_places by) in
     let all : m ≡ map means run.0 ++ (within ++ map means run.1) = read ∙ ap (map means) run.2 ∙ map-append means run.0 (range_remaining_places by ++ run.1) ∙ ap (λ xs. map means run.0 ++ xs) (map-append means (range_remaining_places by) run.1) in

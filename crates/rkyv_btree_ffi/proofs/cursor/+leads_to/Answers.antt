@@ -2,8 +2,8 @@
 use Rattle.std.proofs.Common.{◌≡◌, ℕ, suc, ◌-◌, ◌<◌, ◌≤◌, ◌∙◌, Some, sym, arith, rules}
 use Rattle.std.proofs.lemmas.Grind.{common_steps}
 use Rattle.rkyv_btree_base.specs.Layout.{layout_of}
-use Rattle.rkyv_btree_walk.specs.mirror.Below.{root_place, IsBelow}
-use Rattle.rkyv_btree_walk.specs.mirror.Node.{child_place}
+use Rattle.rkyv_btree_walk.specs.Below.{root_place, IsBelow}
+use Rattle.rkyv_btree_walk.specs.Nodes.{child_place}
 use Rattle.rkyv_btree_ffi.proofs.Places.{leads_step, leads_none}
 use Rattle.rkyv_btree_ffi.proofs.cursor.+leads_to.Goals as goal
 

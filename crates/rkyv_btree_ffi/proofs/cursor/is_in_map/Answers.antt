@@ -2,7 +2,7 @@
 use Rattle.std.proofs.Common.{ℕ, ◌≡◌, inl, inr, arith, subst}
 use Rattle.std.proofs.lemmas.Bool.{cases_lt}
 use Rattle.rkyv_btree_base.specs.Layout.{layout_of}
-use Rattle.rkyv_btree_walk.specs.mirror.Below.{root_place, IsBelow}
+use Rattle.rkyv_btree_walk.specs.Below.{root_place, IsBelow}
 use Rattle.rkyv_btree_walk.proofs.Below.{below_stands, place_stands}
 use Rattle.rkyv_btree_ffi.proofs.cursor.is_in_map.Goals as goal
 

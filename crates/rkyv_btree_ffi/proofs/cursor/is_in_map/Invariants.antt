@@ -1,6 +1,6 @@
 use Rattle.std.proofs.Common.{ℕ, ◌<◌}
 use Rattle.rkyv_btree_base.specs.Layout.{layout_of}
-use Rattle.rkyv_btree_walk.specs.mirror.Below.{root_place, IsBelow}
+use Rattle.rkyv_btree_walk.specs.Below.{root_place, IsBelow}
 use Rattle.rkyv_btree_ffi.proofs.cursor.is_in_map.Given as goal
 
 -- the node is on no level before this one

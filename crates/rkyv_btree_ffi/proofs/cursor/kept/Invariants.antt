@@ -1,5 +1,5 @@
 use Rattle.std.proofs.Common.{◌≡◌, map, take, length}
-use Rattle.rkyv_btree_ffi.specs.mirror.Cursors.{step_of}
+use Rattle.rkyv_btree_ffi.specs.Cursors.{step_of}
 use Rattle.rkyv_btree_ffi.proofs.cursor.kept.Given as goal
 
 -- so many nodes of the path are kept

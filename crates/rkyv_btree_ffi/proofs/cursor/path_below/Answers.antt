@@ -3,10 +3,10 @@ use Rattle.std.proofs.Common.{◌≡◌, ℕ, ◌<◌, length, arith, rules, sub
 use Rattle.std.proofs.lemmas.Grind.{common_steps}
 use Rattle.std.proofs.lemmas.List.{length-map}
 use Rattle.rkyv_btree_base.specs.Layout.{layout_of}
-use Rattle.rkyv_btree_walk.specs.mirror.Below.{root_place}
+use Rattle.rkyv_btree_walk.specs.Below.{root_place}
 use Rattle.rkyv_btree_walk.proofs.Below.{put_below}
-use Rattle.rkyv_btree_ffi.specs.mirror.Cursors.{step_of, path_of}
-use Rattle.rkyv_btree_ffi.specs.mirror.Places.{IsStep}
+use Rattle.rkyv_btree_ffi.specs.Cursors.{step_of, path_of}
+use Rattle.rkyv_btree_ffi.specs.CursorPlaces.{IsStep}
 use Rattle.rkyv_btree_ffi.proofs.Places.{below_at, path_step, if_some_as, get_step}
 use Rattle.rkyv_btree_ffi.proofs.cursor.path_below.Goals as goal
 

@@ -5,7 +5,7 @@ use Rattle.rkyv_btree_ffi.specs.Batches.{AreShown}
 use Rattle.rkyv_btree_ffi.specs.declared.item.BtreeEntry.{BtreeEntry}
 use Rattle.rkyv_btree_base.specs.Layout.{layout_of}
 use Rattle.rkyv_btree_walk.specs.EntryPlaces.{place_of}
-use Rattle.rkyv_btree_walk.specs.mirror.Along.{range_left}
+use Rattle.rkyv_btree_walk.specs.WalkBetween.{range_left}
 use Rattle.rkyv_btree_ffi.proofs.Shown.{shown_more}
 use Rattle.rkyv_btree_ffi.proofs.reading.fill.Goals as goal
 

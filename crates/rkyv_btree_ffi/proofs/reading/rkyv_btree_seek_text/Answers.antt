@@ -1,7 +1,7 @@
 -- The map has one type.
 use Rattle.std.proofs.Common.{subst}
 use Rattle.rkyv_btree_ffi.specs.Entries.{IsFrom}
-use Rattle.rkyv_btree_ffi.specs.mirror.Left.{entries_left}
+use Rattle.rkyv_btree_ffi.specs.CursorEntries.{entries_left}
 use Rattle.rkyv_btree_ffi.proofs.Types.{text_is}
 use Rattle.rkyv_btree_ffi.proofs.reading.rkyv_btree_seek_text.Goals as goal
 

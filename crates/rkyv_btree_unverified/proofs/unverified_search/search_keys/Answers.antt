@@ -19,7 +19,7 @@ loop-i-preserved g c =
       before = λ f p.
           below_more _ _ (c.loop-i.invariant.before f p)
           (gives_at g.K.Portable.kind g.V.Portable.kind g.M.ArchivedMap.E c.args.buf.now (f c.args.key.now) Greater (c.args.node, c.loop-i.i) c.key_pos-pos.result c.key_pos-pos.ensures c.in-Ok.ensures.stands
-          (past_is _ (sym (ap (λ r. r.past) (c.in-Ok.ensures.tells f p)) ∙ c.if-compared.true)));
+          (past_is _ (sym (ap (λ r. r.past) (c.in-Ok.ensures.compares f p)) ∙ c.if-compared.true)));
       counted = omega arith;
     }
 
@@ -34,14 +34,14 @@ pub returns-in-Err-check_at-clause-gives : goal.returns-in-Err-check_at-clause-g
 returns-in-Err-check_at-clause-gives g c f p =
     bad_value (record { within = omega arith; before = c.loop-i.invariant.before f p })
     (gives_at g.K.Portable.kind g.V.Portable.kind g.M.ArchivedMap.E c.args.buf.now (f c.args.key.now) Equal (c.args.node, c.loop-i.i) c.key_pos-pos.result c.key_pos-pos.ensures c.in-Ok.ensures.stands
-    (equal_is _ (sym (ap (λ r. r.equal) (c.in-Ok.ensures.tells f p)) ∙ c.if-compared-2.true)))
+    (equal_is _ (sym (ap (λ r. r.equal) (c.in-Ok.ensures.compares f p)) ∙ c.if-compared-2.true)))
     (subst (λ x. g.V.CheckBytes.Refuses c.args.buf.now 0 x x c.in-Err-check_at.refusal) c.value_pos.ensures c.in-Err-check_at.ensures.refused)
 
 pub returns-in-Ok-check_at-clause-gives : goal.returns-in-Ok-check_at-clause-gives
 returns-in-Ok-check_at-clause-gives g c f p =
     equal_key (record { within = omega arith; before = c.loop-i.invariant.before f p })
     (gives_at g.K.Portable.kind g.V.Portable.kind g.M.ArchivedMap.E c.args.buf.now (f c.args.key.now) Equal (c.args.node, c.loop-i.i) c.key_pos-pos.result c.key_pos-pos.ensures c.in-Ok.ensures.stands
-    (equal_is _ (sym (ap (λ r. r.equal) (c.in-Ok.ensures.tells f p)) ∙ c.if-compared-2.true)))
+    (equal_is _ (sym (ap (λ r. r.equal) (c.in-Ok.ensures.compares f p)) ∙ c.if-compared-2.true)))
     (subst (λ x. IsTrue (stands g.V.Portable.kind c.args.buf.now x)) c.value_pos.ensures c.in-Ok-check_at.ensures.stands)
 
 pub returns-in-loop-i-clause-gives : goal.returns-in-loop-i-clause-gives
@@ -51,7 +51,7 @@ returns-in-loop-i-clause-gives g c f p =
       before = c.loop-i.invariant.before f p;
       less = λ _.
           gives_at g.K.Portable.kind g.V.Portable.kind g.M.ArchivedMap.E c.args.buf.now (f c.args.key.now) Less (c.args.node, c.loop-i.i) c.key_pos-pos.result c.key_pos-pos.ensures c.in-Ok.ensures.stands
-          (less_is _ (sym (ap (λ r. r.past) (c.in-Ok.ensures.tells f p)) ∙ c.if-compared.false) (sym (ap (λ r. r.equal) (c.in-Ok.ensures.tells f p)) ∙ c.if-compared-2.false));
+          (less_is _ (sym (ap (λ r. r.past) (c.in-Ok.ensures.compares f p)) ∙ c.if-compared.false) (sym (ap (λ r. r.equal) (c.in-Ok.ensures.compares f p)) ∙ c.if-compared-2.false));
     })
 
 pub returns-clause-gives : goal.returns-clause-gives

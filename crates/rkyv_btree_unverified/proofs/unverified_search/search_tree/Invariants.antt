@@ -5,7 +5,7 @@ use Rattle.rkyv_btree_base.specs.Refusal.{Refusal}
 use Rattle.std.specs.declared.cmp.Ordering.{Ordering}
 use Rattle.rkyv_btree_base.specs.Layout.{layout_of}
 use Rattle.rkyv_btree_walk.specs.Search.{shown_value}
-use Rattle.rkyv_btree_walk.specs.mirror.Search.{TellsBy, comparison_at, searched}
+use Rattle.rkyv_btree_walk.specs.mirror.Search.{IsComparedBy, comparison_at, searched}
 use Rattle.rkyv_btree_unverified.specs.Lookups.{TreeGives}
 use Rattle.rkyv_btree_unverified.specs.Steps.{HasRoom}
 use Rattle.rkyv_btree_unverified.specs.mirror.Passes.{Passes}
@@ -17,19 +17,19 @@ invariant-down g l =
     (l.levels ≤ 32) × (l.end ≤ length l.buf) × HasRoom K V E l.end l.node
     × (Passes K V E l.buf 32 l.hi l.root → Passes K V E l.buf l.levels l.end l.node)
     × (Passes K V E l.buf 32 l.hi l.root → (c : g.row.Q.Denot → K.Value → Ordering)
-    → TellsBy (goal.C-post g l.cmp) (shown_value K g.W.Shows) c
+    → IsComparedBy (goal.C-post g l.cmp) (shown_value K g.W.Shows) c
     → let comparison : ℕ × ℕ → Ordering = comparison_at K V E l.buf (c l.key) in
     (searched (layout_of K V E) l.buf comparison 32 l.root).0 ≡ (searched (layout_of K V E) l.buf comparison l.levels l.node).0)
-    × ((c : g.row.Q.Denot → K.Value → Ordering) → TellsBy (goal.C-post g l.cmp) (shown_value K g.W.Shows) c
+    × ((c : g.row.Q.Denot → K.Value → Ordering) → IsComparedBy (goal.C-post g l.cmp) (shown_value K g.W.Shows) c
     → (r : Result (Option (ℕ × ℕ)) Refusal) → TreeGives K V E l.buf (c l.key) g.K.CheckBytes.Refuses g.V.CheckBytes.Refuses l.levels l.end l.node r
     → TreeGives K V E l.buf (c l.key) g.K.CheckBytes.Refuses g.V.CheckBytes.Refuses 32 l.hi l.root r)
     × (l.steps + E * l.levels ≤ l.initial.steps + E * 32) × (l.initial.steps ≤ l.steps)
     × (Passes K V E l.buf 32 l.hi l.root → (c : g.row.Q.Denot → K.Value → Ordering)
-    → TellsBy (goal.C-post g l.cmp) (shown_value K g.W.Shows) c
+    → IsComparedBy (goal.C-post g l.cmp) (shown_value K g.W.Shows) c
     → let comparison : ℕ × ℕ → Ordering = comparison_at K V E l.buf (c l.key) in
     l.initial.steps + (searched (layout_of K V E) l.buf comparison 32 l.root).1 ≡ l.steps + (searched (layout_of K V E) l.buf comparison l.levels l.node).1)
     × (l.nodes + l.levels ≡ l.initial.nodes + 32)
-    × ((c : g.row.Q.Denot → K.Value → Ordering) → TellsBy (goal.C-post g l.cmp) (shown_value K g.W.Shows) c
+    × ((c : g.row.Q.Denot → K.Value → Ordering) → IsComparedBy (goal.C-post g l.cmp) (shown_value K g.W.Shows) c
     → (n m : ℕ) → l.nodes ≡ l.initial.nodes + n → (r : Result (Option (ℕ × ℕ)) Refusal)
     → TreeGives K V E l.buf (c l.key) g.K.CheckBytes.Refuses g.V.CheckBytes.Refuses m l.end l.node r
     → TreeGives K V E l.buf (c l.key) g.K.CheckBytes.Refuses g.V.CheckBytes.Refuses (n + m) l.hi l.root r)

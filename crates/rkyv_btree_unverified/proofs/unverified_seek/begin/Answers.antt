@@ -4,7 +4,7 @@ use Rattle.rkyv_btree_unverified.proofs.unverified_seek.begin.Goals as goal
 
 pub returns-in-Unbounded : goal.returns-in-Unbounded
 returns-in-Unbounded g c = record {
-  gives = begins_whole g.K.Portable.kind g.V.Portable.kind g.M.ArchivedMap.E g.K.CompareWith.compared_at c.args.buf.now g.K.CheckBytes.Refuses g.V.CheckBytes.Refuses c.args.pos c.args.low c.args.walk.now c.in-Unbounded.is c.requires.empty c.requires.phase c.requires.few;
+  gives = begins_whole g.K.Portable.kind g.V.Portable.kind g.M.ArchivedMap.E g.K.CompareWith.compared_at c.args.buf.now g.K.CheckBytes.Refuses g.V.CheckBytes.Refuses c.args.pos c.args.low c.args.walk.now c.in-Unbounded.is c.requires.empty c.requires.phase c.requires.taken c.requires.few;
 }
 
 pub returns-in-Included : goal.returns-in-Included

@@ -53,10 +53,13 @@ bounds-buf-at g c =
     omega (arith, room.eight, inside, node)
 
 pub returns-then-buf-at-eq0 : goal.returns-then-buf-at-eq0
-returns-then-buf-at-eq0 g c = record {
-  gives = part_found _ _ _ _ _ _ g.met.K.Portable.laws g.met.V.Portable.laws c.requires.fitting g.K.CheckBytes.Refuses g.V.CheckBytes.Refuses _ _ _ _ _ c.down.invariant _ c.in-Ok.ensures.counted c.if-nodes-eq0.false _
-      c.in-Ok-seek_keys.ensures.within c.in-Ok-seek_keys.ensures.first c.if-buf-at-eq0.true c.in-Ok.ensures.few;
-}
+returns-then-buf-at-eq0 g c =
+    let levels = c.down.invariant.down.way.levels in
+    let less : length c.down.path.items < 32 = omega (arith, levels, c.len.ensures.value, c.if-len-eq32.false) in
+    record {
+      gives = part_found _ _ _ _ _ _ g.met.K.Portable.laws g.met.V.Portable.laws c.requires.fitting g.K.CheckBytes.Refuses g.V.CheckBytes.Refuses _ _ _ _ _ c.down.invariant _ c.in-Ok.ensures.counted c.if-nodes-eq0.false _
+          c.in-Ok-seek_keys.ensures.within c.in-Ok-seek_keys.ensures.first less c.if-buf-at-eq0.true c.in-Ok.ensures.few;
+    }
 
 pub child_before-requires-clause-inner : goal.child_before-requires-clause-inner
 child_before-requires-clause-inner g c =

@@ -37,9 +37,12 @@ bounds-buf-at g c =
     omega (arith, room.eight, inside, node)
 
 pub returns-then-buf-at-eq0 : goal.returns-then-buf-at-eq0
-returns-then-buf-at-eq0 g c = record {
-  gives = leaf_found _ _ _ _ g.met.K.Portable.laws g.met.V.Portable.laws c.requires.fitting g.K.CheckBytes.Refuses g.V.CheckBytes.Refuses _ _ _ _ _ _ _ c.down.invariant c.if-nodes-eq0.false _ c.if-buf-at-eq0.true c.in-Ok.ensures.counted c.in-Ok.ensures.few;
-}
+returns-then-buf-at-eq0 g c =
+    let levels = c.down.invariant.down.way.levels in
+    let less : length c.down.path.items < 32 = omega (arith, levels, c.len.ensures.value, c.if-len-eq32.false) in
+    record {
+      gives = leaf_found _ _ _ _ g.met.K.Portable.laws g.met.V.Portable.laws c.requires.fitting g.K.CheckBytes.Refuses g.V.CheckBytes.Refuses _ _ _ _ _ _ _ c.down.invariant c.if-nodes-eq0.false less _ c.if-buf-at-eq0.true c.in-Ok.ensures.gives c.in-Ok.ensures.counted c.in-Ok.ensures.few;
+    }
 
 pub child_before-requires-clause-inner : goal.child_before-requires-clause-inner
 child_before-requires-clause-inner g c =
@@ -57,8 +60,8 @@ returns-in-Ok-None g c =
     let levels = c.down.invariant.down.way.levels in
     let less : length c.down.path.items < 32 = omega (arith, levels, c.len.ensures.value, c.if-len-eq32.false) in
     record {
-      gives = none_found _ _ _ _ g.met.K.Portable.laws g.met.V.Portable.laws c.requires.fitting g.K.CheckBytes.Refuses g.V.CheckBytes.Refuses _ _ _ _ _ _ _ c.down.invariant c.if-nodes-eq0.false less _ c.push.ensures.items
-          (inner_of _ _ _ _ c.down.end c.down.at c.in-Ok.count c.in-Ok.ensures.gives c.if-buf-at-eq0.false) (rw c.in-Ok-None.field-0-is at c.in-Ok-None.ensures.leads);
+      gives = let child = rw c.in-Ok-None.field-0-is at c.in-Ok-None.ensures in none_found _ _ _ _ g.met.K.Portable.laws g.met.V.Portable.laws c.requires.fitting g.K.CheckBytes.Refuses g.V.CheckBytes.Refuses _ _ _ _ _ _ _ c.down.invariant c.if-nodes-eq0.false less _ c.push.ensures.items
+          (inner_of _ _ _ _ c.down.end c.down.at c.in-Ok.count c.in-Ok.ensures.gives c.if-buf-at-eq0.false) child.leads (child.gives _ (inner_of _ _ _ _ c.down.end c.down.at c.in-Ok.count c.in-Ok.ensures.gives c.if-buf-at-eq0.false));
     }
 
 pub down-smaller : goal.down-smaller
@@ -71,5 +74,6 @@ pub down-preserved : goal.down-preserved
 down-preserved g c =
     let levels = c.down.invariant.down.way.levels in
     let less : length c.down.path.items < 32 = omega (arith, levels, c.len.ensures.value, c.if-len-eq32.false) in
+    let child = rw c.in-Ok-Some.field-0-is at c.in-Ok-Some.ensures in
     goes_on _ _ _ _ g.met.K.Portable.laws g.met.V.Portable.laws c.requires.fitting g.K.CheckBytes.Refuses g.V.CheckBytes.Refuses _ _ _ _ _ _ _ c.down.invariant c.if-nodes-eq0.false less _ c.push.ensures.items
-    (inner_of _ _ _ _ c.down.end c.down.at c.in-Ok.count c.in-Ok.ensures.gives c.if-buf-at-eq0.false) _ (rw c.in-Ok-Some.field-0-is at c.in-Ok-Some.ensures.leads) (rw c.in-Ok-Some.field-0-is at c.in-Ok-Some.ensures.room)
+    (inner_of _ _ _ _ c.down.end c.down.at c.in-Ok.count c.in-Ok.ensures.gives c.if-buf-at-eq0.false) _ child.leads child.room (child.gives _ (inner_of _ _ _ _ c.down.end c.down.at c.in-Ok.count c.in-Ok.ensures.gives c.if-buf-at-eq0.false))

@@ -3,7 +3,7 @@ use Rattle.std.proofs.Common.{◌+◌, length, arith, ap}
 use mathlib.Core.Logic.{∥∥₁_map}
 use Rattle.rkyv_btree_base.specs.Layout.{layout_of}
 use Rattle.rkyv_btree_base.proofs.MapLaws.{map_short}
-use Rattle.rkyv_btree_walk.specs.mirror.Below.{root_place}
+use Rattle.rkyv_btree_walk.specs.Below.{root_place}
 use Rattle.rkyv_btree_walk.proofs.Below.{walk_path, walk_run, run_within}
 use Rattle.rkyv_btree_walk.proofs.Paths.{walk_more, walk_length, step_length}
 use Rattle.rkyv_btree_walk.proofs.Props.{path_had, run_had}

@@ -2,7 +2,8 @@
 use Rattle.std.proofs.Common.{◌+◌, ◌-◌, ◌∷◌, ◌++◌, ◌∙◌, length, arith, sym, ap}
 use Rattle.rkyv_btree_base.specs.Layout.{layout_of}
 use Rattle.rkyv_btree_base.proofs.Sizes.{room_of}
-use Rattle.rkyv_btree_walk.specs.mirror.Path.{tree_rest, path_rest}
+use Rattle.rkyv_btree_walk.specs.mirror.Path.{tree_rest}
+use Rattle.rkyv_btree_walk.specs.Paths.{path_rest}
 use Rattle.rkyv_btree_walk.proofs.Below.{put_below, pop_below, run_inner}
 use Rattle.rkyv_btree_walk.proofs.Paths.{pop_path, pop_tree, pop_node, pop_inner, pop_end, pop_more, put_path, put_absent, put_child, pop_run, pop_short}
 use Rattle.rkyv_btree_walk.proofs.path.climb.Goals as goal

@@ -2,7 +2,8 @@
 use Rattle.std.proofs.Common.{◌≡◌, length}
 use Rattle.rkyv_btree_base.specs.Layout.{layout_of}
 use Rattle.rkyv_btree_walk.specs.mirror.Below.{PathStaysBelow}
-use Rattle.rkyv_btree_walk.specs.mirror.Path.{path_rest, IsPath}
+use Rattle.rkyv_btree_walk.specs.Paths.{path_rest}
+use Rattle.rkyv_btree_walk.specs.mirror.Path.{IsPath}
 use Rattle.rkyv_btree_walk.proofs.path.climb.Given as goal
 
 -- as much is left as at the start

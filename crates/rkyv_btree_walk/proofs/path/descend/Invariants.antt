@@ -1,9 +1,10 @@
 -- The way down: no entry is lost of what is left, and each child stands before its node.
 use Rattle.std.proofs.Common.{◌≡◌, ℕ, ◌-◌, ◌++◌, length, Option}
 use Rattle.rkyv_btree_base.specs.Layout.{layout_of}
-use Rattle.rkyv_btree_walk.specs.mirror.Below.{IsBelow, PathBelow}
+use Rattle.rkyv_btree_walk.specs.Below.{IsBelow, PathBelow}
 use Rattle.rkyv_btree_walk.specs.mirror.Node.{TreeStands}
-use Rattle.rkyv_btree_walk.specs.mirror.Path.{tree_rest, path_rest, IsPath}
+use Rattle.rkyv_btree_walk.specs.mirror.Path.{tree_rest, IsPath}
+use Rattle.rkyv_btree_walk.specs.Paths.{path_rest}
 use Rattle.rkyv_btree_walk.proofs.path.descend.Given as goal
 
 -- what is left of the tree at `at` and of the path is what was left of the whole tree and the first path

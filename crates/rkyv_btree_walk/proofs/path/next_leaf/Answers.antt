@@ -2,7 +2,8 @@
 use Rattle.std.proofs.Common.{◌+◌, ◌-◌, ◌<◌, ◌∷◌, ◌++◌, ◌∙◌, length, refl, arith, sym, ap}
 use Rattle.rkyv_btree_base.specs.Layout.{layout_of}
 use Rattle.rkyv_btree_base.proofs.Sizes.{room_of}
-use Rattle.rkyv_btree_walk.specs.mirror.Path.{tree_rest, path_rest, walk_rest, IsPath}
+use Rattle.rkyv_btree_walk.specs.mirror.Path.{tree_rest, IsPath}
+use Rattle.rkyv_btree_walk.specs.Paths.{path_rest, walk_rest}
 use Rattle.rkyv_btree_walk.proofs.Below.{put_below, pop_below, run_inner}
 use Rattle.rkyv_btree_walk.proofs.Nodes.{tree_child_node}
 use Rattle.rkyv_btree_walk.proofs.Paths.{pop_path, pop_tree, pop_inner, pop_more, put_path, put_leaf, put_child, pop_run, pop_short, leaf_run}

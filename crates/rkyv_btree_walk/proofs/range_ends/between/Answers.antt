@@ -1,5 +1,5 @@
 -- What the places of a range mean is a range of what all mean.
-use Rattle.std.proofs.Common.{[], ◌∙◌, refl, ap, map}
+use Rattle.std.proofs.Common.{[], ◌∙◌, refl, ap, map, arith, None}
 use Rattle.std.specs.Range.Bound.{bound_map}
 use Rattle.rkyv_btree_base.specs.Layout.{layout_of}
 use Rattle.rkyv_btree_base.specs.Read.{entry_at, map_tree, read_map}
@@ -7,6 +7,7 @@ use Rattle.rkyv_btree_base.specs.Tree.{list}
 use Rattle.rkyv_btree_walk.proofs.Below.{root_placed}
 use Rattle.rkyv_btree_walk.proofs.Ranges.{from_rises, past_rises, within_means, run_means}
 use Rattle.rkyv_btree_walk.proofs.Roots.{root_list}
+use Rattle.rkyv_btree_walk.proofs.Placed.{placed_none}
 use Rattle.rkyv_btree_walk.proofs.range_ends.between.Goals as goal
 
 pub returns-then-map_len-gt0-clause-run : goal.returns-then-map_len-gt0-clause-run
@@ -53,3 +54,14 @@ pub returns-clause-places : goal.returns-clause-places
 returns-clause-places g c =
     let s = layout_of g.K.Portable.kind g.V.Portable.kind g.M.ArchivedMap.E in
     ([], list (map_tree s c.args.buf.now c.args.pos), rw (c.nothing.ensures.1, c.nothing.ensures.2, c.requires.empty) refl)
+
+pub returns-then-map_len-gt0-clause-placed : goal.returns-then-map_len-gt0-clause-placed
+returns-then-map_len-gt0-clause-placed g c =
+    let all = root_list g.K.Portable.kind g.V.Portable.kind g.M.ArchivedMap.E g.met.K.Portable.laws g.met.V.Portable.laws c.args.buf.now _ c.opened.ensures (rw c.map_len.ensures at c.if-map_len-gt0.true) c.tree_root-start.result c.tree_root-start.ensures.root in
+    rw all at c.between_in.ensures.placed
+
+pub returns-clause-placed : goal.returns-clause-placed
+returns-clause-placed g c =
+    let K = g.K.Portable.kind in let V = g.V.Portable.kind in let E = g.M.ArchivedMap.E in
+    rw (c.nothing.ensures.1, c.nothing.ensures.2, c.requires.empty)
+    (placed_none (layout_of K V E) c.args.buf.now (list (map_tree (layout_of K V E) c.args.buf.now c.args.pos)) None c.nothing.result.node 0 0 [] (omega arith) refl)

@@ -2,8 +2,9 @@
 use Rattle.std.proofs.Common.{◌-◌, refl, sym, arith, inl, inr, None, Some}
 use Rattle.std.proofs.lemmas.List.{append-nil}
 use Rattle.rkyv_btree_base.specs.Layout.{layout_of}
-use Rattle.rkyv_btree_walk.specs.mirror.Path.{path_rest}
+use Rattle.rkyv_btree_walk.specs.Paths.{path_rest}
 use Rattle.rkyv_btree_walk.proofs.Ranges.{taken_to, taken_past, stop_off}
+use Rattle.rkyv_btree_walk.proofs.Placed.{placed_cut}
 use Rattle.rkyv_btree_walk.proofs.range_ends.cut.Goals as goal
 
 pub returns-then-index-part-clause-rest : goal.returns-then-index-part-clause-rest
@@ -28,3 +29,23 @@ returns-else-node-part-clause-rest g c =
       | inl h ↦ omega (arith, h.2)
       | inr r ↦ elim r [ inl h ↦ omega (arith, h.1) | inr h ↦ h node ]
     ]))))
+
+pub returns-then-index-part-clause-placed : goal.returns-then-index-part-clause-placed
+returns-then-index-part-clause-placed g c all end =
+    let s = layout_of g.K.Portable.kind g.V.Portable.kind g.M.ArchivedMap.E in
+    let p = c.args.part.node in
+    rw (c.in-Some.is, c.if-node-part.true, c.take_all.ensures)
+    (placed_cut s c.args._buf.now p all c.args.part.next c.in-Some.index c.args.part.end c.args.path.now.items end c.if-part-index.true c.if-index-part.true)
+
+pub returns-in-None-clause-placed : goal.returns-in-None-clause-placed
+returns-in-None-clause-placed g c all end = rw c.in-None.is (inl (record { ends = end; off = λ k low high. refl }))
+
+pub returns-else-node-part-clause-placed : goal.returns-else-node-part-clause-placed
+returns-else-node-part-clause-placed g c all end =
+    rw c.in-Some.is (inl (record {
+      ends = end;
+      off = λ k low high. stop_off c.in-Some.node c.in-Some.index c.args.part.node k (λ node index. elim c.else-node-part.either [
+        | inl h ↦ omega (arith, h.2)
+        | inr r ↦ elim r [ inl h ↦ omega (arith, h.1) | inr h ↦ h node ]
+      ]);
+    }))

@@ -1,7 +1,7 @@
 -- A node is taken from the path, and put back where it has an entry left.
 use Rattle.std.proofs.Common.{◌≡◌, [], ◌∙◌, arith, rules, sym, ap}
 use Rattle.rkyv_btree_base.specs.Layout.{layout_of}
-use Rattle.rkyv_btree_walk.specs.mirror.Path.{path_rest}
+use Rattle.rkyv_btree_walk.specs.Paths.{path_rest}
 use Rattle.rkyv_btree_walk.specs.mirror.Range.{first_of}
 use Rattle.rkyv_btree_walk.proofs.Below.{pop_below}
 use Rattle.rkyv_btree_walk.proofs.Paths.{pop_path, pop_end, pop_more, walk_end, pop_run, pop_short}

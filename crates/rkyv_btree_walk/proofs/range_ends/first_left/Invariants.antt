@@ -2,7 +2,8 @@
 use Rattle.std.proofs.Common.{◌≡◌, length}
 use Rattle.rkyv_btree_base.specs.Layout.{layout_of}
 use Rattle.rkyv_btree_walk.specs.mirror.Below.{PathStaysBelow}
-use Rattle.rkyv_btree_walk.specs.mirror.Path.{path_rest, IsPath}
+use Rattle.rkyv_btree_walk.specs.Paths.{path_rest}
+use Rattle.rkyv_btree_walk.specs.mirror.Path.{IsPath}
 use Rattle.rkyv_btree_walk.proofs.range_ends.first_left.Given as goal
 
 abbrev pub invariant-up : goal.invariant-up

@@ -3,10 +3,11 @@ use Rattle.std.proofs.Common.{◌+◌, arith}
 use mathlib.Core.Logic.{∥∥₁_map}
 use Rattle.rkyv_btree_base.specs.Layout.{layout_of}
 use Rattle.rkyv_btree_base.proofs.MapLaws.{map_short}
-use Rattle.rkyv_btree_walk.specs.mirror.Below.{root_place}
+use Rattle.rkyv_btree_walk.specs.Below.{root_place}
 use Rattle.rkyv_btree_walk.proofs.Below.{walk_path, walk_run, run_within}
 use Rattle.rkyv_btree_walk.proofs.Props.{path_had, run_had}
 use Rattle.rkyv_btree_walk.proofs.Ranges.{range_more}
+use Rattle.rkyv_btree_walk.proofs.Placed.{placed_more, placed_none, placed_path}
 use Rattle.rkyv_btree_walk.proofs.range_walk.step_before.Goals as goal
 
 pub returns-then-next-walk-clause-walks : goal.returns-then-next-walk-clause-walks
@@ -43,3 +44,22 @@ returns-then-next-walk-clause-stands g c =
     let w = c.args.walk.now in
     let run = run_had g.K.Portable.kind g.V.Portable.kind g.M.ArchivedMap.E c.args.buf.now w.part.node w.part.next w.part.end (∥∥₁_map c.requires.walks (walk_run g.K.Portable.kind g.V.Portable.kind g.M.ArchivedMap.E g.met.K.Portable.laws g.met.V.Portable.laws c.args.buf.now c.args.pos c.opened.ensures w.part.node w.part.next w.part.end w.path.items)) in
     λ j low high. run j low (omega (arith, c.if-next-walk.true))
+
+pub returns-then-next-walk-clause-placed : goal.returns-then-next-walk-clause-placed
+returns-then-next-walk-clause-placed g c all placed =
+    let w = c.args.walk.now in
+    placed_more (layout_of g.K.Portable.kind g.V.Portable.kind g.M.ArchivedMap.E) c.args.buf.now all w.stop w.part.node w.part.next w.part.end w.path.items c.if-next-walk.true placed
+
+pub returns-in_err-step-clause-placed : goal.returns-in_err-step-clause-placed
+returns-in_err-step-clause-placed g c all placed =
+    let s = layout_of g.K.Portable.kind g.V.Portable.kind g.M.ArchivedMap.E in
+    let b = c.args.buf.now in
+    let w = c.args.walk.now in
+    let none = c.in_err-step.ensures.placed all (placed_path s b all w.stop w.part.node w.part.next w.part.end w.path.items (omega (arith, c.if-next-walk.false)) placed) in
+    placed_none s b all w.stop w.part.node w.part.next w.part.end c.advance_before.new.path.items (omega (arith, c.if-next-walk.false)) none
+
+pub returns-clause-placed : goal.returns-clause-placed
+returns-clause-placed g c all placed =
+    let w = c.args.walk.now in
+    c.in_ok-step.ensures.placed all
+    (placed_path (layout_of g.K.Portable.kind g.V.Portable.kind g.M.ArchivedMap.E) c.args.buf.now all w.stop w.part.node w.part.next w.part.end w.path.items (omega (arith, c.if-next-walk.false)) placed)

@@ -3,10 +3,10 @@ use Rattle.std.proofs.Common.{◌≡◌, ℕ, ◌<◌}
 use Rattle.std.specs.declared.cmp.Ordering.{Ordering}
 use Rattle.std.specs.declared.cmp.Ordering.TheVariants.{Greater}
 use Rattle.rkyv_btree_walk.specs.Search.{shown_value}
-use Rattle.rkyv_btree_walk.specs.mirror.Search.{TellsBy, comparison_at}
+use Rattle.rkyv_btree_walk.specs.mirror.Search.{IsComparedBy, comparison_at}
 use Rattle.rkyv_btree_walk.proofs.search.search_node.Given as goal
 
 abbrev pub invariant-loop-i : goal.invariant-loop-i
 invariant-loop-i g l = (c : g.row.Q.Denot → g.K.Portable.kind.Value → Ordering)
-    → TellsBy (goal.C-post g l.cmp) (shown_value g.K.Portable.kind g.W.Shows) c
+    → IsComparedBy (goal.C-post g l.cmp) (shown_value g.K.Portable.kind g.W.Shows) c
     → (k : ℕ) → k < l.i → comparison_at g.K.Portable.kind g.V.Portable.kind g.M.ArchivedMap.E l.buf (c l.key) (l.node, k) ≡ Greater

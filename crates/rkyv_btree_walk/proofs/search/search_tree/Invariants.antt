@@ -5,7 +5,7 @@ use Rattle.rkyv_btree_base.specs.Layout.{layout_of}
 use Rattle.rkyv_btree_walk.specs.mirror.Node.{TreeStands}
 use Rattle.rkyv_btree_walk.specs.Search.{shown_value}
 use Rattle.rkyv_btree_walk.specs.mirror.Path.{tree_rest}
-use Rattle.rkyv_btree_walk.specs.mirror.Search.{TellsBy, IsListed, comparison_at, searched}
+use Rattle.rkyv_btree_walk.specs.mirror.Search.{IsComparedBy, IsListed, comparison_at, searched}
 use Rattle.rkyv_btree_walk.proofs.search.search_tree.Given as goal
 
 abbrev pub invariant-down : goal.invariant-down
@@ -15,7 +15,7 @@ invariant-down g l =
     × (l.compared + E * n ≤ E * 32)
     × ((e : ℕ × ℕ) → IsListed e (tree_rest (layout_of K V E) l.buf n l.node 0) → IsListed e (tree_rest (layout_of K V E) l.buf 32 l.from 0))
     × ((c : g.row.Q.Denot → K.Value → Ordering)
-    → TellsBy (goal.C-post g l.cmp) (shown_value K g.W.Shows) c
+    → IsComparedBy (goal.C-post g l.cmp) (shown_value K g.W.Shows) c
     → let comparison : ℕ × ℕ → Ordering = comparison_at K V E l.buf (c l.key) in
     let below = searched (layout_of K V E) l.buf comparison n l.node in
     searched (layout_of K V E) l.buf comparison 32 l.from ≡ (below.0, l.compared + below.1))

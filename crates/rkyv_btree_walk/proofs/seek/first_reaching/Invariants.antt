@@ -3,7 +3,7 @@ use Rattle.std.proofs.Common.{◌≡◌, ℕ, Bool, take, None}
 use Rattle.std.specs.declared.cmp.Ordering.{Ordering}
 use Rattle.rkyv_btree_base.specs.Layout.{layout_of}
 use Rattle.rkyv_btree_walk.specs.Search.{ComparesBy, shown_value}
-use Rattle.rkyv_btree_walk.specs.mirror.Path.{path_rest}
+use Rattle.rkyv_btree_walk.specs.Paths.{path_rest}
 use Rattle.rkyv_btree_walk.specs.mirror.Range.{reached_at}
 use Rattle.rkyv_btree_walk.proofs.Stops.{first_or}
 use Rattle.rkyv_btree_walk.proofs.seek.first_reaching.Given as goal

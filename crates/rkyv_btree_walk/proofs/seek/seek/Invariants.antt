@@ -4,9 +4,10 @@ use Rattle.std.specs.Prelude.{filter}
 use Rattle.std.specs.declared.cmp.Ordering.{Ordering}
 use Rattle.rkyv_btree_base.specs.Layout.{layout_of}
 use Rattle.rkyv_btree_walk.specs.Search.{ComparesBy, shown_value}
-use Rattle.rkyv_btree_walk.specs.mirror.Below.{IsBelow, PathBelow}
+use Rattle.rkyv_btree_walk.specs.Below.{IsBelow, PathBelow}
 use Rattle.rkyv_btree_walk.specs.mirror.Node.{TreeStands}
-use Rattle.rkyv_btree_walk.specs.mirror.Path.{tree_rest, path_rest, IsPath}
+use Rattle.rkyv_btree_walk.specs.mirror.Path.{tree_rest, IsPath}
+use Rattle.rkyv_btree_walk.specs.Paths.{path_rest}
 use Rattle.rkyv_btree_walk.specs.mirror.Range.{reached_at, AllPass, Rises}
 use Rattle.rkyv_btree_walk.proofs.seek.seek.Given as goal
 

@@ -2,7 +2,8 @@
 use Rattle.std.proofs.Common.{Option, length}
 use Rattle.rkyv_btree_base.specs.Layout.{layout_of}
 use Rattle.rkyv_btree_walk.specs.mirror.Node.{RunStands}
-use Rattle.rkyv_btree_walk.specs.mirror.Path.{IsPath, path_rest, read_rest}
+use Rattle.rkyv_btree_walk.specs.mirror.Path.{IsPath, read_rest}
+use Rattle.rkyv_btree_walk.specs.Paths.{path_rest}
 use Rattle.rkyv_btree_walk.specs.Visit.{Visits}
 use Rattle.rkyv_btree_walk.proofs.visit_loop.visit_rest.Given as goal
 

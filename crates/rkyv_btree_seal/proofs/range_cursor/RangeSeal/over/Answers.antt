@@ -1,10 +1,13 @@
--- A run of all entries is left before the first of it.
+-- A run of all entries remains before the first of it.
 use Rattle.rkyv_btree_seal.proofs.Cursors.{among_start}
+use Rattle.rkyv_btree_walk.proofs.Placed.{between_run}
 use Rattle.rkyv_btree_seal.proofs.range_cursor.RangeSeal.over.Goals as goal
 
 pub invariant_of-result : goal.invariant_of-result
-invariant_of-result g c = record {
-  valid = c.requires.stands;
-  walks = c.requires.walks;
-  among = ∣ among_start _ _ c.requires.run.0 c.requires.run.1 c.requires.run.2 ∣₁;
-}
+invariant_of-result g c =
+    let run = between_run g.K.Portable.kind g.V.Portable.kind g.M.ArchivedMap.E c.args.buf.now c.args.pos c.args.walk in
+    record {
+      valid = c.requires.stands;
+      walks = c.requires.walks;
+      among = ∣ among_start _ _ run.0 run.1 run.2 ∣₁;
+    }

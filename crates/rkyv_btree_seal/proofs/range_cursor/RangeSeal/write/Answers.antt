@@ -1,5 +1,6 @@
 -- What is lent is an entry; and a write leaves all entries, and the walk, where they are.
-use Rattle.rkyv_btree_seal.proofs.Cursors.{lent_is_entry, range_left_kept, is_range_walk_kept, among_kept}
+use Rattle.std.proofs.Common.{refl}
+use Rattle.rkyv_btree_seal.proofs.Cursors.{lent_is_entry, between_kept}
 use Rattle.rkyv_btree_seal.proofs.range_cursor.RangeSeal.write.Goals as goal
 
 pub put_at-requires-clause-entry : goal.put_at-requires-clause-entry
@@ -11,11 +12,9 @@ invariant_of-self g c =
     let tree = c.put_at.ensures.puts.tree in
     record {
       valid = c.put_at.ensures.stands;
-      walks = is_range_walk_kept g.K.Portable.kind g.V.Portable.kind g.M.ArchivedMap.E g.met.K.Portable.laws g.met.V.Portable.laws self.buf.now c.put_at.new.buf self.pos c.put_at.ensures.stood tree self.walk self.walks;
-      among = among_kept g.K.Portable.kind g.V.Portable.kind g.M.ArchivedMap.E g.met.K.Portable.laws g.met.V.Portable.laws self.buf.now c.put_at.new.buf self.pos c.put_at.ensures.stood tree _ _ _ (range_left_kept g.K.Portable.kind g.V.Portable.kind g.M.ArchivedMap.E g.met.K.Portable.laws g.met.V.Portable.laws self.buf.now c.put_at.new.buf self.pos c.put_at.ensures.stood tree self.walk self.walks) self.among;
+      walks = between_kept g.K.Portable.kind g.V.Portable.kind g.M.ArchivedMap.E g.met.K.Portable.laws g.met.V.Portable.laws self.buf.now c.put_at.new.buf self.pos c.put_at.ensures.stood tree self.walk self.walks;
+      among = rw tree self.among;
     }
 
 pub returns-clause-remaining : goal.returns-clause-remaining
-returns-clause-remaining g c =
-    let self = c.args.self.now in
-    range_left_kept g.K.Portable.kind g.V.Portable.kind g.M.ArchivedMap.E g.met.K.Portable.laws g.met.V.Portable.laws self.buf.now c.put_at.new.buf self.pos c.put_at.ensures.stood c.put_at.ensures.puts.tree self.walk self.walks
+returns-clause-remaining g c = rw c.put_at.ensures.puts.tree refl

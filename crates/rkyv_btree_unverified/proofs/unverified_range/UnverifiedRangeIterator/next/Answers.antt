@@ -1,11 +1,11 @@
 -- An item is what a step of the walk gives, up to the first key past the end of the range.
 use Rattle.std.proofs.Common.{◌∷◌, ◌∙◌, map, refl, sym, ap}
-use Rattle.rkyv_btree_base.specs.Layout.{layout_of}
 use Rattle.rkyv_btree_base.specs.Read.{entry_at}
-use Rattle.rkyv_btree_unverified.proofs.Taken.{over_none}
+use Rattle.rkyv_btree_unverified.proofs.Lent.{most_less, some_begun}
+use Rattle.rkyv_btree_unverified.proofs.OnWays.{way_takes, way_finishes}
 use Rattle.rkyv_btree_unverified.proofs.Until.{until_stops, until_goes}
-use Rattle.rkyv_btree_unverified.specs.mirror.Sought.{past_place, until}
-use Rattle.rkyv_btree_unverified.specs.mirror.Walked.{unverified_left}
+use Rattle.rkyv_btree_unverified.specs.EntriesFrom.{past_place, until}
+use Rattle.rkyv_btree_unverified.specs.Ways.{places_left}
 use Rattle.rkyv_btree_unverified.proofs.unverified_range.UnverifiedRangeIterator.next.Goals as goal
 
 pub returns-in-Err-clause-steps : goal.returns-in-Err-clause-steps
@@ -14,11 +14,11 @@ returns-in-Err-clause-steps g c = record {
   position = refl;
   range = refl;
   gives = record {
-    refuses = c.in-Err.ensures.steps.0.fails.refuses;
-    no_map = c.in-Err.ensures.steps.0.fails.no_map;
-    over = c.in-Err.ensures.steps.0.over;
+    refuses = c.in-Err.ensures.steps.fails.refuses;
+    no_map = c.in-Err.ensures.steps.fails.no_map;
+    over = c.in-Err.ensures.steps.over;
   };
-  stays_over = λ over. absurd (over_none g.K.Portable.kind g.V.Portable.kind g.M.ArchivedMap.E c.args.self.now.buf.now c.args.self.now.walk _ over c.in-Err.ensures.steps.1);
+  stays_over = λ over. absurd (c.in-Err.ensures.steps.begun over);
 }
 
 pub returns-in-Ok-None-clause-steps : goal.returns-in-Ok-None-clause-steps
@@ -31,7 +31,7 @@ returns-in-Ok-None-clause-steps g c =
       buffer = refl;
       position = refl;
       range = refl;
-      gives = record { entries = λ known m h. ap (λ xs. map (entry_at K V E self.buf.now) (until past xs)) (s.none m h); over = s.over };
+      gives = record { entries = λ known. ap (λ xs. map (entry_at K V E self.buf.now) (until past xs)) (way_finishes K V E self.buf.now self.pos self.walk c.step.new.walk self.walks.walks s); over = s.over };
       stays_over = λ over. (refl, s.over);
     }
 
@@ -41,18 +41,17 @@ returns-then-is_past-clause-steps g c =
     let self = c.args.self.now in
     let s = rw c.in-Ok-Some.field-0-is at c.in-Ok-Some.ensures.steps in
     let past = past_place K V E g.K.CompareWith.compared_at self.buf.now (g.R.RangeBounds.end_bound self.range) in
-    let means = map (entry_at K V E self.buf.now) in
     record {
       buffer = refl;
       position = refl;
       range = refl;
       gives = record {
-        entries = λ known m h.
+        entries = λ known.
             let t = rw (c.entry.ensures.buffer.0, ap (λ x. x.0) c.entry.ensures.places) at (sym (c.is_past.ensures known) ∙ c.if-is_past.true) in
-            ap means (until_stops past (c.in-Ok-Some.node, c.in-Ok-Some.index) _ _ (s.rest m h) t);
+            ap (map (entry_at K V E self.buf.now)) (until_stops past (c.in-Ok-Some.node, c.in-Ok-Some.index) _ _ (way_takes K V E self.buf.now self.pos self.walk c.step.new.walk _ self.walks.walks c.in-Ok-Some.ensures.walks.walks s) t);
         over = refl;
       };
-      stays_over = λ over. absurd (over_none K V E self.buf.now self.walk _ over s.turns);
+      stays_over = λ over. absurd (some_begun K V E self.buf.now self.pos self.walk c.step.new.walk _ s over);
     }
 
 pub returns-else-is_past-clause-steps : goal.returns-else-is_past-clause-steps
@@ -62,21 +61,21 @@ returns-else-is_past-clause-steps g c =
     let s = rw c.in-Ok-Some.field-0-is at c.in-Ok-Some.ensures.steps in
     let past = past_place K V E g.K.CompareWith.compared_at self.buf.now (g.R.RangeBounds.end_bound self.range) in
     let means = map (entry_at K V E self.buf.now) in
-    let left = means (until past (unverified_left (layout_of K V E) self.buf.now self.pos c.step.new.walk)) in
+    let after = means (until past (places_left K V E self.buf.now self.pos c.step.new.walk)) in
     record {
       buffer = refl;
       position = refl;
       range = refl;
       gives = record {
         buffer = c.entry.ensures.buffer;
-        place = (c.in-Ok-Some.node, c.in-Ok-Some.index);
-        stands_at = c.entry.ensures.places;
-        reached = s.taken.reached;
-        within = λ known. sym (c.is_past.ensures known) ∙ c.if-is_past.false;
-        less = s.less;
-        entries = λ known m h.
+        entries = λ known.
             let t = rw (c.entry.ensures.buffer.0, ap (λ x. x.0) c.entry.ensures.places) at (sym (c.is_past.ensures known) ∙ c.if-is_past.false) in
-            ap means (until_goes past (c.in-Ok-Some.node, c.in-Ok-Some.index) _ _ (s.rest m h) t) ∙ ap (λ e. e ∷ left) (sym c.entry.ensures.value);
+            ap means (until_goes past (c.in-Ok-Some.node, c.in-Ok-Some.index) _ _ (way_takes K V E self.buf.now self.pos self.walk c.step.new.walk _ self.walks.walks c.in-Ok-Some.ensures.walks.walks s) t) ∙ ap (λ e. e ∷ after) (sym c.entry.ensures.value);
+        place = (c.in-Ok-Some.node, c.in-Ok-Some.index);
+        reached = s.taken.reached;
+        places = c.entry.ensures.places;
+        within = λ known. sym (c.is_past.ensures known) ∙ c.if-is_past.false;
+        less = most_less K V E self.buf.now self.pos self.walk c.step.new.walk self.walks _ s;
       };
-      stays_over = λ over. absurd (over_none K V E self.buf.now self.walk _ over s.turns);
+      stays_over = λ over. absurd (some_begun K V E self.buf.now self.pos self.walk c.step.new.walk _ s over);
     }

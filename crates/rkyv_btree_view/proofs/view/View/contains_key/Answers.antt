@@ -1,5 +1,5 @@
 -- Whether there is an entry found.
-use Rattle.std.proofs.Common.{◌∙◌, ap, rules, sym, is_some, subst, IsTrue}
+use Rattle.std.proofs.Common.{◌∙◌, ap, rules, sym, is_some}
 use Rattle.std.specs.BTreeMap.{is_at}
 use Rattle.rkyv_btree_view.proofs.LookedUp.{found_hit, some_of_entry}
 use Rattle.rkyv_btree_view.proofs.Lookups.{some_mapped}

@@ -6,6 +6,9 @@ use Rattle.rkyv_btree_view.proofs.Bounds.{within_referred}
 use Rattle.rkyv_btree_view.proofs.Drained.{drained}
 use Rattle.rkyv_btree_view.proofs.Ordered.{entries_ordered}
 use Rattle.rkyv_btree_view.specs.laws.Cuts.{order_cuts}
+use Rattle.rkyv_btree_base.specs.Read.{entry_at}
+use Rattle.rkyv_btree_walk.proofs.Ranges.{run_means}
+use Rattle.rkyv_btree_walk.specs.EntryPlaces.{entry_places}
 use Rattle.rkyv_btree_view.proofs.view.View.range.Goals as goal
 
 pub returns-clause-yields : goal.returns-clause-yields
@@ -22,3 +25,11 @@ returns-clause-sorted g c rises =
     let K = g.K.Portable.kind in
     let ordered = entries_ordered K.order (entries_of K g.V.Portable.kind g.M.ArchivedMap.E c.args.self) rises (λ q. K.order (view_value q)) (λ q. K.order (view_value q)) (λ q. order_cuts g.met.K.ViewOrd.total (view_value q)) (λ q i d less. refl) in
     returns-clause-within g c (ordered c.args.low) (ordered c.args.high)
+
+pub returns-clause-run : goal.returns-clause-run
+returns-clause-run g c =
+    let K = g.K.Portable.kind in
+    let V = g.V.Portable.kind in
+    let E = g.M.ArchivedMap.E in
+    let view = c.args.self in
+    run_means (entry_at K V E view.buf.now) _ (entry_places K V E view.buf.now view.pos) c.start_between.ensures.run

@@ -7,6 +7,9 @@ use Rattle.rkyv_btree_view.proofs.Bounds.{within_referred, unbounded_referred}
 use Rattle.rkyv_btree_view.proofs.Drained.{drained}
 use Rattle.rkyv_btree_view.proofs.LookedUp.{natives_agree}
 use Rattle.rkyv_btree_view.proofs.Ordered.{entries_ordered, natives_alike}
+use Rattle.rkyv_btree_base.specs.Read.{entry_at}
+use Rattle.rkyv_btree_walk.proofs.Ranges.{run_means}
+use Rattle.rkyv_btree_walk.specs.EntryPlaces.{entry_places}
 use Rattle.rkyv_btree_view.proofs.view.View.range_of.Goals as goal
 
 pub returns-clause-yields : goal.returns-clause-yields
@@ -31,3 +34,11 @@ returns-clause-sorted g c known f p rises =
     let ordered = entries_ordered K.order (entries_of K V E view) rises f law.compared law.cuts
     (λ q. natives_alike K V E view.buf.now view.pos (f q) (law.compared q) (natives_agree law f p q view.buf.now)) in
     returns-clause-within g c known f p (ordered (g.R.RangeBounds.start_bound c.args.range)) (ordered (g.R.RangeBounds.end_bound c.args.range))
+
+pub returns-clause-run : goal.returns-clause-run
+returns-clause-run g c =
+    let K = g.K.Portable.kind in
+    let V = g.V.Portable.kind in
+    let E = g.M.ArchivedMap.E in
+    let view = c.args.self in
+    run_means (entry_at K V E view.buf.now) _ (entry_places K V E view.buf.now view.pos) c.start_between.ensures.run

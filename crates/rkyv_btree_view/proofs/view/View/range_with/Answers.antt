@@ -2,6 +2,9 @@
 use Rattle.rkyv_btree_view.specs.Range.{range_left}
 use Rattle.rkyv_btree_view.specs.View.{view_entry}
 use Rattle.rkyv_btree_view.proofs.Drained.{drained}
+use Rattle.rkyv_btree_base.specs.Read.{entry_at}
+use Rattle.rkyv_btree_walk.proofs.Ranges.{run_means}
+use Rattle.rkyv_btree_walk.specs.EntryPlaces.{entry_places}
 use Rattle.rkyv_btree_view.proofs.view.View.range_with.Goals as goal
 
 pub returns-clause-yields : goal.returns-clause-yields
@@ -9,3 +12,11 @@ returns-clause-yields g c = λ items all. drained view_entry range_left _ items 
 
 pub returns-clause-within : goal.returns-clause-within
 returns-clause-within g c f p low high = (c.start_between.ensures.within f p low high)
+
+pub returns-clause-run : goal.returns-clause-run
+returns-clause-run g c =
+    let K = g.K.Portable.kind in
+    let V = g.V.Portable.kind in
+    let E = g.M.ArchivedMap.E in
+    let view = c.args.self in
+    run_means (entry_at K V E view.buf.now) _ (entry_places K V E view.buf.now view.pos) c.start_between.ensures.run

@@ -2,10 +2,10 @@
 use Rattle.std.specs.Prelude.{◌≡◌, ℕ, zero, suc, ◌≤◌, List, Option, Some, false}
 use Rattle.rkyv_btree_base.specs.Kind.{Kind}
 use Rattle.rkyv_btree_base.specs.Layout.{NodeLayout, layout_of}
-use Rattle.rkyv_btree_walk.specs.mirror.Below.{root_place, IsBelow, PathBelow, RunBelow}
-use Rattle.rkyv_btree_walk.specs.mirror.Node.{is_leaf, child_place}
+use Rattle.rkyv_btree_walk.specs.Below.{root_place, IsBelow, PathBelow, RunBelow}
+use Rattle.rkyv_btree_walk.specs.Nodes.{is_leaf, child_place}
 use Rattle.rkyv_btree_ffi.specs.MapTypes.{key_kind, value_kind}
-use Rattle.rkyv_btree_ffi.specs.mirror.Cursors.{path_of}
+use Rattle.rkyv_btree_ffi.specs.Cursors.{path_of}
 use Rattle.rkyv_btree_ffi.specs.declared.cursor.BtreeCursor.{BtreeCursor}
 use Rattle.rkyv_btree_ffi.specs.declared.map_type.MapType.{MapType}
 

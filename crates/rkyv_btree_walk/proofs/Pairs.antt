@@ -22,6 +22,10 @@ module _ {X : Type 0} where
   pairs_append R [] ys h k both = k
   pairs_append R (x ∷ xs) ys h k both = (each_append (R x) xs ys h.0 both.0, pairs_append R xs ys h.1 k both.1)
 
+  pub pairs_more : (R S : X → X → Type 0) (xs : List X) → ((x y : X) → R x y → S x y) → Pairs R xs → Pairs S xs
+  pairs_more R S [] more h = tt
+  pairs_more R S (x ∷ xs) more h = (each_more (R x) (S x) xs (more x) h.0, pairs_more R S xs more h.1)
+
   pub each_get : (P : X → Type 0) (xs : List X) (i : ℕ) (x : X) → Each P xs → slice_get xs i ≡ Some x → P x
   each_get P [] i x h is = absurd (cc is)
   each_get P (y ∷ xs) zero x h is = let same : y ≡ x = cc is in subst P same h.0
@@ -32,3 +36,13 @@ module _ {X : Type 0} where
   pairs_get R (z ∷ xs) i zero x y h less is at = absurd (omega arith)
   pairs_get R (z ∷ xs) zero (suc j) x y h less is at = let same : z ≡ x = cc is in subst (λ w. R w y) same (each_get (R z) xs j y h.0 at)
   pairs_get R (z ∷ xs) (suc i) (suc j) x y h less is at = pairs_get R xs i j x y h.1 (omega arith) is at
+
+  pub each_right : (P : X → Type 0) (xs ys : List X) → Each P (xs ++ ys) → Each P ys
+  each_right P [] ys h = h
+  each_right P (x ∷ xs) ys h = each_right P xs ys h.1
+
+-- what holds of each element of one list with each of another, holds the other way round
+pub each_flip : {X Y : Type 0} (P : X → Y → Type 0) (xs : List X) (ys : List Y) → Each (λ x. Each (P x) ys) xs → Each (λ y. Each (λ x. P x y) xs) ys
+each_flip P xs [] h = tt
+each_flip P xs (y ∷ ys) h =
+    (each_more (λ x. Each (P x) (y ∷ ys)) (λ x. P x y) xs (λ x w. w.0) h, each_flip P xs ys (each_more (λ x. Each (P x) (y ∷ ys)) (λ x. Each (P x) ys) xs (λ x w. w.1) h))

@@ -1,4 +1,4 @@
--- The numbers of a walk, as a cursor keeps them. This mirrors the code.
+-- What the numbers of a cursor are: the nodes of a walk, its entries in a leaf, and its stop.
 use Rattle.std.specs.Prelude.{◌≡◌, ℕ, List, map, Option, Some, None, nat_eq, if◌then◌else◌, take}
 use Rattle.rkyv_btree_ffi.specs.declared.cursor.BtreeCursor.{BtreeCursor}
 use Rattle.rkyv_btree_ffi.specs.declared.cursor.BtreeStep.{BtreeStep}
