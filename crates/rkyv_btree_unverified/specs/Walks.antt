@@ -12,7 +12,7 @@ abbrev pub GivesNoError : {A : Type 0} → (Result A Refusal → Type 0) → Typ
 GivesNoError gives = (r : Refusal) → gives (Err r) → ⊥
 
 module _ (K V : Kind) (E : ℕ) (b : List ℕ) (at : ℕ) where
-  -- the node at p is so many pointers below the root of the map at a position; what leads to it stands at hi
+  -- the node at p is so many pointers below the root of the map at a position; what leads to it is at hi
   pub data IsReached : ℕ → ℕ → ℕ → Type 0 where
     as_root : {q : ℕ} → HeadGives K V E b at (Ok (Some q)) → IsReached 0 at q
     as_child : {levels hi p i q : ℕ} → IsReached levels hi p → i ≤ E → ChildGives K V E b hi p i (Ok (Some q)) → IsReached (suc levels) p q

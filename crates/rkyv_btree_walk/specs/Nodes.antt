@@ -18,6 +18,6 @@ module _ (s : NodeLayout) (b : List ℕ) where
   abbrev pub entry_count : ℕ → ℕ
   entry_count p = if is_leaf p then number_at b (p + len_at s) 4 else s.E
 
-  -- its child number i, which stands before entry i, or after the last one: a leaf has none
+  -- its child number i, which is before entry i, or after the last one: a leaf has none
   abbrev pub child_place : ℕ → ℕ → Option ℕ
   child_place p i = if is_leaf p then None else natural (target_at b (p + pointer_at s i))
