@@ -3,24 +3,35 @@ export RT ?= rt
 PROGRAM := crates/btreearc/out/btreearc
 MAPS := crates/bench/out/bench
 
-.PHONY: run test bench bindings man drawing program maps
+# Where make install puts what is built. DESTDIR is put before it; BINDIR, MANDIR, INCLUDEDIR and LIBDIR name other folders than those below it.
+export PREFIX ?= /usr/local
 
-# Two lines become an archive, and the archive becomes the two lines again.
-run: program
-	@set -eu; \
-	work=$$(mktemp -d); \
-	trap 'rm -rf "$$work"' EXIT; \
-	printf '7 11\n8 12\n' > "$$work/lines"; \
-	$(PROGRAM) build < "$$work/lines" > "$$work/archive"; \
-	$(PROGRAM) list < "$$work/archive" > "$$work/listed"; \
-	echo "archive of 7 11 and 8 12:"; \
-	od -A d -t x1 -v "$$work/archive"; \
-	echo "listed again:"; \
-	cat "$$work/listed"; \
-	cmp "$$work/lines" "$$work/listed"
+.PHONY: run test wrong programs install uninstall bench bindings man drawing program maps
+
+# Two lines become an archive, and the archive becomes the two lines again. Nothing is proved.
+run:
+	@tools/run.sh
 
 test:
 	@tools/gate.sh
+
+# Tries all wrong bodies, whatever the record of them says. Run it before a release.
+wrong:
+	@tools/edits.py --all
+
+# Both programs as executables. rt proves each and its libraries before it builds it, which takes minutes the first time; where nothing has
+# changed it does neither. The script says on standard error which crate is being proved.
+programs: program
+	@tools/program.sh btreekv build
+	@echo "built: crates/btreearc/out/btreearc and crates/btreekv/out/btreekv"
+
+# These two prove and build nothing: install says what make programs and make bindings have yet to build. tools/install.sh takes one of both
+# parts, the programs or the library, too.
+install:
+	@tools/install.sh programs library
+
+uninstall:
+	@tools/install.sh --remove programs library
 
 bench: program maps
 	@bench/program.sh $(PROGRAM)
@@ -28,21 +39,20 @@ bench: program maps
 	@bench/file.sh $(MAPS)
 	@bench/cold.sh $(PROGRAM) $(MAPS)
 
-# The static and the shared library, and what is over them in C, Rust and Python, with tests. It needs cc, and cargo and python3 for theirs.
+# The static and the shared library, and what is over them in C, Rust and Python, with tests. It needs cc; it leaves out what has no cargo,
+# python3 or pkg-config.
 bindings:
 	@tools/bindings.sh
 
-# The man page of the program, made of its page; shown where there is a man to show it.
+# The man pages of the programs, made of their pages.
 man:
 	@tools/man.py
-	@if command -v man > /dev/null; then man -l docs/btreearc.1; fi
 
 # The drawing of the format, made of the program's archive of 17 entries.
 drawing: program
 	@awk 'BEGIN { for (i = 1; i <= 17; i++) print i, 10 * i }' | $(PROGRAM) build | tools/drawing.py > docs/format.svg
 
-# rt proves the program and its libraries before it builds it, which takes minutes the first time; where nothing has changed it does neither.
-# The script says on standard error which crate is being proved.
+# btreearc alone, which bench and drawing need.
 program:
 	@tools/program.sh btreearc build
 

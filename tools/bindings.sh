@@ -1,11 +1,13 @@
 #!/usr/bin/env bash
 # Builds the static library and the shared one into bindings/build, and builds and tests the bindings over them: C with cc, Rust with
-# cargo, Python with python3. It says which it left out because its compiler isn't there. RT is rt's command, if not rt.
+# cargo, Python with python3. Then it installs the library into a folder of its own, and the programs if they are built, and builds C over
+# that with pkg-config. It says which it left out because its compiler isn't there; where the environment has CI=true, that is a failure.
+# It downloads nothing. RT is rt's command, if not rt.
 #
-#     tools/bindings.sh [LIBRARY]
+#     tools/bindings.sh [--after-ci | LIBRARY]
 #
-# LIBRARY is a built out/librkyv_btree_ffi.a; without it rt proves and builds the crate, which takes minutes the first time. The last
-# line is `N passed, M failed`, and the status is 0 if nothing failed.
+# LIBRARY is a built out/librkyv_btree_ffi.a. Without it rt proves and builds the crate, which takes minutes the first time; --after-ci has
+# it take the libraries that rt ci has just built. The last line is `N passed, M failed`, and the status is 0 if nothing failed.
 set -euo pipefail
 cd "$(dirname "${BASH_SOURCE[0]}")/.."
 read -ra rt <<< "${RT:-rt}"
@@ -23,12 +25,37 @@ try() {
     fi
 }
 
-command -v cc > /dev/null && command -v ar > /dev/null || { echo "bindings: all left out: there is no cc" >&2; exit 1; }
+# Returns whether the commands are there, without which a part is left out.
+has() {
+    local name=$1 command
+    shift
+    for command; do
+        command -v "$command" > /dev/null && continue
+        echo "bindings: $name left out: there is no $command" >&2
+        [[ ${CI:-} != true ]] || failed=$((failed + 1))
+        return 1
+    done
+}
 
-library=${1:-}
-if [[ -z $library ]]; then
-    (cd crates/rkyv_btree_ffi && "${rt[@]}" lib)
-    library=crates/rkyv_btree_ffi/out/librkyv_btree_ffi.a
+finish() {
+    echo "$passed passed, $failed failed"
+    exit $((failed > 0))
+}
+
+has all cc ar || finish
+
+library=crates/rkyv_btree_ffi/out/librkyv_btree_ffi.a
+proved() {
+    case ${1:-} in
+        "") (cd crates/rkyv_btree_ffi && "${rt[@]}" lib) ;;
+        --after-ci) tools/static_library.py ;;
+        *) library=$1 && [[ -f $library ]] ;;
+    esac
+}
+if ! proved "$@"; then
+    echo "bindings: all failed: $library isn't built" >&2
+    failed=1
+    finish
 fi
 
 # The kit's C code asks the C library for memory, and is put into the same archive.
@@ -38,7 +65,8 @@ mkdir -p "$build"
 rm -f "$build/librkyv_btree.a"
 printf 'create %s\naddlib %s\naddlib %s\nsave\nend\n' "$build/librkyv_btree.a" "$library" "$kit/c/liblibc_c.a" | ar -M
 printf '{ global: rkyv_btree_*; local: *; };\n' > "$build/exports"
-cc -shared -o "$build/librkyv_btree.so" -Wl,--whole-archive "$build/librkyv_btree.a" -Wl,--no-whole-archive \
+cc -shared -o "$build/librkyv_btree.so" -Wl,-soname,librkyv_btree.so.0 \
+    -Wl,--whole-archive "$build/librkyv_btree.a" -Wl,--no-whole-archive \
     -Wl,-z,defs,-z,text,--version-script="$build/exports"
 
 compiled() {
@@ -51,17 +79,16 @@ c() {
 }
 try C c
 
-if command -v cargo > /dev/null; then
+if has Rust cargo; then
     try Rust env CARGO_TARGET_DIR="$PWD/$build/rust" cargo test --quiet --offline --manifest-path bindings/rust/Cargo.toml
-else
-    echo "bindings: Rust left out: there is no cargo"
 fi
 
-if command -v python3 > /dev/null; then
+if has Python python3; then
     try Python env PYTHONDONTWRITEBYTECODE=1 PYTHONPATH=bindings/python python3 -m unittest -q test_rkyv_btree
-else
-    echo "bindings: Python left out: there is no python3"
 fi
 
-echo "$passed passed, $failed failed"
-((failed == 0))
+if has "the installed library" pkg-config; then
+    try "the installed library" tools/installed.sh
+fi
+
+finish

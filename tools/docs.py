@@ -4,7 +4,7 @@
 Each `rust` block of a document, and of a doc comment, is text of a source file of a crate in crates.txt, word for word; each `antt`
 block is text of such a crate's definitions or proofs; each `output` block is what such a program has to print. A signature in running text, `fn name(..)`,
 is one of the sources. Each call of docs/PROMISES.md is in the index with its clauses. Links between documents lead somewhere, and
-files that are named in running text are there. README.md has at most 120 lines. The man page is what tools/man.py makes. The last line
+files that are named in running text are there. README.md has at most 120 lines. The man pages are what tools/man.py makes. The last line
 is `1 passed, 0 failed`, or `0 passed, 1 failed` after what is wrong.
 """
 import pathlib
@@ -128,7 +128,7 @@ def faults():
     if len((ROOT / "README.md").read_text().splitlines()) > LONGEST_README:
         yield f"README.md: more than {LONGEST_README} lines"
     if subprocess.run([ROOT / "tools" / "man.py", "--check"], check=False).returncode:
-        yield "docs/btreearc.1: stale; run make man"
+        yield "a man page is stale; run make man"
 
 
 def main():

@@ -1,5 +1,5 @@
 #!/usr/bin/env python3
-"""Tries the wrong bodies of crates, many at a time: tools/edits.py [--after-ci] [--only PATTERN] [CRATE..]
+"""Tries the wrong bodies of crates, many at a time: tools/edits.py [--gate | --record | --all] [--after-ci] [--only PATTERN] [CRATE..]
 
 A wrong body is a file crates/NAME/wrong/MODULE.FUNCTION.FAULT.edit: lines 'file: PATH', and then pairs 'old: TEXT' and
 'new: TEXT', each TEXT one line that is once in that file. An edit counts as refused where the prover reads it and names a
@@ -16,19 +16,24 @@ tried again with the others of which that is so. An edit of more than one functi
 tried alone, and so is one whose function doesn't come out as refused. Twins are tried together; of those that aren't proved
 together each half is tried.
 
-What was refused is kept in a folder of this machine, by the checksums of the kit, of this script, of the crate with all
-below it, and of the edit, and isn't tried again. Each check is rt's own; --after-ci takes the libraries that rt ci has just
-built, and else they are built where they have changed. --only takes the edits whose name PATTERN matches.
+What was refused is recorded in the file wrong.lock, of which record.py says what a line is and when it is valid.
 
-The last line is `N refused, M not`, and the status is 0 where each was refused. RT is rt's command, if not rt, and
-EDITS_KEPT the folder, if not one in the user's cache.
+    --record    tries the edits that have no valid line, and writes the lines of those that are refused
+    --gate      fails each edit that has no valid line, and each line of no edit, and tries a sample of the others again: 5 of 100, and
+                at least 20, which the commit's id draws
+    --all       tries all edits, whatever the record says
+    (none)      tries the edits that have no valid line, and writes nothing
+
+Each check is rt's own. --after-ci takes what rt ci has just proved and built as it is: of a crate the modules alone are checked that the
+edits change. Without it libraries are built where they have changed, and each crate is first checked without edits. --only takes the
+edits whose name PATTERN matches.
+
+The last line is `N refused, M not`, and the status is 0 where each was refused. RT is rt's command, if not rt.
 """
 import argparse
 import collections
 import concurrent.futures
-import hashlib
-import importlib.machinery
-import importlib.util
+import math
 import os
 import pathlib
 import re
@@ -36,32 +41,27 @@ import shutil
 import sys
 import tempfile
 
+from kit import KIT_ID, RT
+from record import LOCK, Keys, read_lock, sample_of, write_lock
+
 ROOT = pathlib.Path(__file__).resolve().parent.parent
-CACHE = pathlib.Path(os.environ.get("XDG_CACHE_HOME") or pathlib.Path.home() / ".cache")
-KEPT = pathlib.Path(os.environ.get("EDITS_KEPT") or CACHE / "rkyv_btree_edits")
 FLAGS = ["--jobs", "1"]
 # the words that begin a line of an edit, each with those of the line above it
 ABOVE = {"file": ("", "new", "twin"), "old": ("file", "new", "twin"), "new": ("old",), "twin": ("new",)}
 # an error of a proof file that says no more than that a name is gone
 OF_NAMES = re.compile(r"has no field|is not in scope|has no `|was not admitted|were not checked")
 ERROR = re.compile(r"^(?:\./)?(\S+?):\d+:\d+: error: (.*)$", re.M)
-FUNCTION = re.compile(r"^( *)(?:pub(?:\(\w+\))? )?(?:const )?(?:unsafe )?fn (\w+)", re.M)
+FUNCTION = re.compile(r"^( *)(?:pub(?:\(\w+\))? )?(?:const )?(?:unsafe )?(?:extern \"C\" )?fn (\w+)", re.M)
 CLAUSE = re.compile(r" *(requires|ensures|ghost)\b")
 
 Change = collections.namedtuple("Change", "path old new twin")
 
 
-def load_rt():
-    """Loads rt, which is a Python file, for its crates and its check of a changed crate."""
-    path = os.path.realpath(shutil.which(os.environ.get("RT", "rt").split()[-1]))
-    loader = importlib.machinery.SourceFileLoader("rt", path)
-    rt = importlib.util.module_from_spec(importlib.util.spec_from_loader("rt", loader))
-    sys.modules["rt"] = rt
-    loader.exec_module(rt)
-    return rt
+class Place(collections.namedtuple("Place", "path at function head")):
+    """Where a function is: its file, its position there, its name, and the head of its impl, if it is in one."""
 
-
-RT = load_rt()
+    def module(self):
+        return self.path.removeprefix("src/").removesuffix(".rt").replace("/", "::")
 
 
 class Edit:
@@ -70,6 +70,7 @@ class Edit:
     def __init__(self, file, crate):
         self.name, self.text, self.changes = file.stem, file.read_text(), []
         self.crate, self.function, above = crate, self.name.split(".")[1], ""
+        self.full_name = f"{crate.name}/{self.name}"
         for line in self.text.splitlines():
             word, _, text = line.partition(": ")
             if above not in ABOVE.get(word, ()) or not text.strip():
@@ -102,14 +103,18 @@ class Edit:
             texts[path] = text.replace(old, is_twin and twin or new)
         return texts
 
-    def turned(self, names):
-        """Returns the prover's name of the one function whose text this edit changes, or None where that isn't known."""
-        places = {(it.path, *place_of_function(self.read(it.path), it.old)) for it in self.changes}
-        path, at, function, head = places.pop()
-        if places or function != self.function or any(CLAUSE.match(it.old) for it in self.changes):
-            return None
-        module = f"{self.crate.name}::{path.removeprefix('src/').removesuffix('.rt').replace('/', '::')}"
-        fitting = [it for it in names if fits(it, module, function, head)]
+    def place(self):
+        """Returns the place of the one function whose body this edit changes, or None where it changes more."""
+        places = {Place(it.path, *place_of_function(self.read(it.path), it.old)) for it in self.changes}
+        place = places.pop()
+        return None if places or place.function != self.function or any(CLAUSE.match(it.old) for it in self.changes) else place
+
+    def turned(self, said):
+        """Returns the prover's name of the function that this edit changes, of those of which a check says something, or None where that
+        isn't known."""
+        place = self.place()
+        names = re.findall(r"^fn (\S+): ", said, re.M) if place else []
+        fitting = [it for it in names if fits(it, f"{self.crate.name}::{place.module()}", place.function, place.head)]
         return fitting[0] if len(fitting) == 1 else None
 
 
@@ -152,43 +157,42 @@ def edits_of(crate):
     return [Edit(it, crate) for it in files if it.suffix == ".edit"]
 
 
-def sum_of(crate):
-    """Returns the checksum of all that the crate's edits are tried with: the kit, this script, and the texts of the crate and of all below it."""
-    found = hashlib.sha256(pathlib.Path(RT.KIT, "KIT-ID").read_bytes() + pathlib.Path(__file__).read_bytes())
-    for folder in [*[it.folder for it in crate.below()], crate.folder]:
-        for file in sorted(it for part in ("src", "specs", "proofs") for it in pathlib.Path(folder, part).rglob("*") if it.is_file()):
-            found.update(f"{file.relative_to(folder)} {hashlib.sha256(file.read_bytes()).hexdigest()}\n".encode())
-    return found.hexdigest()
-
-
-def place_of(edit, tried_with):
-    """Returns the file that says why an edit is refused, once it was with what has this checksum."""
-    return KEPT / hashlib.sha256("\0".join([tried_with, edit.name, edit.text]).encode()).hexdigest()
-
-
-def rounds_of(edits, names, is_twin=False):
+def rounds_of(edits, is_twin=False):
     """Deals the edits out in rounds, in each of which no two turn one function or the same text."""
     rounds = []
     for edit in edits:
-        turned = edit.turned(names) or edit
+        place = edit.place() or edit
         for given in rounds:
             texts = edit.apply(given["texts"], is_twin)
-            if texts and turned not in given["edits"]:
+            if texts and place not in given["edits"]:
                 break
         else:
             given, texts = {"edits": {}, "texts": {}}, edit.apply({}, is_twin)
             rounds.append(given)
-        given["edits"][turned] = edit
+        given["edits"][place] = edit
         given["texts"] = texts
-    return rounds
+    return [[*it["edits"].values()] for it in rounds]
 
 
-def check(crate, texts, kept):
-    """Checks a copy of the crate with these texts over what is kept, and returns whether it is proved, and what is said. Nothing is
-    said where the prover comes to no verdict, or can't read a changed text."""
-    ran = RT.checked(crate, texts, FLAGS, kept)
-    has_verdict = re.search(r"^logic=", ran.stdout, re.M) and not any(RT.unread(it, texts) for it in ran.stdout.splitlines())
-    return not ran.returncode, ran.stdout if has_verdict else ""
+class Checks:
+    """Checks of copies of a crate, over what one has kept for the next. Where they are of modules, each is of the modules alone that its
+    edits change, where each changes one function's body."""
+
+    def __init__(self, crate, kept, are_of_modules):
+        self.crate, self.kept, self.are_of_modules = crate, kept, are_of_modules
+
+    def check(self, edits, is_twin=False):
+        """Checks the crate with these edits or their twins, and returns whether it is proved, and what is said. Nothing is said
+        where the prover comes to no verdict, or can't read a changed text."""
+        texts, places = {}, [it.place() for it in edits]
+        for edit in edits:
+            texts = edit.apply(texts, is_twin)
+        modules = sorted({it.module() for it in places}) if self.are_of_modules and places and all(places) else []
+        # the module of the root names no function of its own alone
+        only = [] if {"lib", "main"} & {*modules} else [word for it in modules for word in ("--only", it)]
+        ran = RT.checked(self.crate, texts, FLAGS + only, self.kept)
+        has_verdict = re.search(r"^(logic|only)=", ran.stdout, re.M) and not any(RT.unread(it, texts) for it in ran.stdout.splitlines())
+        return not ran.returncode, ran.stdout if has_verdict else ""
 
 
 def goal_of(error):
@@ -219,100 +223,149 @@ def reasons(found):
     return "; ".join(f"{name}: {why}" for name, why in found.items())
 
 
-def alone(edit, kept):
+def alone(edit, checks):
     """Returns why the prover refuses the crate with this edit alone, if it does for more than a name."""
-    is_proved, said = check(edit.crate, edit.apply({}), kept)
+    is_proved, said = checks.check([edit])
     found = refused_for_themselves(said)
     errors = [why for path, why in ERROR.findall(said) if not path.startswith("proofs/") or not OF_NAMES.search(why)]
     return "" if is_proved or not found and not errors else "alone: " + (reasons(found) or ", ".join(dict.fromkeys(map(goal_of, errors))))
 
 
-def try_edits(edits, names, kept):
+def try_edits(edits, checks):
     """Returns why the prover refuses each edit, or nothing where it doesn't."""
-    told, left, more = {}, [it for it in edits if it.turned(names)], True
+    told, left, more = {}, [it for it in edits if it.place()], True
     # what is left calls what was refused, which the next turn leaves as it was
     while left and more:
-        for given in rounds_of(left, names):
-            found = refused_for_themselves(check(edits[0].crate, given["texts"], kept)[1])
-            told |= {edit: found[turned] for turned, edit in given["edits"].items() if turned in found}
+        for given in rounds_of(left):
+            said = checks.check(given)[1]
+            found = refused_for_themselves(said)
+            told |= {it: found[it.turned(said)] for it in given if it.turned(said) in found}
         more = any(it in told for it in left)
         left = [it for it in left if it not in told]
-    return {it: told.get(it) or alone(it, kept) for it in edits}
+    return {it: told.get(it) or alone(it, checks) for it in edits}
 
 
-def unproved_twins(edits, kept):
+def unproved_twins(edits, checks):
     """Returns why the twins aren't proved, for each of these edits whose twin isn't."""
-    texts = {}
-    for edit in edits:
-        texts = edit.apply(texts, is_twin=True)
-    is_proved, said = check(edits[0].crate, texts, kept)
+    is_proved, said = checks.check(edits, is_twin=True)
     if is_proved:
         return {}
     if len(edits) == 1:
         return {edits[0]: reasons(refused_for_themselves(said)) or "it can't be read, or a name is gone"}
     half = len(edits) // 2
-    return unproved_twins(edits[:half], kept) | unproved_twins(edits[half:], kept)
+    return unproved_twins(edits[:half], checks) | unproved_twins(edits[half:], checks)
 
 
-def try_all(crate, edits):
-    """Says of each edit why the prover refuses it, if it does, and why it doesn't prove its twin, if it doesn't."""
+def try_all(crate, edits, is_proved):
+    """Says of each edit why the prover refuses it, if it does, and why it doesn't prove its twin, if it doesn't. Of a crate that is
+    known to be proved only the modules are checked that the edits change, and else all of it, first without edits."""
     with tempfile.TemporaryDirectory(prefix="edits-") as room:
         kept, begun = f"{room}/kept", f"{crate.folder}/out/incremental"
         shutil.copytree(begun, kept) if os.path.isdir(begun) else os.mkdir(kept)
-        is_proved, said = check(crate, {}, kept)
-        if not is_proved:
+        checks = Checks(crate, kept, is_proved)
+        if not is_proved and not checks.check([])[0]:
             print(f"{crate.name}: not proved without edits", flush=True)
             return [(it, "", "") for it in edits]
-        names = re.findall(r"^fn (\S+): proved", said, re.M)
-        refused, unproved = try_edits(edits, names, kept), {}
-        for given in rounds_of([it for it in edits if it.has_twin], names, is_twin=True):
-            unproved |= unproved_twins([*given["edits"].values()], kept)
+        refused, unproved = try_edits(edits, checks), {}
+        for given in rounds_of([it for it in edits if it.has_twin], is_twin=True):
+            unproved |= unproved_twins(given, checks)
     return [(it, why, unproved.get(it, "")) for it, why in refused.items()]
 
 
-def tell(told):
-    """Prints of each edit whether it was refused, and returns how many were."""
-    for edit, why, of_twin in told:
-        with_twin = " (its twin is proved)" if edit.has_twin else ""
-        how = f"TWIN NOT PROVED: {of_twin[:300]}" if of_twin else f"refused: {why[:300]}{with_twin}" if why else "NOT REFUSED"
-        print(f"{edit.crate.name}/{edit.name}: {how}", flush=True)
-    return sum(bool(why) and not of_twin for _, why, of_twin in told)
+def parts_of(edits, size=16):
+    """Deals a crate's edits out in parts of about this size, in each of which few change one function."""
+    count = math.ceil(len(edits) / size)
+    by_function = sorted(edits, key=lambda it: (it.changes[0].path, it.function))
+    return [by_function[at::count] for at in range(count)]
+
+
+def try_each(edits, after_ci):
+    """Tries edits of any crates, and yields why each is refused, or nothing, and why its twin isn't proved, if it isn't."""
+    by_crate = collections.defaultdict(list)
+    for edit in edits:
+        by_crate[edit.crate].append(edit)
+    for crate in by_crate:
+        if not after_ci and any(it.build_rlib(FLAGS, anew=False) for it in crate.below()):
+            sys.exit(f"a library below {crate.name} is not proved")
+    work = [(crate, part) for crate, edits in by_crate.items() for part in parts_of(edits)]
+    work.sort(key=lambda it: -len(it[1]) * it[0].count(rb"\n"))
+    with concurrent.futures.ThreadPoolExecutor(len(os.sched_getaffinity(0))) as pool:
+        for done in concurrent.futures.as_completed([pool.submit(try_all, *it, after_ci) for it in work]):
+            yield from done.result()
+
+
+def is_refused(edit, why, of_twin):
+    """Prints of an edit whether it was refused, and returns it."""
+    with_twin = " (its twin is proved)" if edit.has_twin else ""
+    how = f"TWIN NOT PROVED: {of_twin[:300]}" if of_twin else f"refused: {why[:300]}{with_twin}" if why else "NOT REFUSED"
+    print(f"{edit.full_name}: {how}", flush=True)
+    return bool(why) and not of_twin
+
+
+def record(edits, keys, lock, after_ci):
+    """Tries edits, writes the lines of those that are refused, and returns how many are."""
+    refused = 0
+    for edit, why, of_twin in try_each(edits, after_ci):
+        lock.pop(edit.full_name, None)
+        # (a file that has changed meanwhile may be another than the one that was tried)
+        if is_refused(edit, why, of_twin) and Keys(KIT_ID).of([edit]) == {edit: keys[edit]}:
+            lock[edit.full_name] = keys[edit]
+            refused += 1
+        write_lock(lock)
+    return refused
+
+
+def gate(every, names, keys, lock, after_ci):
+    """Fails the edits without a valid line and the lines with none of these names, tries a sample of the others, and returns how many are
+    refused and how many not."""
+    valid = [it for it in every if lock.get(it.full_name) == keys[it]]
+    for edit in every:
+        if edit not in valid:
+            print(f"{edit.full_name}: no valid line in {LOCK.name}", flush=True)
+    strange = lock.keys() - names
+    for name in sorted(strange):
+        print(f"{name}: a line in {LOCK.name} of no edit", flush=True)
+    sample = sample_of(valid)
+    print(f"{len(every)} edits: {len(valid) - len(sample)} by the record alone, {len(sample)} of it tried again", flush=True)
+    failed = sum(not is_refused(*it) for it in try_each(sample, after_ci))
+    return len(valid) - failed, len(every) - len(valid) + len(strange) + failed
 
 
 def main():
     words = argparse.ArgumentParser(description="Tries the wrong bodies of crates, many at a time.")
+    how = words.add_mutually_exclusive_group()
+    for name in ("--gate", "--record", "--all"):
+        how.add_argument(name, action="store_true")
     words.add_argument("--after-ci", action="store_true")
     words.add_argument("--only", default="", metavar="PATTERN")
     words.add_argument("crates", nargs="*")
     given = words.parse_args()
     RT.rtlib.guarded()
-    KEPT.mkdir(parents=True, exist_ok=True)
     crates = {it.name: it for it in RT.rtlib.crates_below(str(ROOT))}
     if not {*given.crates} <= {*crates}:
         sys.exit(f"no crates: {', '.join({*given.crates} - {*crates})}")
-    all_edits = {it: [edit for edit in edits_of(it) if re.search(given.only, edit.name)] for name, it in crates.items() if name in (given.crates or crates)}
-    every = [it for edits in all_edits.values() for it in edits]
-    lost = [f"{it.crate.name}/{it.name}" for it in every if not it.apply({})]
+    of_all = [edit for it in crates.values() for edit in edits_of(it)]
+    names = {it.full_name for it in of_all}
+    every = [it for it in of_all if it.crate.name in (given.crates or crates) and re.search(given.only, it.name)]
+    lost = [it.full_name for it in every if not it.apply({})]
     if lost:
         sys.exit(f"an old text isn't there once: {', '.join(lost)}")
-    sums = {crate: sum_of(crate) for crate, edits in all_edits.items() if edits}
-    places = {it: place_of(it, sums[it.crate]) for it in every}
-    refused = tell([(it, f"kept: {place.read_text()}", "") for it, place in places.items() if place.exists()])
-    print(f"{len(every)} edits, {sum(it.has_twin for it in every)} with a twin, of which {refused} were refused before", flush=True)
-    work = {crate: [it for it in edits if not places[it].exists()] for crate, edits in all_edits.items()}
-    work = {crate: edits for crate, edits in sorted(work.items(), key=lambda it: -len(it[1]) * it[0].count(rb"\n")) if edits}
-    for crate in work:
-        if not given.after_ci and any(it.build_rlib(FLAGS, anew=False) for it in crate.below()):
-            sys.exit(f"a library below {crate.name} is not proved")
-    with concurrent.futures.ThreadPoolExecutor(len(os.sched_getaffinity(0))) as pool:
-        for done in concurrent.futures.as_completed([pool.submit(try_all, *it) for it in work.items()]):
-            refused += tell(done.result())
-            for edit, why, of_twin in done.result():
-                # (a file that has changed meanwhile may be another than the one that was tried)
-                if why and not of_twin and sum_of(edit.crate) == sums[edit.crate]:
-                    places[edit].write_text(why)
-    print(f"{refused} refused, {len(every) - refused} not")
-    return 0 if refused == len(every) else 1
+    keys, lock = Keys(KIT_ID).of(every), read_lock()
+    untried = [it for it in every if given.all or lock.get(it.full_name) != keys[it]]
+    if given.gate:
+        refused, others = gate(every, names, keys, lock, given.after_ci)
+    else:
+        print(f"{len(every)} edits, {sum(it.has_twin for it in every)} with a twin, {len(every) - len(untried)} by the record", flush=True)
+        if given.record:
+            write_lock({name: key for name, key in lock.items() if name in names})
+            lock = read_lock()
+            refused = record(untried, keys, lock, given.after_ci)
+        else:
+            refused = sum(is_refused(*it) for it in try_each(untried, given.after_ci))
+        others = len(untried) - refused
+        refused += len(every) - len(untried)
+    print(f"{refused} refused, {others} not")
+    return 1 if others else 0
 
 
 if __name__ == "__main__":

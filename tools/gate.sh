@@ -1,8 +1,9 @@
 #!/usr/bin/env bash
-# The merge gate: the documents, the index of contracts and the header for C, against the repository; rt ci; then the wrong bodies in the
-# folders `wrong` of the crates, many in one check; then the programs as processes of their own, as each of two compilers built them; and last the
-# growths of memory of such processes, each refused in turn. The last line is rt ci's, 'N passed, M failed', in which the documents,
-# the index, each wrong body, the processes and the growths count as one. The status is 0 where nothing failed. RT is rt's command, if
+# The merge gate: the documents, the index of contracts and the header for C, against the repository; what makes a line of the record of refused
+# wrong bodies invalid; rt ci; then the wrong bodies in the folders `wrong` of the crates, by the record and a sample that is tried again; then the
+# programs as processes of their own, as each of two compilers built them; then the growths of memory of such processes, each refused in turn; and
+# last the bindings in C, Rust and Python, and the installed library. The last line is rt ci's, 'N passed, M failed', in which the documents, the
+# index, each wrong body, the processes, the growths and each language count as one. The status is 0 where nothing failed. RT is rt's command, if
 # not rt.
 set -euo pipefail
 cd "$(dirname "${BASH_SOURCE[0]}")/.."
@@ -27,8 +28,9 @@ count() {
 count '([0-9]+) passed, ([0-9]+) failed' tools/docs.py
 count '([0-9]+) passed, ([0-9]+) failed' tools/index.py --check
 count '([0-9]+) passed, ([0-9]+) failed' tools/header.py
+count '([0-9]+) passed, ([0-9]+) failed' tools/record_test.py
 count '([0-9]+) passed, ([0-9]+) failed' "${rt[@]}" ci
-count '([0-9]+) refused, ([0-9]+) not' tools/edits.py --after-ci
+count '([0-9]+) refused, ([0-9]+) not' tools/edits.py --gate --after-ci
 
 # rt ci sets aside what was built before, and leaves what it has built itself. It may have no second one to leave.
 program=crates/btreearc/out/btreearc
@@ -49,6 +51,9 @@ tools/growths.py "$calls" "$program" || well=0
 [[ ! -f $calls.by-rattle || ! -f $program.by-rattle ]] ||
     tools/growths.py "$calls.by-rattle" "$program.by-rattle" || well=0
 passed=$((passed + well)) failed=$((failed + 1 - well))
+
+# rt ci checks the static library's crate and builds no library of it, so this has rt build it, over the libraries that rt ci has left.
+count '([0-9]+) passed, ([0-9]+) failed' tools/bindings.sh --after-ci
 
 echo "$passed passed, $failed failed"
 ((failed == 0))

@@ -1,15 +1,15 @@
 #!/usr/bin/env python3
-"""Makes docs/btreearc.1, the man page, of docs/BTREEARC.md: tools/man.py [--check]
+"""Makes the man pages of the programs, as docs/btreearc.1, of their pages, as docs/BTREEARC.md: tools/man.py [--check]
 
-Headings of the page become sections, and tables become lists: the first cell of a row is the term. With --check nothing is written, and
-the status is 1 if the man page is stale.
+Headings of a page become sections, and tables become lists: the first cell of a row is the term. With --check nothing is written, and
+the status is 1 if a man page is stale, which a line names.
 """
 import pathlib
 import re
 import sys
 
-ROOT = pathlib.Path(__file__).resolve().parent.parent
-PAGE, MAN = ROOT / "docs" / "BTREEARC.md", ROOT / "docs" / "btreearc.1"
+DOCS = pathlib.Path(__file__).resolve().parent.parent / "docs"
+PROGRAMS = ("btreearc", "btreekv")
 
 
 def escaped(text):
@@ -57,11 +57,15 @@ def roff(text):
 
 
 def main(words):
-    made = roff(PAGE.read_text())
-    if words == ["--check"]:
-        return int(not MAN.exists() or MAN.read_text() != made)
-    MAN.write_text(made)
-    return 0
+    stale = 0
+    for program in PROGRAMS:
+        made, man = roff((DOCS / f"{program.upper()}.md").read_text()), DOCS / f"{program}.1"
+        if words != ["--check"]:
+            man.write_text(made)
+        elif not man.exists() or man.read_text() != made:
+            print(f"docs/{man.name}: stale; run make man")
+            stale = 1
+    return stale
 
 
 if __name__ == "__main__":

@@ -1,6 +1,7 @@
 #!/usr/bin/env bash
 # Runs the built program btreekv as a process of its own, and compares its status, its standard output and its line on standard error
-# with what each case names; then it has 20000 lines built, listed, looked up and explained. It needs Python.
+# with what each case names; then it has 20000 lines built, listed, looked up and explained, as tools/explained.py explains them. It needs
+# Python.
 #
 #     tools/texts.sh [PROGRAM]
 #
@@ -36,11 +37,6 @@ ends() {
     [[ $got == "$status" ]] || fail "words ${*@Q}: status $got, not $status"
     cmp -s written output || fail "words ${*@Q}: another standard output"
     [[ $(head -n 1 said) == "$line" ]] || fail "words ${*@Q}: on standard error: $(cat said)"
-}
-
-# The bytes of an explanation, which are hexadecimal from its eleventh column on.
-explained_bytes() {
-    python3 -c 'import sys; sys.stdout.buffer.write(bytes.fromhex("".join(line[10:33] for line in sys.stdin)))'
 }
 
 # The archive that is built of these lines, as escapes.
@@ -120,8 +116,11 @@ seq -f 'key %06g' 1 20000 | awk '{ print $0 "\tvalue of " $0 }' > many
 [[ $("$program" prefix 'key 0123' archive | wc -l) == 100 ]] || fail "20000 lines: another prefix"
 [[ $("$program" stat archive | head -n 2 | tr '\n' ' ') == 'entries 20000 least levels 6 ' ]] || fail "20000 lines: other figures"
 "$program" explain archive > explained || fail "20000 lines: not explained"
-explained_bytes < explained | cmp -s - archive || fail "20000 lines: other bytes explained"
-[[ $(grep -c ' root node: ' explained) == 1 ]] || fail "20000 lines: another root"
+"$tools/explained.py" < archive | cmp -s - explained || fail "20000 lines: explained otherwise"
+for count in 0 1 5 6 7 17 35 36 41 215; do
+    head -n "$count" many | "$program" build > few
+    "$program" explain few | cmp -s - <("$tools/explained.py" < few) || fail "$count lines: explained otherwise"
+done
 "$program" list --json archive > object
 python3 -c 'import json; print(*(f"{k}\t{v}" for k, v in json.load(open("object")).items()), sep="\n")' | cmp -s - many || fail "20000 lines: another object"
 shuf --random-source=many many | "$program" build --sort | cmp -s - archive || fail "20000 lines: sorted otherwise"

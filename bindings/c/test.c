@@ -80,7 +80,9 @@ static void walk(const rkyv_btree_map *map, unsigned from, unsigned count, size_
         assert(rkyv_btree_seek_text(map, texts + given[from].key.start, given[from].key.len, &cursor) == RKYV_BTREE_OK);
     else assert(rkyv_btree_seek_number(map, given[from].key.number - 1, &cursor) == RKYV_BTREE_OK);
     while (written == room) {
+        memset(batch, 0xa5, sizeof batch);
         assert(rkyv_btree_next(map, &cursor, batch, room, &written) == RKYV_BTREE_OK);
+        for (const uint8_t *rest = (const uint8_t *)(batch + written); rest < (const uint8_t *)(batch + 64); rest++) assert(*rest == 0xa5);
         for (size_t i = 0; i < written; i++, at++) {
             assert(same(map->data, batch[i].key, given[at].key) && same(map->data, batch[i].value, given[at].value));
         }
@@ -96,6 +98,8 @@ static void one_type(uint32_t type, unsigned count) {
     size_t data_len = 0;
     give(type, count);
     uint8_t *data = build(type, count, &data_len);
+    memset(&why, 0xa5, sizeof why);
+    const rkyv_btree_refusal before = why;
     assert(rkyv_btree_open(&map, type, data, data_len, &why) == RKYV_BTREE_OK);
     assert(rkyv_btree_open_strict(&map, type, data, data_len, &why) == RKYV_BTREE_OK);
     assert(rkyv_btree_len(&map, &len) == RKYV_BTREE_OK && len == count);
@@ -108,6 +112,7 @@ static void one_type(uint32_t type, unsigned count) {
     }
     assert(rkyv_btree_find_number(type, data, data_len, 1, &entry, &why) == RKYV_BTREE_NOT_FOUND);
     assert(rkyv_btree_find_text(type, data, data_len, NULL, 0, &entry, &why) == RKYV_BTREE_NOT_FOUND);
+    assert(memcmp(&before, &why, sizeof why) == 0); /* where nothing is refused, no cause is written */
     assert(rkyv_btree_get_number(&map, 1, &entry) == RKYV_BTREE_NOT_FOUND);
     assert(rkyv_btree_get_number(&map, UINT64_MAX, &entry) == RKYV_BTREE_NOT_FOUND);
     assert(rkyv_btree_get_text(&map, NULL, 0, &entry) == RKYV_BTREE_NOT_FOUND);
@@ -169,6 +174,11 @@ static void misuse(void) {
     assert(rkyv_btree_find_text(10, bad, 8, NULL, 0, &entry, &why) == RKYV_BTREE_BAD_TYPE);
     assert(rkyv_btree_find_number(1, NULL, 0, 0, &entry, &why) == RKYV_BTREE_OUT_OF_RANGE && why.code == RKYV_BTREE_OUT_OF_RANGE);
     assert(rkyv_btree_find_number(1, bad, 8, 0, &entry, &why) == RKYV_BTREE_NOT_FOUND);
+    uint8_t other[8] = {1, 2, 3, 4, 5, 6, 7, 8};
+    rkyv_btree_edit edit = RKYV_BTREE_EDIT(other, 8);
+    assert(rkyv_btree_open_edit(&edit, 0, &why) == RKYV_BTREE_BAD_TYPE && rkyv_btree_open_edit(&edit, 10, &why) == RKYV_BTREE_BAD_TYPE);
+    assert(rkyv_btree_open_edit(&edit, 1, &why) != RKYV_BTREE_OK);
+    for (uint8_t i = 0; i < 8; i++) assert(other[i] == i + 1); /* a refused buffer is unchanged */
     assert(rkyv_btree_build(10, NULL, 0, NULL, 0, out, 8, &archive_len) == RKYV_BTREE_BAD_TYPE);
     assert(rkyv_btree_build(1, NULL, 0, NULL, 0, out, 7, &archive_len) == RKYV_BTREE_NO_ROOM && archive_len == 8);
     assert(rkyv_btree_build(1, NULL, 0, NULL, 0, out, 8, &archive_len) == RKYV_BTREE_OK && archive_len == 8);
@@ -249,6 +259,7 @@ static void unvalidated(uint32_t type) {
 static void messages(void) {
     uint8_t out[128];
     for (uint32_t code = 0; code < 64; code++) {
+        memset(out, 0xff, sizeof out);
         size_t len = rkyv_btree_strerror(code, out, sizeof out);
         assert(len < sizeof out && strlen((const char *)out) == len);
         assert(rkyv_btree_strerror(code, NULL, 0) == len);

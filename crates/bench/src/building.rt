@@ -16,9 +16,6 @@ use std::fs::File;
 use std::io::{BufWriter, Write};
 use std::{fs, mem};
 
-/// How many entries the table has from which a large map is built.
-const TABLE: usize = 1000;
-
 /// So many texts of 16 bytes, with their numbers.
 fn texts(alloc: Global, count: u32) -> Result<Vec<(String, u32)>, AllocError> {
     let mut texts = Vec::with_capacity(alloc, count as usize)?;
@@ -81,36 +78,23 @@ pub fn measure(report: &Report, alloc: Global) -> anyhow::Result<()> {
     measure_entries(report, alloc, "build of texts", texts.as_slice())
 }
 
-/// Writes a map of so many entries, which are those of the table again and again, to a file, and returns the map's
-/// position.
-fn build_to_file(
-    alloc: Global,
-    table: &[(u32, u32); TABLE],
-    count: usize,
-    file: File,
-) -> anyhow::Result<u32> {
+/// Writes a map of so many entries to a file, each computed when the builder takes it, and returns the map's position.
+fn build_to_file(alloc: Global, count: u32, file: File) -> anyhow::Result<u32> {
     ensure!(layout::fits::<ArchivedU32, ArchivedU32, 5>(), "too large");
     let mut writer = IoWriter::new(BufWriter::new(alloc, file)?);
-    let items = (0..count).map(|index: usize| {
-        let entry = &table[index % TABLE];
-        (&entry.0, &entry.1)
-    });
-    let tree = Map::serialize_from_ordered_iter(alloc, count, items, &mut writer)?;
-    let root = Map::write_root(count, tree, &mut writer)?;
+    let items = (0..count).map(|index: u32| entry(index));
+    let tree = Map::serialize_from_ordered_iter(alloc, count as usize, items, &mut writer)?;
+    let root = Map::write_root(count as usize, tree, &mut writer)?;
     writer.into_inner().flush()?;
     Ok(root)
 }
 
 /// Times the building of a map of so many numbers to the file of this name.
 pub fn measure_file(rt: &HostRuntime, count: u32, name: &str) -> anyhow::Result<()> {
-    let mut table = [(0, 0); TABLE];
-    for index in 0..TABLE {
-        table[index] = entry(index as u32);
-    }
     let report = Report { rt, count };
     report.time("port", "build to a file", count, || {
         let file = fs::create(rt, name)?;
-        build_to_file(rt.alloc(), &table, count as usize, file)
+        build_to_file(rt.alloc(), count, file)
     })??;
     Ok(())
 }

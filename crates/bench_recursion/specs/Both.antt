@@ -1,4 +1,5 @@
 -- One list built by two builders, each to a writer of its own.
+use Rattle.rkyv_btree_writing_laws.specs.Entries.{now_of}
 use Rattle.std.specs.Prelude.{◌≡◌, ℕ, ◌⊎◌, Option}
 use Rattle.std.specs.Borrow.{Bor}
 use Rattle.rkyv_btree_writing_laws.specs.Serialising.{BuildsTree, FailsToBuild}
@@ -13,13 +14,13 @@ module _ {M N R S P Q : Type 0} (K V : Kind) (E : ℕ) (KA : Archival M R) (VA :
   -- the first builder failed, and the second wrote nothing
   abbrev pub FirstFails : {X : Type 0} → Fault X → Type 0
   FirstFails fault =
-      FailsToBuild K V E KA VA steps iter claim state one one_after fault × (state other_after ≡ state other)
+      FailsToBuild K V E KA VA now_of steps iter claim state one one_after fault × (state other_after ≡ state other)
 
   -- the first builder built the tree, and the second failed
   abbrev pub SecondFails : {X : Type 0} → Fault X → Type 0
   SecondFails fault =
-      (root : ℕ) × BuildsTree K V E KA VA steps iter claim state one one_after root
-      × FailsToBuild K V E KA VA steps iter claim state other other_after fault
+      (root : ℕ) × BuildsTree K V E KA VA now_of steps iter claim state one one_after root
+      × FailsToBuild K V E KA VA now_of steps iter claim state other other_after fault
 
   -- one of them failed
   abbrev pub EitherFails : {X : Type 0} → Fault X → Type 0

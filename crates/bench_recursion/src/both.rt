@@ -69,12 +69,15 @@ where
 {
     trees_are_determined::<KU, VU, E>();
     let items = Entries { rest: entries };
-    let root = ArchivedBTreeMap::<K, V, E>::serialize_from_ordered_iter(
-        alloc,
-        entries.len(),
-        items,
-        one,
-    )?;
+    let root = ArchivedBTreeMap::<K, V, E>::serialize_from_ordered_iter::<
+        &KU,
+        &VU,
+        KU,
+        VU,
+        W,
+        A,
+        _,
+    >(alloc, entries.len(), items, one)?;
     let items = Entries { rest: entries };
     let place = serialize_recursively::<KU, VU, K, V, W, A, _, E>(
         alloc,

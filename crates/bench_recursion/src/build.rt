@@ -139,10 +139,10 @@ where
     requires can { I.can_next iter }
     requires ends { UpTo (I.remaining iter) 18446744073709551615 }
     ensures ok { IfOk result (λ root.
-        Serialised K.kind V.kind E KU.archival VU.archival I.next_gives iter len
+        Serialised K.kind V.kind E KU.archival VU.archival now_of I.next_gives iter len
         (W.state writer.old) root (W.state writer.new)) }
     ensures err { IfErr result (λ fault.
-        BuildFault K.kind V.kind E KU.archival VU.archival I.next_gives iter len
+        BuildFault K.kind V.kind E KU.archival VU.archival now_of I.next_gives iter len
         (W.state writer.old) fault (W.state writer.new)) }
     ensures went { OnOk result (OnlyAppended (W.state writer.old) (W.state writer.new)) }
     ensures memory { NeverGrows KU.archival → NeverGrows VU.archival →
@@ -164,7 +164,7 @@ where
         }));
     }
     let root = write_items::<KU, VU, K, V, W, A, E>(alloc, lists, writer)?;
-    if let Err(miscount) = none_left::<KU, VU, I, AnyOrder>(&mut source, len) {
+    if let Err(miscount) = none_left::<&'x KU, &'x VU, I, AnyOrder>(&mut source, len) {
         return Err(Fault::Length(miscount));
     }
     Ok(root.unwrap_or(0))
@@ -192,19 +192,19 @@ where
     requires can { I.can_next iter }
     requires ends { UpTo (I.remaining iter) 18446744073709551615 }
     ensures ok { IfOk result
-        (BuildsTree K.kind V.kind E KU.archival VU.archival I.next_gives iter len
+        (BuildsTree K.kind V.kind E KU.archival VU.archival now_of I.next_gives iter len
         W.state writer.old writer.new) }
     // With the map after it, the tree is accepted, and means the items. No accepted map with as many entries has fewer nodes,
     // node bytes or levels.
     ensures smallest { IfOk result
-        (BuildsSmallest K.kind V.kind E KU.archival VU.archival I.next_gives iter len
+        (BuildsSmallest K.kind V.kind E KU.archival VU.archival now_of I.next_gives iter len
         W.state writer.old writer.new) }
     // The tree is the only left-complete tree of the items, and the appended bytes are its image.
     ensures one_tree { IfOk result
-        (BuildsOneTree K.kind V.kind E KU.archival VU.archival I.next_gives iter len
+        (BuildsOneTree K.kind V.kind E KU.archival VU.archival now_of I.next_gives iter len
         W.state writer.old writer.new) }
     ensures err { IfErr result
-        (FailsToBuild K.kind V.kind E KU.archival VU.archival I.next_gives iter len
+        (FailsToBuild K.kind V.kind E KU.archival VU.archival now_of I.next_gives iter len
         W.state writer.old writer.new) }
     ensures end { OnOk result (0 < len → position (W.state writer.new) ≤ last_end) }
     // On success no write has failed, and bytes were only appended.
@@ -229,7 +229,7 @@ where
             items: iter,
             look: AnyOrder {},
         };
-        if let Err(miscount) = none_left::<KU, VU, I, AnyOrder>(&mut source, 0) {
+        if let Err(miscount) = none_left::<&'x KU, &'x VU, I, AnyOrder>(&mut source, 0) {
             return Err(Fault::Length(miscount));
         }
         return Ok(0);

@@ -73,7 +73,7 @@ where
     if items.is_empty() {
         return Ok(None);
     }
-    let root = write_leaf::<KU, VU, K, V, W, A, E>(alloc, scratch, items, writer)?;
+    let root = write_leaf::<&KU, &VU, KU, VU, K, V, W, A, E>(alloc, scratch, items, writer)?;
     Ok(Some(root))
 }
 
@@ -152,7 +152,7 @@ where
     let last = write_child::<KU, VU, K, V, W, A, E>(
         alloc, scratch, waiting, children, part, writer,
     )?;
-    let root = write_above::<KU, VU, K, V, W, A, E>(
+    let root = write_above::<&KU, &VU, KU, VU, K, V, W, A, E>(
         alloc,
         scratch,
         waiting,

@@ -6,7 +6,7 @@ use Rattle.std.specs.Ordering.{nat_cmp, is_le, is_ge}
 use Rattle.std.specs.declared.ops.Bound.TheVariants.{Included}
 use Rattle.std.proofs.lemmas.Bool.Decides.{nat_tests}
 use Rattle.std.proofs.lemmas.List.Elements.{filter_agree}
-use Rattle.rkyv_btree.specs.Bounds.{IsRun, IsWithin}
+use Rattle.rkyv_btree_walk.specs.Bounds.{IsRun, IsWithin}
 use Rattle.btreearc_commands.specs.Commands.{IsBetween}
 use Rattle.btreearc_lines.specs.Grammar.{text_of}
 use Rattle.btreearc_commands.specs.Opening.{IsArchive}

@@ -136,7 +136,7 @@ module _ (xs ys : List (ℕ × ℕ)) (same : length xs ≡ length ys) where
 module _ {S : Type 0} (steps : S → Option (Bor ℕ × Bor ℕ) → S → Type 0) (entries : List (ℕ × ℕ)) where
   -- writing the tree of as many entries was stopped
   abbrev Given : {X : Type 0} → S → Writing → Fault X → Writing → Type 0
-  Given {X} iter from fault t = StoppedBuilding u32_kind u32_kind 5 numbers numbers steps {X = X} iter (length entries) from fault t
+  Given {X} iter from fault t = StoppedBuilding u32_kind u32_kind 5 numbers numbers now_of steps {X = X} iter (length entries) from fault t
 
   stopped_tree : {X : Type 0} (iter : S) (from : Writing) (fault : Fault X) (t : Writing) → from ≡ nothing_written → (h : Given iter from fault t) → Stopped nothing_written (tree_writes h.entries) fault t
   stopped_tree iter from fault t start h =
@@ -155,7 +155,7 @@ module _ {S : Type 0} (steps : S → Option (Bor ℕ × Bor ℕ) → S → Type 
         length-append (appended (tree_writes entries)) (appended (root_writes entries)),
       )
 
-  pub unbuilt : {X : Type 0} (iter : S) (from : Writing) (fault : Fault X) (t : Writing) → from ≡ nothing_written → ((items : List (Bor ℕ × Bor ℕ)) → Drains steps iter items → length items ≡ length entries) → BuildFault u32_kind u32_kind 5 numbers numbers steps iter (length entries) from fault t → IsUnbuilt entries fault
+  pub unbuilt : {X : Type 0} (iter : S) (from : Writing) (fault : Fault X) (t : Writing) → from ≡ nothing_written → ((items : List (Bor ℕ × Bor ℕ)) → Drains steps iter items → length items ≡ length entries) → BuildFault u32_kind u32_kind 5 numbers numbers now_of steps iter (length entries) from fault t → IsUnbuilt entries fault
   unbuilt iter from LengthOverflow t start counts (inl h) = h.0
   unbuilt {X} iter from LengthOverflow t start counts (inr h) = absurd (stopped_tree {X = X} iter from LengthOverflow t start h).refused
   unbuilt {X} iter from PositionOverflow t start counts h = unbuilt_past {X = X} h.entries t h.claimed.count (stopped_tree {X = X} iter from PositionOverflow t start h)
@@ -200,7 +200,7 @@ module _ (entries : List (ℕ × ℕ)) (root : ℕ) (s : Writing) (tree : TreeIs
 
 -- what is built and written is accepted
 pub archive_accepted : (entries : List (ℕ × ℕ)) (items : List (Bor ℕ × Bor ℕ)) (root : ℕ) (from s t : Writing) → from.base ≡ 0 → s.base ≡ 0 → map pair items ≡ entries → length items ≤ last_end →
-    (0 < length items → Spelled u32_kind u32_kind 5 from (map (meaning_of u32_kind u32_kind numbers numbers (itself u32_kind) (itself u32_kind)) items) root s) → Wrote s (root_image (position s) root (length entries)) t → position t ≤ last_end → IsArchive t.contents entries
+    (0 < length items → Spelled u32_kind u32_kind 5 from (map (meaning_of u32_kind u32_kind numbers numbers now_of (itself u32_kind) (itself u32_kind)) items) root s) → Wrote s (root_image (position s) root (length entries)) t → position t ≤ last_end → IsArchive t.contents entries
 archive_accepted entries items root from s t start zero are few spelled wrote end =
     let count : length items ≡ length entries = sym (length-map items pair) ∙ ap length are in
     let accepted = accepted_archive u32_kind u32_kind 5 u32_laws u32_laws from s t entries root start zero

@@ -2,6 +2,7 @@
 use Rattle.std.proofs.Common.{◌≡◌, ℕ, List, [], ◌∷◌, ◌++◌, length, map, Bor, inl, inr, sym, ap, subst, ◌∙◌, append_assoc}
 use Rattle.std.specs.Iterator.{Yields, YieldsFirstBy}
 use Rattle.std.specs.Ordering.{nat_cmp}
+use Rattle.rkyv_btree_base.specs.Entries.{now_of}
 use Rattle.rkyv_btree_base.specs.Fault.{Fault}
 use Rattle.rkyv_btree_base.specs.Fault.TheVariants.{Length, LengthOverflow, PositionOverflow, OffsetOverflow, Writer, Memory, Entry, OutOfOrder}
 use Rattle.rkyv_btree_base.specs.Increasing.{IsOutOfOrder}
@@ -41,7 +42,7 @@ in_order_of entries (Entry fault) h = h
 in_order_of entries (OutOfOrder index) h = absurd h
 
 module _ {S : Type 0} (rest : S → List (ℕ × ℕ)) (entries : List (ℕ × ℕ)) (iter : S) (is : rest iter ≡ entries) (from : Writing) (start : from ≡ nothing_written) where
-  pub unbuilt_in_order : {X : Type 0} (fault : Fault X) (t : Writing) → StrictFault nat_cmp u32_kind u32_kind 5 numbers numbers (YieldsFirstBy pair rest) iter (length entries) from fault t → IsUnbuiltInOrder entries fault
+  pub unbuilt_in_order : {X : Type 0} (fault : Fault X) (t : Writing) → StrictFault nat_cmp u32_kind u32_kind 5 numbers numbers now_of (YieldsFirstBy pair rest) iter (length entries) from fault t → IsUnbuiltInOrder entries fault
   unbuilt_in_order (OutOfOrder index) t h = longer entries (map pair h.items) (rest h.rest) index (sym is ∙ yielded_pairs rest iter h.items h.rest h.taken) h.out
   unbuilt_in_order {X} (Length m) t h = unbuilt (YieldsFirstBy pair rest) entries {X = X} iter from (Length m) t start (shown_count rest entries iter is) h.0
   unbuilt_in_order LengthOverflow t (inl h) = h.0

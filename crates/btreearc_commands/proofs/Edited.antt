@@ -13,9 +13,9 @@ use Rattle.rkyv_btree_base.specs.Spells.{Accepted}
 use Rattle.rkyv_btree_base.specs.laws.Natives.{u32_faithful}
 use Rattle.rkyv_btree_base.specs.laws.Scalars.{u32_laws}
 use Rattle.rkyv_btree_base.proofs.Readings.{map_is_read}
-use Rattle.rkyv_btree.specs.Places.{FindsPlace, PutsEntry, SetsFound}
-use Rattle.rkyv_btree.specs.Put.{put_bytes, put_value, WritesValues}
-use Rattle.rkyv_btree.specs.Search.{AnyHit, OrderedBy}
+use Rattle.rkyv_btree_seal.specs.Places.{FindsPlace, PutsEntry, SetsFound}
+use Rattle.rkyv_btree_seal.specs.Put.{put_bytes, put_value, WritesValues}
+use Rattle.rkyv_btree_walk.specs.Search.{AnyHit, OrderedBy}
 use Rattle.btreearc_commands.specs.Opening.{IsArchive, root_of}
 use Rattle.btreearc_commands.specs.Setting.{IsSet, SetsValue, value_start}
 

@@ -6,10 +6,10 @@ use Rattle.std.specs.Prelude.{nat_le}
 use Rattle.std.proofs.lemmas.Cmp.{nat_cmp_total}
 use Rattle.std.proofs.lemmas.List.{append-nil, get_or_default}
 use Rattle.rkyv_btree_base.specs.Refusal.{Refusal}
-use Rattle.rkyv_btree.specs.Query.{IsCut}
-use Rattle.rkyv_btree.specs.Search.{AnyHit, IsHit, OrderedBy}
-use Rattle.rkyv_btree.specs.laws.Cuts.{order_cuts}
-use Rattle.rkyv_btree.specs.laws.Increasing.{increasing_ordered}
+use Rattle.rkyv_btree_view.specs.Query.{IsCut}
+use Rattle.rkyv_btree_walk.specs.Search.{AnyHit, IsHit, OrderedBy}
+use Rattle.rkyv_btree_view.specs.laws.Cuts.{order_cuts}
+use Rattle.rkyv_btree_view.specs.laws.Increasing.{increasing_ordered}
 use Rattle.btreearc_commands.specs.Commands.{FailsOnArchive, Lists, Checks, Gets, Ranges, PrintsValue, total}
 use Rattle.btreearc_lines.specs.Grammar.{text_of}
 use Rattle.btreearc_commands.specs.Opening.{IsArchive, RefusesArchive, found_in_archive}

@@ -17,9 +17,9 @@ use Rattle.rkyv_btree_base.specs.Spells.{Accepted}
 use Rattle.rkyv_btree_base.specs.Writing.{Writing, position}
 use Rattle.rkyv_btree_base.proofs.Accepting.{archive_length}
 use Rattle.rkyv_btree_base.proofs.TreeSerialised.{entries_drained}
-use Rattle.rkyv_btree.specs.Deserializing.{both, all}
-use Rattle.rkyv_btree.specs.Maps.{last_wins, map_given, model_both}
-use Rattle.rkyv_btree.specs.Migrated.{AreNative, Migrates, MigratesToStrict, IsUnmade, FailsToMigrate}
+use Rattle.rkyv_btree_convert.specs.Deserializing.{both, all}
+use Rattle.rkyv_btree_convert.specs.Maps.{last_wins, map_given, model_both}
+use Rattle.rkyv_btree_strict.specs.Migrated.{AreNative, Migrates, MigratesToStrict, IsUnmade, FailsToMigrate}
 use Rattle.btreearc_commands.specs.Archive.{archive_of, HasArchive, IsUnbuilt}
 use Rattle.btreearc_commands.specs.Commands.{last_values}
 use Rattle.btreearc_commands.specs.Opening.{IsArchive, entries_read, root_of}

@@ -10,7 +10,7 @@ use Rattle.std.specs.declared.cmp.Ordering.TheVariants.{Less}
 use Rattle.std.proofs.lemmas.Bool.{eq-eqb, ne_eqb}
 use Rattle.std.proofs.lemmas.Bool.Decides.{nat_tests}
 use Rattle.std.proofs.lemmas.List.{append_cancel_left}
-use Rattle.rkyv_btree.specs.Put.{put_value}
+use Rattle.rkyv_btree_seal.specs.Put.{put_value}
 use Rattle.btreearc_commands.specs.Commands.{Sets, IsSetOut}
 use Rattle.btreearc_commands.specs.Opening.{IsArchive, place_in_archive}
 use Rattle.btreearc_commands.specs.Sessions.{Writes, AlwaysWrites, AlwaysPrints, IsSetIn, KeysIncrease, keys, with_value}

@@ -10,8 +10,8 @@ use Rattle.rkyv_btree_base.specs.Fault.{Fault}
 use Rattle.rkyv_btree_base.specs.Fault.TheVariants.{Length, LengthOverflow, PositionOverflow, OffsetOverflow, Writer, Memory as NoRoom, Entry, OutOfOrder}
 use Rattle.rkyv_btree_base.specs.Increasing.{Increasing, IsOutOfOrder}
 use Rattle.rkyv_btree_base.specs.Refusal.{Refusal}
-use Rattle.rkyv_btree.specs.Maps.{CountsLast, last_wins}
-use Rattle.rkyv_btree.specs.Strict.{no_map, out_of_order}
+use Rattle.rkyv_btree_convert.specs.Maps.{CountsLast, last_wins}
+use Rattle.rkyv_btree_strict.specs.Strict.{no_map, out_of_order}
 use Rattle.btreearc_commands.specs.Archive.{archive_of, HasArchive, IsUnbuilt}
 use Rattle.btreearc_commands.specs.Commands.{ChecksStrict, Migrates, last_values, total}
 use Rattle.btreearc_commands.specs.Opening.{IsArchive, RefusesArchive, RefusesStrictArchive}

@@ -4,9 +4,9 @@ use Rattle.std.specs.Prelude.{IfSome, MatchOption, Result, Ok, Err, codes, decim
 use Rattle.std.specs.Io.KnownBytes.{Appends}
 use Rattle.std.specs.Ordering.{nat_cmp}
 use Rattle.rkyv_btree_base.specs.Increasing.{Increasing}
-use Rattle.rkyv_btree.specs.Bounds.{IsRun}
-use Rattle.rkyv_btree.specs.Maps.{last_wins}
-use Rattle.rkyv_btree.specs.Search.{OrderedBy}
+use Rattle.rkyv_btree_walk.specs.Bounds.{IsRun}
+use Rattle.rkyv_btree_convert.specs.Maps.{last_wins}
+use Rattle.rkyv_btree_walk.specs.Search.{OrderedBy}
 use Rattle.btreearc_commands.specs.Archive.{archive_of, HasArchive, IsUnbuilt, IsUnbuiltInOrder}
 use Rattle.btreearc_lines.specs.Grammar.{IsLines, BadLine, text_of}
 use Rattle.btreearc_commands.specs.Opening.{IsArchive, RefusesArchive, RefusesStrictArchive, found_in_archive, place_in_archive}

@@ -8,8 +8,8 @@ use Rattle.rkyv_btree_base.specs.Scalars.{u32_kind}
 use Rattle.rkyv_btree_base.specs.Read.{entry_at, map_tree, read_map}
 use Rattle.rkyv_btree_base.specs.Layout.{layout_of}
 use Rattle.rkyv_btree_base.specs.Spells.{Accepted}
-use Rattle.rkyv_btree.specs.Search.{probe}
-use Rattle.rkyv_btree.specs.Strict.{RefusesStrict}
+use Rattle.rkyv_btree_walk.specs.Search.{probe}
+use Rattle.rkyv_btree_strict.specs.Strict.{RefusesStrict}
 use Rattle.btreearc_lines.specs.declared.fault.ProgramFault.{ProgramFault}
 use Rattle.btreearc_lines.specs.declared.fault.ProgramFault.TheVariants.{Refused}
 

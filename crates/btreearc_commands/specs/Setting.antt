@@ -4,9 +4,9 @@ use Rattle.std.specs.Int.{w32, to_le_bytes}
 use Rattle.std.specs.Option.{IsSomeAnd}
 use Rattle.std.specs.Ordering.{nat_cmp}
 use Rattle.rkyv_btree_base.specs.Scalars.{u32_kind}
-use Rattle.rkyv_btree.specs.Places.{IsNumber}
-use Rattle.rkyv_btree.specs.Put.{put_bytes, put_value, value_place}
-use Rattle.rkyv_btree.specs.Search.{OrderedBy}
+use Rattle.rkyv_btree_seal.specs.Places.{IsNumber}
+use Rattle.rkyv_btree_seal.specs.Put.{put_bytes, put_value, value_place}
+use Rattle.rkyv_btree_walk.specs.Search.{OrderedBy}
 use Rattle.btreearc_commands.specs.Opening.{IsArchive, root_of, place_in_archive}
 
 -- where the value of an entry stands

@@ -1,11 +1,11 @@
 //! The text of entries.
 ghost use Rattle.std.specs.Prelude.{◌≡◌, ◌++◌, List, ℕ, OnOk, ◌↔◌, string_bytes};
 ghost use Rattle.std.specs.Iterator.{IsFinite};
-ghost use Rattle.rkyv_btree.specs.View.{view_entry};
+ghost use Rattle.rkyv_btree_view.specs.View.{view_entry};
 ghost use Rattle.btreearc_lines.specs.Grammar.{AppendsLines, text_of, line, AreShort, IsLines, IsSpelled};
 
-use rkyv_btree::view::View;
 use rkyv_btree_base::numbers::ArchivedU32;
+use rkyv_btree_view::view::View;
 use std::alloc::AllocError;
 
 /// Writes an entry's line at the end.

@@ -8,11 +8,12 @@ ghost use Rattle.btreearc_commands.specs.Opening.{IsArchive, IsStrictOpenFault, 
 
 use crate::opening::{Numbers, open};
 use btreearc_lines::fault::ProgramFault;
-use rkyv_btree::laws::maps_are_given_by_entries;
-use rkyv_btree::strict::{StrictView, migrate};
-use rkyv_btree::view::View;
 use rkyv_btree_base::numbers::ArchivedU32;
 use rkyv_btree_base::place::VecWriter;
+use rkyv_btree_convert::native_map::maps_are_given_by_entries;
+use rkyv_btree_strict::migrate::migrate;
+use rkyv_btree_strict::strict_map::StrictView;
+use rkyv_btree_view::view::View;
 use std::alloc::Global;
 
 /// How many entries an archive has whose keys increase.

@@ -4,12 +4,12 @@ ghost use Rattle.rkyv_btree_base.specs.Refusal.{Refusal};
 ghost use Rattle.btreearc_commands.specs.Opening.{IsArchive, IsOpenFault, RefusesArchive, entries_read, root_of};
 
 use btreearc_lines::fault::ProgramFault;
-use rkyv_btree::map::access;
-use rkyv_btree::view::View;
 use rkyv_btree_base::laws::faults_are_exact;
 use rkyv_btree_base::map::ArchivedBTreeMap;
 use rkyv_btree_base::numbers::ArchivedU32;
 use rkyv_btree_base::refusal::Refusal;
+use rkyv_btree_view::map_view::access;
+use rkyv_btree_view::view::View;
 
 /// The maps that the program archives.
 pub type Numbers = ArchivedBTreeMap<ArchivedU32, ArchivedU32, 5>;

@@ -4,9 +4,9 @@ ghost use Rattle.btreearc_commands.specs.Opening.{IsArchive, root_of};
 ghost use Rattle.btreearc_commands.specs.Setting.{SetsValue};
 
 use crate::opening::Numbers;
-use rkyv_btree::laws::writes_put_values;
-use rkyv_btree::map::MapSeal;
 use rkyv_btree_base::numbers::ArchivedU32;
+use rkyv_btree_seal::edit_laws::writes_put_values;
+use rkyv_btree_seal::map_seal::MapSeal;
 
 /// Replaces the value of the entry that a search of an archive for the key finds, and no other byte,
 /// and returns whether it finds one. `open` is the test for an archive, and gives its root.

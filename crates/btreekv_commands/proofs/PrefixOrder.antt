@@ -7,7 +7,7 @@ use Rattle.std.specs.List.Sorted.{IsStrictlySortedBy}
 use Rattle.std.specs.Ordering.{nat_cmp, ordering_then, is_le, is_ge}
 use Rattle.std.specs.declared.cmp.Ordering.{Ordering}
 use Rattle.std.specs.declared.cmp.Ordering.TheVariants.{Less, Equal, Greater}
-use Rattle.rkyv_btree.specs.Search.{OrderedBy}
+use Rattle.rkyv_btree_walk.specs.Search.{OrderedBy}
 use Rattle.btreekv_commands.specs.Lines.{Entry}
 use Rattle.btreekv_commands.specs.Opening.{KeysIncrease}
 use Rattle.btreekv_commands.specs.Prefixes.{prefix_cmp}

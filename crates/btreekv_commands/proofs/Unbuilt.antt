@@ -119,18 +119,18 @@ module _ (archived : IsArchived Texts) (causes : HasCauses Texts) (native : List
   begun items behind yields = (rest behind, sym is ∙ yielded_pairs rest iter items behind yields)
 
   -- why it isn't written
-  pub unbuilt : (fault : Fault AllocError) (t : Writing) → (length native ≡ 0 → IsMiscount fault) → BuildFault text_kind text_kind 5 Texts Texts (YieldsFirstBy pair rest) iter (length native) from fault t → IsUnbuilt (map texts_of native) fault
+  pub unbuilt : (fault : Fault AllocError) (t : Writing) → (length native ≡ 0 → IsMiscount fault) → BuildFault text_kind text_kind 5 Texts Texts now_of (YieldsFirstBy pair rest) iter (length native) from fault t → IsUnbuilt (map texts_of native) fault
   unbuilt fault t none h =
       let why : IsUnserialised entries_archival native from fault t =
-      list_unserialised 5 text_kind text_kind Texts Texts (itself text_kind) (itself text_kind) text_laws text_laws texts_fit (λ entries. entries) native from t (YieldsFirstBy pair rest) iter (length native) all_given archived archived causes causes begun refl (Err fault) none h in
+      list_unserialised 5 text_kind text_kind Texts Texts (itself text_kind) (itself text_kind) text_laws text_laws texts_fit (λ entries. entries) native from t now_of (YieldsFirstBy pair rest) iter (length native) all_given archived archived causes causes begun refl (Err fault) none h in
       (native, refl, inl (t, subst (λ (w : Writing). IsUnserialised entries_archival native w fault t) start why))
 
   -- the map isn't written after it
-  pub rootless : (root : ℕ) (s t : Writing) (fault : Fault AllocError) → length native ≤ last_end → Serialised text_kind text_kind 5 Texts Texts (YieldsFirstBy pair rest) iter (length native) from root s → RootFault root (length native) s fault t → IsUnbuilt (map texts_of native) fault
+  pub rootless : (root : ℕ) (s t : Writing) (fault : Fault AllocError) → length native ≤ last_end → Serialised text_kind text_kind 5 Texts Texts now_of (YieldsFirstBy pair rest) iter (length native) from root s → RootFault root (length native) s fault t → IsUnbuilt (map texts_of native) fault
   rootless root s t fault few built h =
       let result : Result ℕ (Fault AllocError) = Ok root in
       let written : Serialises entries_archival native from s root =
-      list_serialised 5 text_kind text_kind Texts Texts (itself text_kind) (itself text_kind) text_laws text_laws texts_fit (λ entries. entries) native from s (YieldsFirstBy pair rest) iter (length native) all_given result built in
+      list_serialised 5 text_kind text_kind Texts Texts (itself text_kind) (itself text_kind) text_laws text_laws texts_fit (λ entries. entries) native from s now_of (YieldsFirstBy pair rest) iter (length native) all_given result built in
       (native, refl, inr (s, root, subst (λ (w : Writing). Serialises entries_archival native w s root) start written, unplaced native root s fault t few h))
 
 -- A value whose entries these are has no archive for the same causes.
@@ -192,12 +192,12 @@ out_of_order native items later index is o = record {
 
 module _ (archived : IsArchived Texts) (causes : HasCauses Texts) (native : List Native) {S : Type 0} (rest : S → List Native) (iter : S) (is : rest iter ≡ native) (from : Writing) (start : from ≡ fresh) where
   abbrev Why : Fault AllocError → Writing → Type 0
-  Why fault t = BuildFault text_kind text_kind 5 Texts Texts (YieldsFirstBy pair rest) iter (length native) from fault t
+  Why fault t = BuildFault text_kind text_kind 5 Texts Texts now_of (YieldsFirstBy pair rest) iter (length native) from fault t
 
   because : (fault : Fault AllocError) (t : Writing) → (length native ≡ 0 → IsMiscount fault) → Why fault t → IsUnbuilt (map texts_of native) fault
   because = unbuilt archived causes native rest iter is from start
 
-  pub unbuilt_in_order : (fault : Fault AllocError) (t : Writing) → (length native ≡ 0 → IsMiscount fault) → StrictFault string_cmp text_kind text_kind 5 Texts Texts (YieldsFirstBy pair rest) iter (length native) from fault t → IsUnbuiltInOrder (map texts_of native) fault
+  pub unbuilt_in_order : (fault : Fault AllocError) (t : Writing) → (length native ≡ 0 → IsMiscount fault) → StrictFault string_cmp text_kind text_kind 5 Texts Texts now_of (YieldsFirstBy pair rest) iter (length native) from fault t → IsUnbuiltInOrder (map texts_of native) fault
   unbuilt_in_order (OutOfOrder index) t none h = out_of_order native (map now_of h.items) (rest h.rest) index (sym is ∙ yielded_pairs rest iter h.items h.rest h.taken) h.out
   unbuilt_in_order (Length m) t none h = because (Length m) t none h.0
   unbuilt_in_order LengthOverflow t none (inl h) = because LengthOverflow t none (inl h)
@@ -209,7 +209,7 @@ module _ (archived : IsArchived Texts) (causes : HasCauses Texts) (native : List
   unbuilt_in_order (Memory error) t none (inr h) = because (Memory error) t none (inr h.0)
   unbuilt_in_order (Entry fault) t none h = because (Entry fault) t none h.0
 
-  pub rootless_in_order : (root : ℕ) (s t : Writing) (fault : Fault AllocError) → length native ≤ last_end → Serialised text_kind text_kind 5 Texts Texts (YieldsFirstBy pair rest) iter (length native) from root s → RootFault root (length native) s fault t → IsUnbuiltInOrder (map texts_of native) fault
+  pub rootless_in_order : (root : ℕ) (s t : Writing) (fault : Fault AllocError) → length native ≤ last_end → Serialised text_kind text_kind 5 Texts Texts now_of (YieldsFirstBy pair rest) iter (length native) from root s → RootFault root (length native) s fault t → IsUnbuiltInOrder (map texts_of native) fault
   rootless_in_order root s t (OutOfOrder index) few built h = absurd h
   rootless_in_order root s t (Length m) few built h = absurd h
   rootless_in_order root s t LengthOverflow few built h = rootless archived causes native rest iter is from start root s t LengthOverflow few built h

@@ -11,7 +11,7 @@ use Rattle.rkyv_btree_base.specs.Increasing.{IsOutOfOrder}
 use Rattle.rkyv_btree_base.specs.TextArchival.{text_archival}
 use Rattle.rkyv_btree_base.specs.TreeArchival.{tree_archival}
 use Rattle.rkyv_btree_base.specs.Whole.{IsUnarchived}
-use Rattle.rkyv_btree.specs.Maps.{last_wins}
+use Rattle.rkyv_btree_convert.specs.Maps.{last_wins}
 use Rattle.btreearc_lines.specs.declared.fault.ProgramFault.{ProgramFault}
 use Rattle.btreearc_lines.specs.declared.fault.ProgramFault.TheVariants.{NotBuilt}
 use Rattle.btreekv_commands.specs.Lines.{Entry}

@@ -10,8 +10,8 @@ use Rattle.rkyv_btree_base.specs.Fault.{Fault}
 use Rattle.rkyv_btree_base.specs.Refusal.{Refusal}
 use Rattle.rkyv_btree_base.specs.Text.{text_kind}
 use Rattle.rkyv_btree_base.specs.Whole.{own_at}
-use Rattle.rkyv_btree.specs.Bounds.{IsRun, IsWithin}
-use Rattle.rkyv_btree.specs.Lookup.{found_at}
+use Rattle.rkyv_btree_walk.specs.Bounds.{IsRun, IsWithin}
+use Rattle.rkyv_btree_view.specs.Lookup.{found_at}
 use Rattle.btreearc_lines.specs.declared.fault.ProgramFault.{ProgramFault}
 use Rattle.btreearc_lines.specs.declared.fault.ProgramFault.TheVariants.{Line, Refused, NotBuilt, InputFailed, OutputFailed, Memory}
 use Rattle.btreekv_commands.specs.Building.{last_values, IsUnbuilt, IsUnbuiltInOrder}

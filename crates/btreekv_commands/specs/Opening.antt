@@ -9,8 +9,8 @@ use Rattle.rkyv_btree_base.specs.Refusal.{Refusal}
 use Rattle.rkyv_btree_base.specs.Refusals.{RefusesMap}
 use Rattle.rkyv_btree_base.specs.Text.{text_kind}
 use Rattle.rkyv_btree_base.specs.Whole.{IsArchiveOf}
-use Rattle.rkyv_btree.specs.Strict.{RefusesStrict}
-use Rattle.rkyv_btree.specs.Whole.{IsUnopened}
+use Rattle.rkyv_btree_strict.specs.Strict.{RefusesStrict}
+use Rattle.rkyv_btree_convert.specs.Whole.{IsUnopened}
 use Rattle.btreearc_lines.specs.declared.fault.ProgramFault.{ProgramFault}
 use Rattle.btreearc_lines.specs.declared.fault.ProgramFault.TheVariants.{Refused}
 use Rattle.btreekv_commands.specs.Lines.{Entry}

@@ -11,12 +11,12 @@ ghost use Rattle.btreekv_commands.specs.Texts.{texts_of};
 
 use crate::opening::Texts;
 use btreearc_lines::fault::ProgramFault;
-use rkyv_btree::laws::last_values_count;
 use rkyv_btree_base::archive::Archive;
 use rkyv_btree_base::laws::written_maps_are_held;
 use rkyv_btree_base::place::VecWriter;
 use rkyv_btree_base::text::ArchivedText;
 use rkyv_btree_base::whole::to_archive;
+use rkyv_btree_convert::native_map::last_values_count;
 use std::alloc::Global;
 use std::collections::BTreeMap;
 

@@ -1,11 +1,11 @@
 //! Texts and entries as JSON.
 ghost use Rattle.std.specs.Prelude.{◌≡◌, ◌++◌, ◌<◌, OnOk};
 ghost use Rattle.std.specs.Iterator.{IsFinite};
-ghost use Rattle.rkyv_btree.specs.View.{view_entry};
+ghost use Rattle.rkyv_btree_view.specs.View.{view_entry};
 ghost use Rattle.btreekv_commands.specs.Json.{AppendsObject, escaped, hex_digit, json_string, member, short_escape};
 
-use rkyv_btree::view::View;
 use rkyv_btree_base::text::ArchivedText;
+use rkyv_btree_view::view::View;
 use std::alloc::AllocError;
 
 /// Returns the hexadecimal digit of a number below 16.

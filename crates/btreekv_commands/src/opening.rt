@@ -2,15 +2,15 @@
 ghost use Rattle.std.specs.Prelude.{◌≡◌, IfOk, IfErr};
 ghost use Rattle.rkyv_btree_base.specs.Text.{text_kind};
 ghost use Rattle.rkyv_btree_base.specs.Whole.{own_at};
-ghost use Rattle.rkyv_btree.specs.View.{entries_of};
+ghost use Rattle.rkyv_btree_view.specs.View.{entries_of};
 ghost use Rattle.btreekv_commands.specs.Opening.{texts, CountsStrict, IsArchive, IsOpenFault, RefusesArchive, RefusesStrictArchive};
 
 use btreearc_lines::fault::ProgramFault;
-use rkyv_btree::strict::open_strict;
-use rkyv_btree::view::View;
-use rkyv_btree::whole;
 use rkyv_btree_base::map::ArchivedBTreeMap;
 use rkyv_btree_base::text::ArchivedText;
+use rkyv_btree_convert::from_archive as whole;
+use rkyv_btree_strict::strict::open_strict;
+use rkyv_btree_view::view::View;
 
 /// The maps that the program archives.
 pub type Texts = ArchivedBTreeMap<ArchivedText, ArchivedText, 5>;

@@ -1,16 +1,16 @@
 //! Entries whose keys begin with a text.
 ghost use Rattle.std.specs.Prelude.{◌≡◌};
 ghost use Rattle.std.specs.Iterator.{IsFinite};
-ghost use Rattle.rkyv_btree.specs.Items.{ShowsAll};
-ghost use Rattle.rkyv_btree.specs.Range.{range_left};
-ghost use Rattle.rkyv_btree.specs.View.{entries_of, view_entry};
+ghost use Rattle.rkyv_btree_view.specs.Items.{ShowsAll};
+ghost use Rattle.rkyv_btree_view.specs.Range.{range_left};
+ghost use Rattle.rkyv_btree_view.specs.View.{entries_of, view_entry};
 ghost use Rattle.rkyv_btree_base.specs.Text.{text_kind};
 ghost use Rattle.btreekv_commands.specs.Prefixes.{HasPrefix, prefix_cmp};
 
 use crate::opening::Texts;
-use rkyv_btree::range::Range;
-use rkyv_btree::view::View;
 use rkyv_btree_base::text::ArchivedText;
+use rkyv_btree_view::range::Range;
+use rkyv_btree_view::view::View;
 use std::cmp::Ordering;
 use std::ops::Bound;
 

@@ -4,8 +4,12 @@ use crate::reading::Prices;
 use anyhow::Result;
 use rkyv_btree::prelude::*;
 use std::alloc::Global;
+use std::collections::BTreeMap;
 use std::fs::File;
 use std::io::{BufWriter, Write};
+
+/// Numbers by numbers.
+pub type Squares = Archived<BTreeMap<u32, u64>>;
 
 /// Serializes a list of prices, in its own order. Returns the bytes, and the position of the map in them.
 pub fn archive_of(alloc: Global, prices: &[(String, u64)]) -> Result<(Vec<u8>, u32)> {
@@ -30,4 +34,14 @@ pub fn write_to(alloc: Global, file: File, prices: &[(String, u64)]) -> Result<u
     let root = Prices::write_root(prices.len(), tree, &mut writer)?;
     writer.into_inner().flush()?;
     Ok(root)
+}
+
+/// Returns the archive of the squares of the numbers below `count`. Each is computed when the builder takes it.
+pub fn squares(alloc: Global, count: u32) -> Result<Vec<u8>> {
+    sizes_fit::<Squares>();
+    let items = (0..count).map(|n: u32| (n, u64::from(n).wrapping_mul(u64::from(n))));
+    let mut writer = VecWriter::new(alloc);
+    let tree = Squares::serialize_from_ordered_iter(alloc, count as usize, items, &mut writer)?;
+    Squares::write_root(count as usize, tree, &mut writer)?;
+    Ok(writer.into_vec())
 }

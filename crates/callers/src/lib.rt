@@ -3,6 +3,7 @@
 
 pub mod building;
 pub mod editing;
+pub mod merging;
 pub mod reading;
 #[cfg(test)]
 mod tried;

@@ -1,7 +1,8 @@
 //! The callers, run once each on a list of two prices.
 
-use crate::building::archive_of;
+use crate::building::{Squares, archive_of, squares};
 use crate::editing::{double_all, double_along, raise_price, set_price};
+use crate::merging::merge;
 use crate::reading::{
     Prices, count, first_above, first_longer, price_in, price_in_strict, price_unverified,
     price_with, total, total_between, total_between_unverified, total_unverified,
@@ -53,6 +54,42 @@ fn prices_are_edited(rt: HostRuntime) -> Result<(), Fail> {
     assert_eq!(rt; price_unverified(bytes.as_slice(), "pear")?, Some(40));
     assert_eq!(rt; total_unverified(bytes.as_slice())?, 52);
     assert_eq!(rt; total_between_unverified(bytes.as_slice(), "b", "q")?, 40);
+    Ok(())
+}
+
+#[test]
+fn squares_are_read(rt: HostRuntime) -> Result<(), Fail> {
+    let bytes = squares(rt.alloc(), 1000)?;
+    sizes_fit::<Squares>();
+    let map = open::<Squares>(bytes.as_slice())?;
+    assert_eq!(rt; map.len(), 1000);
+    let (_, square) = map.get_key_value_by(999).expect(&rt, "a square");
+    assert_eq!(rt; square.to_native(), 998001);
+    Ok(())
+}
+
+#[test]
+fn counts_are_merged(rt: HostRuntime) -> Result<(), Fail> {
+    let alloc = rt.alloc();
+    let left = two(alloc)?;
+    let more = [
+        (String::from_str(alloc, "fig")?, 7),
+        (String::from_str(alloc, "pear")?, 2),
+        (String::from_str(alloc, "quince")?, 9),
+    ];
+    let (right, _) = archive_of(alloc, &more)?;
+    sizes_fit::<Prices>();
+    let one = open_strict::<ArchivedText, ArchivedU64, 5>(left.as_slice())?;
+    let other = open_strict::<ArchivedText, ArchivedU64, 5>(right.as_slice())?;
+    let mut writer = VecWriter::new(alloc);
+    merge(alloc, one, other, &mut writer)?;
+    let bytes = writer.into_vec();
+    let map = open_strict::<ArchivedText, ArchivedU64, 5>(bytes.as_slice())?;
+    assert_eq!(rt; map.len(), 4);
+    assert_eq!(rt; map.get_native_by("apple"), Some(3));
+    assert_eq!(rt; map.get_native_by("fig"), Some(7));
+    assert_eq!(rt; map.get_native_by("pear"), Some(7));
+    assert_eq!(rt; map.get_native_by("quince"), Some(9));
     Ok(())
 }
 

@@ -8,7 +8,7 @@ use Rattle.std.specs.Prelude.{◌↔◌, Bool, Result, Ok, Err, IsOk, IsSome, If
 use Rattle.std.specs.declared.cmp.Ordering.{Ordering}
 use Rattle.rkyv_btree_base.specs.Archiving.{Archival}
 use Rattle.rkyv_btree_base.specs.Archives.{WrittenIsHeld}
-use Rattle.rkyv_btree_base.specs.Entries.{now_of}
+use Rattle.rkyv_btree_base.specs.Entries.{now_of, now_of_key}
 use Rattle.rkyv_btree_base.specs.Image.{root_image}
 use Rattle.rkyv_btree_base.specs.Kept.{OnlyAppended}
 use Rattle.rkyv_btree_base.specs.Kind.{Kind, IsLawful}
@@ -37,7 +37,7 @@ module _ {M N R S : Type 0} (K V : Kind) (E : ℕ) (KA : Archival M R) (VA : Arc
       rw (at, is) (smallest key value last.contents (round_up (position mid) 4) (rw count at there))
 
   module _ {P : Type 0} (steps : P → Option (Bor M × Bor N) → P → Type 0) (iter : P) where
-    pub items_archived : start ≡ fresh → BuildsSmallest K V E KA VA steps iter len (λ w. w) start mid root → OnlyAppended start mid → Wrote mid (root_image (position mid) root len) last → position last ≤ last_end → pos ≡ round_up (position mid) 4 → bytes ≡ last.contents →
+    pub items_archived : start ≡ fresh → BuildsSmallest K V E KA VA now_of steps iter len (λ w. w) start mid root → OnlyAppended start mid → Wrote mid (root_image (position mid) root len) last → position last ≤ last_end → pos ≡ round_up (position mid) 4 → bytes ≡ last.contents →
         IsArchiveOfItems K V E KA VA steps iter len bytes pos
     items_archived begun builds only wrote end at is = record {
       items = builds.0.items;
@@ -47,13 +47,13 @@ module _ {M N R S : Type 0} (K V : Kind) (E : ℕ) (KA : Archival M R) (VA : Arc
     }
 
 -- so of a set
-pub keys_archived : {M R P : Type 0} (K : Kind) (E : ℕ) (KA : Archival M R) (held : WrittenIsHeld) (start mid last : Writing) (root len pos : ℕ) (bytes : List ℕ) (steps : P → Option (Bor M) → P → Type 0) (iter : P) → start ≡ fresh → BuildsSmallestSet K E KA steps iter len (λ w. w) start mid root → OnlyAppended start mid → Wrote mid (root_image (position mid) root len) last → position last ≤ last_end → pos ≡ round_up (position mid) 4 → bytes ≡ last.contents →
+pub keys_archived : {M R P : Type 0} (K : Kind) (E : ℕ) (KA : Archival M R) (held : WrittenIsHeld) (start mid last : Writing) (root len pos : ℕ) (bytes : List ℕ) (steps : P → Option (Bor M) → P → Type 0) (iter : P) → start ≡ fresh → BuildsSmallestSet K E KA now_of_key steps iter len (λ w. w) start mid root → OnlyAppended start mid → Wrote mid (root_image (position mid) root len) last → position last ≤ last_end → pos ≡ round_up (position mid) 4 → bytes ≡ last.contents →
     IsArchiveOfKeys K E KA steps iter len bytes pos
 keys_archived K E KA held start mid last root len pos bytes steps iter begun builds only wrote end at is = record {
   keys = builds.0.keys;
   all = builds.0.all;
   count = builds.0.count;
-  smallest = smallest_written K unit_kind E KA unit_archival held start mid last root len pos bytes begun (unit_entries builds.0.keys) (sym (length-map builds.0.keys (λ k. (k.now, tt)) ∙ builds.0.count)) builds.1 only wrote end at is;
+  smallest = smallest_written K unit_kind E KA unit_archival held start mid last root len pos bytes begun (unit_entries now_of_key builds.0.keys) (sym (length-map builds.0.keys (λ k. (k.now, tt)) ∙ builds.0.count)) builds.1 only wrote end at is;
 }
 
 module _ (K V : Kind) (E : ℕ) (k : IsLawful K) (v : IsLawful V) (b : List ℕ) (pos : ℕ) (m : List (K.Value × V.Value)) (is : IsMap K V E b pos m) where

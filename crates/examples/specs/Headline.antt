@@ -5,7 +5,7 @@ use Rattle.std.specs.Iterator.{Drains}
 use Rattle.std.specs.declared.cmp.Ordering.{Ordering}
 use Rattle.std.specs.declared.cmp.Ordering.TheVariants.{Equal}
 use Rattle.rkyv_btree_base.specs.Archiving.{Archival, Matches}
-use Rattle.rkyv_btree_base.specs.Entries.{now_of}
+use Rattle.rkyv_btree_base.specs.Entries.{now_of, now_of_key}
 use Rattle.rkyv_btree_base.specs.InPlace.{value_of}
 use Rattle.rkyv_btree_base.specs.Kind.{Kind}
 use Rattle.rkyv_btree_base.specs.Scalars.{unit_kind}
@@ -44,7 +44,7 @@ pub record IsArchiveOfKeys {M R P : Type 0} (K : Kind) (E : ℕ) (KA : Archival 
   pub keys : List (Bor M)
   pub all : Drains steps iter keys
   pub count : length keys ≡ claim
-  pub smallest : IsSmallestOf K unit_kind E KA unit_archival (unit_entries keys) bytes pos
+  pub smallest : IsSmallestOf K unit_kind E KA unit_archival (unit_entries now_of_key keys) bytes pos
 
 -- no list is what the bytes mean
 abbrev pub IsNoMap : Kind → Kind → ℕ → List ℕ → ℕ → Type 0

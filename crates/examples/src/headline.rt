@@ -3,10 +3,11 @@ ghost use Rattle.std.specs.Iterator.{IsFinite, UpTo};
 ghost use Rattle.std.specs.Option.{option_map};
 ghost use Rattle.std.specs.Prelude.{◌≡◌, List, length, map, IsTrue, IfOk, IfErr, OnErr};
 ghost use Rattle.std.specs.Range.Bound.{bound_map};
+ghost use Rattle.rkyv_btree_base.specs.Entries.{now_of, now_of_key};
 ghost use Rattle.rkyv_btree_base.specs.Layout.{are_fitting};
 ghost use Rattle.rkyv_btree_base.specs.Scalars.{unit_kind};
 ghost use Rattle.rkyv_btree_base.specs.Serialising.{BuildFault, Serialised};
-ghost use Rattle.rkyv_btree_base.specs.Sets.{BuildsSet, entries_by, unit_archival, with_units};
+ghost use Rattle.rkyv_btree_base.specs.Sets.{BuildsSet, entries_by, entry_borrowed, unit_archival, with_units};
 ghost use Rattle.rkyv_btree_base.specs.TreeArchival.{tree_archival};
 ghost use Rattle.rkyv_btree_base.specs.Archiving.{IsUnserialised, Serialises};
 ghost use Rattle.rkyv_btree_base.specs.Whole.{fresh};
@@ -64,8 +65,8 @@ where
         IsArchiveOfItems K.kind V.kind E KU.archival VU.archival I.next_gives iter len
         made.bytes.items made.pos) }
     ensures refused { IfErr result (HasCause
-        (BuildFault K.kind V.kind E KU.archival VU.archival I.next_gives iter len fresh)
-        (Serialised K.kind V.kind E KU.archival VU.archival I.next_gives iter len fresh) len) }
+        (BuildFault K.kind V.kind E KU.archival VU.archival now_of I.next_gives iter len fresh)
+        (Serialised K.kind V.kind E KU.archival VU.archival now_of I.next_gives iter len fresh) len) }
 {
     written_maps_are_held();
     let mut writer = VecWriter::new(alloc);
@@ -101,9 +102,10 @@ where
     ensures smallest { IfOk result (λ made.
         IsArchiveOfKeys K.kind E KU.archival I.next_gives iter len made.bytes.items made.pos) }
     ensures refused { IfErr result (HasCause
-        (BuildFault K.kind unit_kind E KU.archival unit_archival (entries_by I.next_gives) iter len
-        fresh)
-        (λ root mid. BuildsSet K.kind E KU.archival I.next_gives iter len (λ w. w) fresh mid root)
+        (BuildFault K.kind unit_kind E KU.archival unit_archival (entry_borrowed now_of_key)
+        (entries_by I.next_gives) iter len fresh)
+        (λ root mid. BuildsSet K.kind E KU.archival now_of_key I.next_gives iter len (λ w. w) fresh
+        mid root)
         len) }
 {
     written_maps_are_held();

@@ -4,6 +4,7 @@
 mod archives;
 mod growths;
 mod items;
+mod lending;
 mod reads;
 mod rooms;
 mod streams;
@@ -33,6 +34,7 @@ fn show_all(alloc: Global, out: &mut String) -> anyhow::Result<()> {
     writes::show_positions(alloc, out)?;
     writes::show_orders(alloc, out)?;
     items::show(alloc, out)?;
+    lending::show(alloc, out)?;
     rooms::show(alloc, out)?;
     streams::show(alloc, out)
 }

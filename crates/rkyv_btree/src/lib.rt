@@ -116,6 +116,8 @@ pub mod set {
 /// Lookups in a source of bytes that isn't read whole, as a file.
 pub mod source {
     pub use rkyv_btree_source::fetch::Fetch;
+    pub use rkyv_btree_source::piece::{Missing, Piece};
+    pub use rkyv_btree_source::pieces::Pieces;
     pub use rkyv_btree_source::reader::Reader;
     pub use rkyv_btree_source::source::{ReadAt, SeekSource};
     pub use rkyv_btree_source::source_fault::SourceFault;

@@ -1,5 +1,5 @@
 -- The faults of building, with the state of the iterator after them and without it.
-use Rattle.std.proofs.Common.{◌≡◌, ℕ, Bor, Option, refl}
+use Rattle.std.proofs.Common.{◌≡◌, ℕ, Option, refl}
 use Rattle.rkyv_btree_portable.specs.Kind.{Kind}
 use Rattle.rkyv_btree_writer.specs.Archiving.{Archival}
 use Rattle.rkyv_btree_writer.specs.Writing.{Writing}
@@ -9,8 +9,8 @@ use Rattle.rkyv_btree_writer.specs.declared.fault.IteratorLengthMismatch.{Iterat
 use Rattle.rkyv_btree_writing_laws.specs.Serialising.{BuildFault}
 use Rattle.rkyv_btree_archive.specs.mirror.Ended.{FaultAt}
 
-module _ {M N R S P : Type 0} (K V : Kind) (E : ℕ) (KA : Archival M R) (VA : Archival N S) (steps : P → Option (Bor M × Bor N) → P → Type 0) {X : Type 0} (iter : P) (claim : ℕ) (from : Writing) where
-  pub fault_of_ended : (fault : Fault X) (end : P) (t : Writing) → FaultAt K V E KA VA steps iter claim from fault end t → BuildFault K V E KA VA steps iter claim from fault t
+module _ {I M N R S P : Type 0} (K V : Kind) (E : ℕ) (KA : Archival M R) (VA : Archival N S) (borrowed : I → M × N) (steps : P → Option I → P → Type 0) {X : Type 0} (iter : P) (claim : ℕ) (from : Writing) where
+  pub fault_of_ended : (fault : Fault X) (end : P) (t : Writing) → FaultAt K V E KA VA borrowed steps iter claim from fault end t → BuildFault K V E KA VA borrowed steps iter claim from fault t
   fault_of_ended (Length m) end t h = h.0
   fault_of_ended LengthOverflow end t h = h
   fault_of_ended PositionOverflow end t h = h
@@ -21,7 +21,7 @@ module _ {M N R S P : Type 0} (K V : Kind) (E : ℕ) (KA : Archival M R) (VA : A
   fault_of_ended (OutOfOrder index) end t h = h
 
   -- where the count isn't the fault, the state is any
-  pub ended_of_fault : (fault : Fault X) (end : P) (t : Writing) → ((m : IteratorLengthMismatch) → fault ≡ Length m → ⊥) → BuildFault K V E KA VA steps iter claim from fault t → FaultAt K V E KA VA steps iter claim from fault end t
+  pub ended_of_fault : (fault : Fault X) (end : P) (t : Writing) → ((m : IteratorLengthMismatch) → fault ≡ Length m → ⊥) → BuildFault K V E KA VA borrowed steps iter claim from fault t → FaultAt K V E KA VA borrowed steps iter claim from fault end t
   ended_of_fault (Length m) end t other h = absurd (other m refl)
   ended_of_fault LengthOverflow end t other h = h
   ended_of_fault PositionOverflow end t other h = h

@@ -1,5 +1,5 @@
 -- What a source gives whose keys must increase: items whose keys increase, as far as they are claimed.
-use Rattle.std.proofs.Common.{◌≡◌, ℕ, ◌+◌, ◌<◌, ◌≤◌, ◌⊎◌, ◌∙◌, true, false, List, [], ◌∷◌, ◌++◌, length, map, take, Bor, Option, None, Some, inl, inr, refl, sym, ap, subst, arith}
+use Rattle.std.proofs.Common.{◌≡◌, ℕ, ◌+◌, ◌<◌, ◌≤◌, ◌⊎◌, ◌∙◌, true, false, List, [], ◌∷◌, ◌++◌, length, map, take, Option, None, Some, inl, inr, refl, sym, ap, subst, arith}
 use Rattle.std.specs.Prelude.{IfSome, MatchOption}
 use Rattle.std.specs.Cmp.{IsTotalOrder}
 use Rattle.std.specs.Iterator.{Yields}
@@ -12,7 +12,7 @@ use Rattle.rkyv_btree_writer.specs.Archiving.{Archival}
 use Rattle.rkyv_btree_writer.specs.Writing.{Writing}
 use Rattle.rkyv_btree_writer.specs.declared.fault.Fault.{Fault}
 use Rattle.rkyv_btree_writer.specs.declared.fault.Fault.TheVariants.{Length, LengthOverflow, PositionOverflow, OffsetOverflow, Writer, Memory, Entry, OutOfOrder}
-use Rattle.rkyv_btree_writing_laws.specs.Entries.{now_of}
+use Rattle.rkyv_btree_writing_laws.specs.Entries.{both_borrowed}
 use Rattle.rkyv_btree_writing_laws.specs.Increasing.{Increasing, IsOutOfOrder}
 use Rattle.rkyv_btree_writing_laws.specs.Miscounts.{IsMiscount}
 use Rattle.rkyv_btree_writing_laws.specs.Serialising.{BeginClaimed, Serialised, StoppedBuilding, Miscounted}
@@ -24,13 +24,16 @@ use Rattle.rkyv_btree_archive.specs.mirror.Ended.{CountsTo, FaultAt}
 use Rattle.rkyv_btree_archive.specs.mirror.InOrder.{IsNext, IsNotNext, met_out_of_order}
 use Rattle.rkyv_btree_archive.specs.mirror.Source.{Gives}
 
-module _ {M N P : Type 0} (order : M → M → Ordering) (total : IsTotalOrder order) (steps : P → Option (Bor M × Bor N) → P → Type 0) (claim : ℕ) where
+module _ {A B M N P : Type 0} (order : M → M → Ordering) (total : IsTotalOrder order) (lends_key : A → M) (lends_value : B → N) (steps : P → Option (A × B) → P → Type 0) (claim : ℕ) where
+  abbrev lent : A × B → M × N
+  lent = both_borrowed lends_key lends_value
+
   -- the last key is that of the last of these entries
-  abbrev IsLast : Option (Bor M) → List (M × N) → Type 0
-  IsLast last entries = MatchOption last (entries ≡ []) (λ key. (front : List (M × N)) × (e : M × N) × (entries ≡ front ++ e ∷ []) × (key.now ≡ e.0))
+  abbrev IsLast : Option A → List (M × N) → Type 0
+  IsLast last entries = MatchOption last (entries ≡ []) (λ key. (front : List (M × N)) × (e : M × N) × (entries ≡ front ++ e ∷ []) × (lends_key key ≡ e.0))
 
   -- after these entries, of which the first are claimed
-  record After (before : List (M × N)) (s : InOrder M) : Type 0 where
+  record After (before : List (M × N)) (s : InOrder A M) : Type 0 where
     claimed : List (M × N)
     extra : List (M × N)
     parts : before ≡ claimed ++ extra
@@ -39,16 +42,16 @@ module _ {M N P : Type 0} (order : M → M → Ordering) (total : IsTotalOrder o
     increase : Increasing order claimed
     last : IsLast s.last claimed
 
-  grown : (last : Option (Bor M)) (claimed : List (M × N)) (x : M × N) → Increasing order claimed → IsLast last claimed → IfSome last (λ key. order key.now x.0 ≡ Less) → Increasing order (claimed ++ x ∷ [])
+  grown : (last : Option A) (claimed : List (M × N)) (x : M × N) → Increasing order claimed → IsLast last claimed → IfSome last (λ key. order (lends_key key) x.0 ≡ Less) → Increasing order (claimed ++ x ∷ [])
   grown None claimed x increase empty less = subst (λ (zs : List (M × N)). Increasing order (zs ++ x ∷ [])) (sym empty) (alone order x)
   grown (Some key) claimed x increase (front, e, is, same) less =
       subst (λ (zs : List (M × N)). Increasing order (zs ++ x ∷ [])) (sym is)
       (increasing_snoc total front e x (subst (λ (zs : List (M × N)). Increasing order zs) is increase) (subst (λ z. order z x.0 ≡ Less) same less))
 
-  none_extra : (before : List (M × N)) (s : InOrder M) → (a : After before s) → 0 < s.left → a.extra ≡ []
+  none_extra : (before : List (M × N)) (s : InOrder A M) → (a : After before s) → 0 < s.left → a.extra ≡ []
   none_extra before s a more = elim a.over [ inl none ↦ none | inr zero ↦ absurd (omega (arith, zero, more)) ]
 
-  after_none : (s : InOrder M) → s.left ≡ claim → s.last ≡ None → After [] s
+  after_none : (s : InOrder A M) → s.left ≡ claim → s.last ≡ None → After [] s
   after_none s left last = record {
     claimed = [];
     extra = [];
@@ -56,33 +59,33 @@ module _ {M N P : Type 0} (order : M → M → Ordering) (total : IsTotalOrder o
     count = omega (arith, left);
     over = inl refl;
     increase = nothing N order;
-    last = subst (λ (l : Option (Bor M)). IsLast l []) (sym last) refl;
+    last = subst (λ (l : Option A). IsLast l []) (sym last) refl;
   }
 
-  after_one : (before : List (M × N)) (s t : InOrder M) (x : Bor M × Bor N) → After before s → IsNext order s x.0 t → After (before ++ now_of x ∷ []) t
+  after_one : (before : List (M × N)) (s t : InOrder A M) (x : A × B) → After before s → IsNext order lends_key s x.0 t → After (before ++ lent x ∷ []) t
   after_one before s t x a (same, inl (left, last, less)) =
       let none = none_extra before s a (omega (arith, left)) in
       let own : before ≡ a.claimed = a.parts ∙ (ap (λ (zs : List (M × N)). a.claimed ++ zs) none ∙ append-nil a.claimed) in
       record {
-        claimed = a.claimed ++ now_of x ∷ [];
+        claimed = a.claimed ++ lent x ∷ [];
         extra = [];
-        parts = ap (λ (zs : List (M × N)). zs ++ now_of x ∷ []) own ∙ sym (append-nil (a.claimed ++ now_of x ∷ []));
-        count = omega (arith, length-append a.claimed (now_of x ∷ []), a.count, left);
+        parts = ap (λ (zs : List (M × N)). zs ++ lent x ∷ []) own ∙ sym (append-nil (a.claimed ++ lent x ∷ []));
+        count = omega (arith, length-append a.claimed (lent x ∷ []), a.count, left);
         over = inl refl;
-        increase = grown s.last a.claimed (now_of x) a.increase a.last less;
-        last = subst (λ (l : Option (Bor M)). IsLast l (a.claimed ++ now_of x ∷ [])) (sym last) (a.claimed, now_of x, refl, refl);
+        increase = grown s.last a.claimed (lent x) a.increase a.last less;
+        last = subst (λ (l : Option A). IsLast l (a.claimed ++ lent x ∷ [])) (sym last) (a.claimed, lent x, refl, refl);
       }
   after_one before s t x a (same, inr (zero, zero2, last)) = record {
     claimed = a.claimed;
-    extra = a.extra ++ now_of x ∷ [];
-    parts = ap (λ (zs : List (M × N)). zs ++ now_of x ∷ []) a.parts ∙ append_assoc a.claimed a.extra (now_of x ∷ []);
+    extra = a.extra ++ lent x ∷ [];
+    parts = ap (λ (zs : List (M × N)). zs ++ lent x ∷ []) a.parts ∙ append_assoc a.claimed a.extra (lent x ∷ []);
     count = omega (arith, zero, zero2, a.count);
     over = inr zero2;
     increase = a.increase;
-    last = subst (λ (l : Option (Bor M)). IsLast l a.claimed) (sym last) a.last;
+    last = subst (λ (l : Option A). IsLast l a.claimed) (sym last) a.last;
   }
 
-  all_increase : (before : List (M × N)) (s : InOrder M) → After before s → length before ≤ claim → Increasing order before
+  all_increase : (before : List (M × N)) (s : InOrder A M) → After before s → length before ≤ claim → Increasing order before
   all_increase before s a few = elim a.over [
     | inl none ↦ whole none
     | inr zero ↦ whole (nil_from_length a.extra (omega (arith, ap length a.parts, length-append a.claimed a.extra, a.count, zero, few)))
@@ -91,7 +94,7 @@ module _ {M N P : Type 0} (order : M → M → Ordering) (total : IsTotalOrder o
       whole : a.extra ≡ [] → Increasing order before
       whole none = subst (λ (zs : List (M × N)). Increasing order zs) (sym (a.parts ∙ (ap (λ (zs : List (M × N)). a.claimed ++ zs) none ∙ append-nil a.claimed))) a.increase
 
-  first_increase : (before : List (M × N)) (s : InOrder M) → After before s → Increasing order (take claim before)
+  first_increase : (before : List (M × N)) (s : InOrder A M) → After before s → Increasing order (take claim before)
   first_increase before s a = elim a.over [
     | inl none ↦
         let own : before ≡ a.claimed = a.parts ∙ (ap (λ (zs : List (M × N)). a.claimed ++ zs) none ∙ append-nil a.claimed) in
@@ -102,45 +105,45 @@ module _ {M N P : Type 0} (order : M → M → Ordering) (total : IsTotalOrder o
         subst (λ (zs : List (M × N)). Increasing order zs) (sym (ap (λ (zs : List (M × N)). take claim zs) a.parts ∙ first)) a.increase
   ]
 
-  abbrev Steps : Source P (InOrder M) → Option (Bor M × Bor N) → Source P (InOrder M) → Type 0
-  Steps = Gives steps (IsNext order) (IsNotNext order)
+  abbrev Steps : Source P (InOrder A M) → Option (A × B) → Source P (InOrder A M) → Type 0
+  Steps = Gives steps (IsNext order lends_key) (IsNotNext order lends_key)
 
   -- a run of the source is one of its iterator
-  run : (s : Source P (InOrder M)) (items : List (Bor M × Bor N)) (t : Source P (InOrder M)) (before : List (M × N)) → After before s.look → Yields Steps s items t
-      → Yields steps s.items items t.items × After (before ++ map now_of items) t.look × (t.look.stopped ≡ s.look.stopped)
+  run : (s : Source P (InOrder A M)) (items : List (A × B)) (t : Source P (InOrder A M)) (before : List (M × N)) → After before s.look → Yields Steps s items t
+      → Yields steps s.items items t.items × After (before ++ map lent items) t.look × (t.look.stopped ≡ s.look.stopped)
   run s [] t before a y = (
-    ap (λ (z : Source P (InOrder M)). z.items) y,
-    subst (λ (z : Source P (InOrder M)). After (before ++ []) z.look) y (subst (λ (zs : List (M × N)). After zs s.look) (sym (append-nil before)) a),
-    ap (λ (z : Source P (InOrder M)). z.look.stopped) (sym y),
+    ap (λ (z : Source P (InOrder A M)). z.items) y,
+    subst (λ (z : Source P (InOrder A M)). After (before ++ []) z.look) y (subst (λ (zs : List (M × N)). After zs s.look) (sym (append-nil before)) a),
+    ap (λ (z : Source P (InOrder A M)). z.look.stopped) (sym y),
   )
   run s (x ∷ items) t before a (mid, (step, next), y) =
-      let r = run mid items t (before ++ now_of x ∷ []) (after_one before s.look mid.look x a next) y in (
+      let r = run mid items t (before ++ lent x ∷ []) (after_one before s.look mid.look x a next) y in (
         (mid.items, step, r.0),
-        subst (λ (zs : List (M × N)). After zs t.look) (append_assoc before (now_of x ∷ []) (map now_of items)) r.1,
+        subst (λ (zs : List (M × N)). After zs t.look) (append_assoc before (lent x ∷ []) (map lent items)) r.1,
         r.2 ∙ next.0,
       )
 
   -- from its beginning
-  pub record Begins (s : Source P (InOrder M)) : Type 0 where
+  pub record Begins (s : Source P (InOrder A M)) : Type 0 where
     pub left : s.look.left ≡ claim
     pub last : s.look.last ≡ None
     pub stopped : s.look.stopped ≡ false
 
-  from_start : (s : Source P (InOrder M)) (items : List (Bor M × Bor N)) (t : Source P (InOrder M)) → Begins s → Yields Steps s items t
-      → Yields steps s.items items t.items × After (map now_of items) t.look × (t.look.stopped ≡ false)
+  from_start : (s : Source P (InOrder A M)) (items : List (A × B)) (t : Source P (InOrder A M)) → Begins s → Yields Steps s items t
+      → Yields steps s.items items t.items × After (map lent items) t.look × (t.look.stopped ≡ false)
   from_start s items t b y = let r = run s items t [] (after_none s.look b.left b.last) y in (r.0, r.1, r.2 ∙ b.stopped)
 
   -- no claimed item is left, where as many have come
-  none_claimed : (before : List (M × N)) (s : InOrder M) → After before s → claim ≤ length before → 0 < s.left → ⊥
+  none_claimed : (before : List (M × N)) (s : InOrder A M) → After before s → claim ≤ length before → 0 < s.left → ⊥
   none_claimed before s a many more =
       let none = none_extra before s a more in
       absurd (omega (arith, ap length a.parts, length-append a.claimed a.extra, ap length none, a.count, many, more))
 
-  module _ {R S : Type 0} (K V : Kind) (E : ℕ) (KA : Archival M R) (VA : Archival N S) (s : Source P (InOrder M)) (b : Begins s) (from : Writing) where
-    pub built_in_order : (root : ℕ) (t : Writing) → Serialised K V E KA VA Steps s claim from root t → SerialisedInOrder order K V E KA VA steps s.items claim from root t
+  module _ {R S : Type 0} (K V : Kind) (E : ℕ) (KA : Archival M R) (VA : Archival N S) (s : Source P (InOrder A M)) (b : Begins s) (from : Writing) where
+    pub built_in_order : (root : ℕ) (t : Writing) → Serialised K V E KA VA lent Steps s claim from root t → SerialisedInOrder order K V E KA VA lent steps s.items claim from root t
     built_in_order root t h =
         let r = from_start s h.items h.all.1.0 b h.all.1.1 in
-        let n : length (map now_of h.items) ≡ claim = length-map h.items now_of ∙ h.count in (
+        let n : length (map lent h.items) ≡ claim = length-map h.items lent ∙ h.count in (
           record {
             items = h.items;
             all = (h.all.0.items, (h.all.1.0.items, r.0, ended r.1 n h.all.1.2));
@@ -148,22 +151,22 @@ module _ {M N P : Type 0} (order : M → M → Ordering) (total : IsTotalOrder o
             built = h.built;
             spelled = h.spelled;
           },
-          all_increase (map now_of h.items) h.all.1.0.look r.1 (omega (arith, n)),
+          all_increase (map lent h.items) h.all.1.0.look r.1 (omega (arith, n)),
         )
       where
-        ended : After (map now_of h.items) h.all.1.0.look → length (map now_of h.items) ≡ claim → Steps h.all.1.0 None h.all.0 → steps h.all.1.0.items None h.all.0.items
+        ended : After (map lent h.items) h.all.1.0.look → length (map lent h.items) ≡ claim → Steps h.all.1.0 None h.all.0 → steps h.all.1.0.items None h.all.0.items
         ended a n (inl end) = end.0
-        ended a n (inr (x, step, (more, out, stopped))) = absurd (none_claimed (map now_of h.items) h.all.1.0.look a (omega (arith, n)) more)
+        ended a n (inr (x, step, (more, out, stopped))) = absurd (none_claimed (map lent h.items) h.all.1.0.look a (omega (arith, n)) more)
 
-    stopped_in_order : {X : Type 0} (fault : Fault X) (t : Writing) → StoppedBuilding K V E KA VA Steps s claim from fault t → StoppedInOrder order K V E KA VA steps s.items claim from fault t
+    stopped_in_order : {X : Type 0} (fault : Fault X) (t : Writing) → StoppedBuilding K V E KA VA lent Steps s claim from fault t → StoppedInOrder order K V E KA VA lent steps s.items claim from fault t
     stopped_in_order fault t h =
         let r = from_start s h.items h.rest b h.taken in (
           record { items = h.items; rest = h.rest.items; taken = r.0; entries = h.entries; claimed = h.claimed; stopped = h.stopped },
-          all_increase (map now_of h.items) h.rest.look r.1 (omega (arith, ap length h.claimed.parts, length-append (map now_of h.items) h.claimed.later, h.claimed.count)),
+          all_increase (map lent h.items) h.rest.look r.1 (omega (arith, ap length h.claimed.parts, length-append (map lent h.items) h.claimed.later, h.claimed.count)),
         )
 
-    miscounted_in_order : (end : Source P (InOrder M)) (expected actual : ℕ) (t : Writing) → end.look.stopped ≡ false → CountsTo K V E KA VA Steps s end claim expected actual from t
-        → (w : Miscounted K V E KA VA steps s.items claim expected actual from t) × Increasing order (take claim (map now_of w.items))
+    miscounted_in_order : (end : Source P (InOrder A M)) (expected actual : ℕ) (t : Writing) → end.look.stopped ≡ false → CountsTo K V E KA VA lent Steps s end claim expected actual from t
+        → (w : Miscounted K V E KA VA lent steps s.items claim expected actual from t) × Increasing order (take claim (map lent w.items))
     miscounted_in_order end expected actual t whole (h, at) =
         let r = from_start s h.items h.all.1.0 b h.all.1.1 in (
           record {
@@ -176,16 +179,16 @@ module _ {M N P : Type 0} (order : M → M → Ordering) (total : IsTotalOrder o
             few = h.few;
             many = h.many;
           },
-          first_increase (map now_of h.items) h.all.1.0.look r.1,
+          first_increase (map lent h.items) h.all.1.0.look r.1,
         )
       where
         ended : Steps h.all.1.0 None h.all.0 → steps h.all.1.0.items None h.all.0.items
         ended (inl end) = end.0
-        ended (inr (x, step, (more, out, stopped))) = let z : h.all.0.look.stopped ≡ false = ap (λ (z : Source P (InOrder M)). z.look.stopped) at ∙ whole in absurd (cc (stopped, z))
+        ended (inr (x, step, (more, out, stopped))) = let z : h.all.0.look.stopped ≡ false = ap (λ (z : Source P (InOrder A M)). z.look.stopped) at ∙ whole in absurd (cc (stopped, z))
 
     -- each fault, where no key has stopped the source
-    pub fault_in_order : {X : Type 0} (fault : Fault X) (end : Source P (InOrder M)) (t : Writing) → end.look.stopped ≡ false → FaultAt K V E KA VA Steps s claim from fault end t
-        → StrictFault order K V E KA VA steps s.items claim from fault t
+    pub fault_in_order : {X : Type 0} (fault : Fault X) (end : Source P (InOrder A M)) (t : Writing) → end.look.stopped ≡ false → FaultAt K V E KA VA lent Steps s claim from fault end t
+        → StrictFault order K V E KA VA lent steps s.items claim from fault t
     fault_in_order (Length m) end t whole h = miscounted_in_order end m.expected m.actual t whole h
     fault_in_order {X} LengthOverflow end t whole (inl past) = inl past
     fault_in_order {X} LengthOverflow end t whole (inr h) = inr (stopped_in_order {X = X} LengthOverflow t h)
@@ -198,38 +201,38 @@ module _ {M N P : Type 0} (order : M → M → Ordering) (total : IsTotalOrder o
     fault_in_order (OutOfOrder index) end t whole h = absurd h
 
     -- where a key has stopped it
-    out_after : (items : List (Bor M × Bor N)) (last : Option (Bor M)) (claimed : List (M × N)) (x : Bor M × Bor N) (index : ℕ) → map now_of items ≡ claimed → Increasing order claimed → IsLast last claimed → MatchOption last ⊥ (λ key. ¬ (order key.now x.0.now ≡ Less)) → index ≡ length items
-        → IsOutOfOrder order (map now_of (items ++ x ∷ [])) index × (0 < length items)
+    out_after : (items : List (A × B)) (last : Option A) (claimed : List (M × N)) (x : A × B) (index : ℕ) → map lent items ≡ claimed → Increasing order claimed → IsLast last claimed → MatchOption last ⊥ (λ key. ¬ (order (lends_key key) (lends_key x.0) ≡ Less)) → index ≡ length items
+        → IsOutOfOrder order (map lent (items ++ x ∷ [])) index × (0 < length items)
     out_after items None claimed x index own increase last out number = absurd out
     out_after items (Some key) claimed x index own increase (front, e, is, same) out number =
-        let n : length items ≡ length front + 1 = sym (length-map items now_of) ∙ (ap length (own ∙ is) ∙ length-append front (e ∷ [])) in (
+        let n : length items ≡ length front + 1 = sym (length-map items lent) ∙ (ap length (own ∙ is) ∙ length-append front (e ∷ [])) in (
           record {
             front = front;
             before = e;
-            entry = now_of x;
+            entry = lent x;
             back = [];
-            parts = map-append now_of items (x ∷ []) ∙ (ap (λ (zs : List (M × N)). zs ++ now_of x ∷ []) (own ∙ is) ∙ append_assoc front (e ∷ []) (now_of x ∷ []));
+            parts = map-append lent items (x ∷ []) ∙ (ap (λ (zs : List (M × N)). zs ++ lent x ∷ []) (own ∙ is) ∙ append_assoc front (e ∷ []) (lent x ∷ []));
             number = number ∙ n;
             first = subst (λ (zs : List (M × N)). Increasing order zs) is increase;
-            not_greater = λ less. out (subst (λ z. order z x.0.now ≡ Less) (sym same) less);
+            not_greater = λ less. out (subst (λ z. order z (lends_key x.0) ≡ Less) (sym same) less);
           },
           omega (arith, n),
         )
 
-    count_out_of_order : (end : Source P (InOrder M)) (expected actual : ℕ) (t : Writing) → end.look.stopped ≡ true → CountsTo K V E KA VA Steps s end claim expected actual from t → MetOutOfOrder order K V E KA VA steps s.items claim actual from t
+    count_out_of_order : (end : Source P (InOrder A M)) (expected actual : ℕ) (t : Writing) → end.look.stopped ≡ true → CountsTo K V E KA VA lent Steps s end claim expected actual from t → MetOutOfOrder order K V E KA VA lent steps s.items claim actual from t
     count_out_of_order end expected actual t stops (h, at) =
         let r = from_start s h.items h.all.1.0 b h.all.1.1 in
         go r.0 r.1 r.2 h.all.1.2
       where
-        go : Yields steps s.items h.items h.all.1.0.items → After (map now_of h.items) h.all.1.0.look → h.all.1.0.look.stopped ≡ false → Steps h.all.1.0 None h.all.0 → MetOutOfOrder order K V E KA VA steps s.items claim actual from t
+        go : Yields steps s.items h.items h.all.1.0.items → After (map lent h.items) h.all.1.0.look → h.all.1.0.look.stopped ≡ false → Steps h.all.1.0 None h.all.0 → MetOutOfOrder order K V E KA VA lent steps s.items claim actual from t
         go y a whole (inl (none, same)) =
-            let z : h.all.0.look.stopped ≡ true = ap (λ (z : Source P (InOrder M)). z.look.stopped) at ∙ stops in
-            let w : h.all.0.look.stopped ≡ false = ap (λ (z : InOrder M). z.stopped) same ∙ whole in
+            let z : h.all.0.look.stopped ≡ true = ap (λ (z : Source P (InOrder A M)). z.look.stopped) at ∙ stops in
+            let w : h.all.0.look.stopped ≡ false = ap (λ (z : InOrder A M). z.stopped) same ∙ whole in
             absurd (cc (z, w))
         go y a whole (inr (x, step, (more, out, stopped))) =
-            let none = none_extra (map now_of h.items) h.all.1.0.look a more in
-            let own : map now_of h.items ≡ a.claimed = a.parts ∙ (ap (λ (zs : List (M × N)). a.claimed ++ zs) none ∙ append-nil a.claimed) in
-            let few : length h.items < claim = omega (arith, length-map h.items now_of, ap length own, a.count, more) in
+            let none = none_extra (map lent h.items) h.all.1.0.look a more in
+            let own : map lent h.items ≡ a.claimed = a.parts ∙ (ap (λ (zs : List (M × N)). a.claimed ++ zs) none ∙ append-nil a.claimed) in
+            let few : length h.items < claim = omega (arith, length-map h.items lent, ap length own, a.count, more) in
             let o = out_after h.items h.all.1.0.look.last a.claimed x actual own a.increase a.last out h.counted in
             let one : take actual (h.items ++ x ∷ []) ≡ h.items = take_at h.items (x ∷ []) actual (sym h.counted) in
             let begun = h.few o.1 few in
@@ -240,12 +243,12 @@ module _ {M N P : Type 0} (order : M → M → Ordering) (total : IsTotalOrder o
               claimed = omega (arith, h.counted, few);
               last = omega (arith, length-append h.items (x ∷ []), h.counted);
               out = o.0;
-              begun = (begun.0, subst (λ (zs : List (Bor M × Bor N)). BeginClaimed zs claim begun.0) (sym one) begun.1, begun.2);
+              begun = (begun.0, subst (λ (zs : List (A × B)). BeginClaimed lent zs claim begun.0) (sym one) begun.1, begun.2);
             }
 
     -- each fault, where a key has stopped the source
-    pub fault_out_of_order : {X : Type 0} (fault : Fault X) (end : Source P (InOrder M)) (t : Writing) → end.look.stopped ≡ true → FaultAt K V E KA VA Steps s claim from fault end t
-        → StrictFault order K V E KA VA steps s.items claim from (met_out_of_order fault) t
+    pub fault_out_of_order : {X : Type 0} (fault : Fault X) (end : Source P (InOrder A M)) (t : Writing) → end.look.stopped ≡ true → FaultAt K V E KA VA lent Steps s claim from fault end t
+        → StrictFault order K V E KA VA lent steps s.items claim from (met_out_of_order fault) t
     fault_out_of_order (Length m) end t stops h = count_out_of_order end m.expected m.actual t stops h
     fault_out_of_order {X} LengthOverflow end t stops (inl past) = inl past
     fault_out_of_order {X} LengthOverflow end t stops (inr h) = inr (stopped_in_order {X = X} LengthOverflow t h)
@@ -258,7 +261,7 @@ module _ {M N P : Type 0} (order : M → M → Ordering) (total : IsTotalOrder o
     fault_out_of_order (OutOfOrder index) end t stops h = absurd h
 
     -- with a claim of nothing no key is out of order
-    pub none_met : {X : Type 0} (fault : Fault X) (t : Writing) → claim ≡ 0 → IsMiscount fault → StrictFault order K V E KA VA steps s.items claim from (met_out_of_order fault) t → IsMiscount (met_out_of_order fault)
+    pub none_met : {X : Type 0} (fault : Fault X) (t : Writing) → claim ≡ 0 → IsMiscount fault → StrictFault order K V E KA VA lent steps s.items claim from (met_out_of_order fault) t → IsMiscount (met_out_of_order fault)
     none_met (Length m) t none is h = absurd (let late = h.claimed in omega (arith, late, none))
     none_met LengthOverflow t none is h = absurd is
     none_met PositionOverflow t none is h = absurd is

@@ -10,3 +10,5 @@ pub mod Pieces
 pub mod Ended
 pub mod Sources
 pub mod InOrder
+pub mod TryBuilding
+pub mod TrySets

@@ -1,3 +1,4 @@
 pub mod EntryArchival
+pub mod TryBuilding
 pub mod laws
 pub mod mirror

@@ -4,3 +4,4 @@ pub mod Passing
 pub mod Scratch
 pub mod InOrder
 pub mod Source
+pub mod UntilError

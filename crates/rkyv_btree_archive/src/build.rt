@@ -1,4 +1,5 @@
 //! Building archived maps.
+ghost use Rattle.rkyv_btree_writing_laws.specs.Entries.{both_borrowed};
 ghost use Rattle.std.specs.Prelude.{◌≡◌, ℕ, ◌+◌, ◌-◌, ◌*◌, ◌^◌, ◌<◌, ◌≤◌, ◌↔◌, length, map, true, alloc_error, IsOk, OnOk, OnErr, IfOk, IfErr, IsErrOf, IsTrue};
 ghost use Rattle.std.specs.Iterator.{UpTo};
 ghost use Rattle.rkyv_btree_writer.specs.Archiving.{BeginsWith};
@@ -9,16 +10,17 @@ ghost use Rattle.rkyv_btree_format.specs.Layout.{layout_of, are_fitting};
 ghost use Rattle.rkyv_btree_shape.specs.Logarithm.{ilog};
 ghost use Rattle.rkyv_btree_portable.specs.Rounding.{round_up};
 ghost use Rattle.rkyv_btree_writing_laws.specs.OneTree.{BuildsOneTree};
-ghost use Rattle.rkyv_btree_archive.specs.mirror.Ended.{FaultAt};
+ghost use Rattle.rkyv_btree_archive.specs.mirror.Ended.{FaultAt, SerialisedTo};
 ghost use Rattle.rkyv_btree_archive.specs.mirror.Scratch.{IsFree, IsReserved};
 ghost use Rattle.rkyv_btree_archive.specs.mirror.Source.{Gives};
 ghost use Rattle.rkyv_btree_writing_laws.specs.Kept.{NeverGrows, OnlyAppended};
 ghost use Rattle.rkyv_btree_writing_laws.specs.Miscounts.{IsMiscount};
-ghost use Rattle.rkyv_btree_writing_laws.specs.Serialising.{Serialised, BuildsTree, FailsToBuild, RootFault};
+ghost use Rattle.rkyv_btree_writing_laws.specs.Serialising.{BuildsTree, FailsToBuild, RootFault};
 ghost use Rattle.rkyv_btree_writing_laws.specs.SmallestMaps.{ArchivesItems, BuildsSmallest};
 ghost use Rattle.rkyv_btree_writer.specs.Writing.{position, Wrote, last_end};
 
 use crate::archive::{Archive, Serialize};
+use crate::borrow::Borrow;
 use crate::items::{AnyOrder, Look, Source, none_left};
 use crate::map_type::ArchivedBTreeMap;
 use crate::node_writes::reserve_scratch;
@@ -45,13 +47,15 @@ impl Model for BTreeMapResolver {
 }
 
 /// Reserves all memory for building a tree of `above` levels above its last one, except what serializing the items takes.
-fn reserve<'x, KU, VU, K, V, A, const E: usize>(
+fn reserve<BKU, BVU, KU, VU, K, V, A, const E: usize>(
     alloc: A,
     above: usize,
-) -> Result<Lists<'x, KU, VU, A>, AllocError>
+) -> Result<Lists<BKU, BVU, KU, VU, A>, AllocError>
 where
-    KU: Archive<Archived = K> + 'x,
-    VU: Archive<Archived = V> + 'x,
+    BKU: Borrow<KU> + Drop,
+    BVU: Borrow<VU> + Drop,
+    KU: Archive<Archived = K>,
+    VU: Archive<Archived = V>,
     K: Portable,
     V: Portable,
     A: Allocator + Copy,
@@ -91,32 +95,34 @@ fn levels_of<const E: usize>(len: usize) -> (usize, usize)
 
 /// Writes the tree of an iterator's items, and returns the position of its root node. `len` is the declared number of items, and
 /// isn't 0.
-fn build_some<'x, KU, VU, K, V, W, A, I, L, const E: usize>(
+fn build_some<BKU, BVU, KU, VU, K, V, W, A, I, L, const E: usize>(
     alloc: A,
     len: usize,
     source: &mut Source<I, L>,
     writer: &mut W,
 ) -> Result<BTreeMapResolver, Fault<W::Error>>
 where
-    KU: Archive<Archived = K> + Serialize<W, A> + 'x,
-    VU: Archive<Archived = V> + Serialize<W, A> + 'x,
+    BKU: Borrow<KU> + Drop,
+    BVU: Borrow<VU> + Drop,
+    KU: Archive<Archived = K> + Serialize<W, A>,
+    VU: Archive<Archived = V> + Serialize<W, A>,
     K: Portable,
     V: Portable,
     W: Writer,
     A: Allocator + Copy,
-    I: Iterator<Item = (&'x KU, &'x VU)>,
-    L: Look<'x, KU> + Drop,
+    I: Iterator<Item = (BKU, BVU)>,
+    L: Look<BKU> + Drop,
     requires fitting { IsTrue (are_fitting K.kind V.kind E) }
     requires some { 0 < len }
     requires small { len ≤ 4294967295 }
     requires can { I.can_next source.old.items }
     requires ends { UpTo (I.remaining source.old.items) 18446744073709551615 }
     ensures ok { IfOk result (λ resolver.
-        Serialised K.kind V.kind E KU.archival VU.archival
-        (Gives I.next_gives L.passes L.stops) source.old len (W.state writer.old) resolver
-        (W.state writer.new)) }
+        SerialisedTo K.kind V.kind E KU.archival VU.archival
+        (both_borrowed BKU.borrowed BVU.borrowed) (Gives I.next_gives L.passes L.stops) source.old
+        len (W.state writer.old) resolver source.new (W.state writer.new)) }
     ensures err { IfErr result (λ fault.
-        FaultAt K.kind V.kind E KU.archival VU.archival
+        FaultAt K.kind V.kind E KU.archival VU.archival (both_borrowed BKU.borrowed BVU.borrowed)
         (Gives I.next_gives L.passes L.stops) source.old len (W.state writer.old) fault source.new
         (W.state writer.new)) }
     ensures went { OnOk result (OnlyAppended (W.state writer.old) (W.state writer.new)) }
@@ -126,13 +132,13 @@ where
     ensures end { OnOk result (position (W.state writer.new) ≤ last_end) }
 {
     let (above, on_last) = levels_of::<E>(len);
-    let Ok(lists) = reserve::<KU, VU, K, V, A, E>(alloc, above) else {
+    let Ok(lists) = reserve::<BKU, BVU, KU, VU, K, V, A, E>(alloc, above) else {
         return Err(Fault::Memory(AllocError));
     };
-    let root = write_tree::<KU, VU, K, V, W, A, I, L, E>(
+    let root = write_tree::<BKU, BVU, KU, VU, K, V, W, A, I, L, E>(
         alloc, above, on_last, len, lists, source, writer,
     )?;
-    if let Err(miscount) = none_left::<KU, VU, I, L>(source, len) {
+    if let Err(miscount) = none_left::<BKU, BVU, I, L>(source, len) {
         return Err(Fault::Length(miscount));
     }
     Ok(BTreeMapResolver {
@@ -142,30 +148,32 @@ where
 
 /// Writes the tree of an iterator's items, if there are any, and returns the position of its root node. `len` is the declared
 /// number of items.
-pub(crate) fn build_from<'x, KU, VU, K, V, W, A, I, L, const E: usize>(
+pub(crate) fn build_from<BKU, BVU, KU, VU, K, V, W, A, I, L, const E: usize>(
     alloc: A,
     len: usize,
     source: &mut Source<I, L>,
     writer: &mut W,
 ) -> Result<BTreeMapResolver, Fault<W::Error>>
 where
-    KU: Archive<Archived = K> + Serialize<W, A> + 'x,
-    VU: Archive<Archived = V> + Serialize<W, A> + 'x,
+    BKU: Borrow<KU> + Drop,
+    BVU: Borrow<VU> + Drop,
+    KU: Archive<Archived = K> + Serialize<W, A>,
+    VU: Archive<Archived = V> + Serialize<W, A>,
     K: Portable,
     V: Portable,
     W: Writer,
     A: Allocator + Copy,
-    I: Iterator<Item = (&'x KU, &'x VU)>,
-    L: Look<'x, KU> + Drop,
+    I: Iterator<Item = (BKU, BVU)>,
+    L: Look<BKU> + Drop,
     requires fitting { IsTrue (are_fitting K.kind V.kind E) }
     requires can { I.can_next source.old.items }
     requires ends { UpTo (I.remaining source.old.items) 18446744073709551615 }
     ensures ok { IfOk result (λ resolver.
-        Serialised K.kind V.kind E KU.archival VU.archival
-        (Gives I.next_gives L.passes L.stops) source.old len (W.state writer.old) resolver
-        (W.state writer.new)) }
+        SerialisedTo K.kind V.kind E KU.archival VU.archival
+        (both_borrowed BKU.borrowed BVU.borrowed) (Gives I.next_gives L.passes L.stops) source.old
+        len (W.state writer.old) resolver source.new (W.state writer.new)) }
     ensures err { IfErr result (λ fault.
-        FaultAt K.kind V.kind E KU.archival VU.archival
+        FaultAt K.kind V.kind E KU.archival VU.archival (both_borrowed BKU.borrowed BVU.borrowed)
         (Gives I.next_gives L.passes L.stops) source.old len (W.state writer.old) fault source.new
         (W.state writer.new)) }
     ensures end { OnOk result (0 < len → position (W.state writer.new) ≤ last_end) }
@@ -182,18 +190,19 @@ where
         return Err(Fault::LengthOverflow);
     }
     if len == 0 {
-        if let Err(miscount) = none_left::<KU, VU, I, L>(source, 0) {
+        if let Err(miscount) = none_left::<BKU, BVU, I, L>(source, 0) {
             return Err(Fault::Length(miscount));
         }
         return Ok(BTreeMapResolver { root: 0 });
     }
-    build_some::<KU, VU, K, V, W, A, I, L, E>(alloc, len, source, writer)
+    build_some::<BKU, BVU, KU, VU, K, V, W, A, I, L, E>(alloc, len, source, writer)
 }
 
 impl<K: Portable, V: Portable, const E: usize> ArchivedBTreeMap<K, V, E> {
     /// Serializes the items of an iterator, in their order, as the tree of a map, and returns the position of its root node.
     /// `len` is the declared number of items. The entries of a node are serialized before the node is written, each key before
     /// its value. All memory is reserved before the first byte is written. `next` isn't called again after it has returned `None`.
+    /// Items lend their keys and values, so owned ones do as well as references. Only those of the open nodes and of one leaf are kept.
     ///
     /// # Errors
     ///
@@ -210,40 +219,47 @@ impl<K: Portable, V: Portable, const E: usize> ArchivedBTreeMap<K, V, E> {
     /// ```rust
     /// Numbers::serialize_from_ordered_iter(alloc, entries.len(), items, writer)
     /// ```
-    pub fn serialize_from_ordered_iter<'x, KU, VU, W, A, I>(
+    pub fn serialize_from_ordered_iter<BKU, BVU, KU, VU, W, A, I>(
         alloc: A,
         len: usize,
         iter: I,
         writer: &mut W,
     ) -> Result<BTreeMapResolver, Fault<W::Error>>
     where
-        KU: Archive<Archived = K> + Serialize<W, A> + 'x,
-        VU: Archive<Archived = V> + Serialize<W, A> + 'x,
+        BKU: Borrow<KU> + Drop,
+        BVU: Borrow<VU> + Drop,
+        KU: Archive<Archived = K> + Serialize<W, A>,
+        VU: Archive<Archived = V> + Serialize<W, A>,
         W: Writer,
         A: Allocator + Copy,
-        I: Iterator<Item = (&'x KU, &'x VU)>,
+        I: Iterator<Item = (BKU, BVU)>,
         requires fitting { IsTrue (are_fitting K.kind V.kind E) }
         requires can { I.can_next iter }
         requires ends { UpTo (I.remaining iter) 18446744073709551615 }
         // With the map after it, what was appended is a map of the iterator's items.
         ensures archived { IfOk result
-            (ArchivesItems K.kind V.kind E KU.archival VU.archival I.next_gives iter len
-            W.state writer.old writer.new) }
+            (ArchivesItems K.kind V.kind E KU.archival VU.archival
+            (both_borrowed BKU.borrowed BVU.borrowed) I.next_gives iter len W.state writer.old
+            writer.new) }
         // No accepted map with as many entries has fewer nodes, node bytes or levels.
         ensures smallest { IfOk result
-            (BuildsSmallest K.kind V.kind E KU.archival VU.archival I.next_gives iter len
-            W.state writer.old writer.new) }
+            (BuildsSmallest K.kind V.kind E KU.archival VU.archival
+            (both_borrowed BKU.borrowed BVU.borrowed) I.next_gives iter len W.state writer.old
+            writer.new) }
         // docs/FORMAT.md says which bytes these are.
         ensures written { IfOk result
-            (BuildsTree K.kind V.kind E KU.archival VU.archival I.next_gives iter len
-            W.state writer.old writer.new) }
+            (BuildsTree K.kind V.kind E KU.archival VU.archival
+            (both_borrowed BKU.borrowed BVU.borrowed) I.next_gives iter len W.state writer.old
+            writer.new) }
         // The tree is the only left-complete tree of the items, and the appended bytes are its image.
         ensures one_tree { IfOk result
-            (BuildsOneTree K.kind V.kind E KU.archival VU.archival I.next_gives iter len
-            W.state writer.old writer.new) }
+            (BuildsOneTree K.kind V.kind E KU.archival VU.archival
+            (both_borrowed BKU.borrowed BVU.borrowed) I.next_gives iter len W.state writer.old
+            writer.new) }
         ensures err { IfErr result
-            (FailsToBuild K.kind V.kind E KU.archival VU.archival I.next_gives iter len
-            W.state writer.old writer.new) }
+            (FailsToBuild K.kind V.kind E KU.archival VU.archival
+            (both_borrowed BKU.borrowed BVU.borrowed) I.next_gives iter len W.state writer.old
+            writer.new) }
         ensures end { OnOk result (0 < len → position (W.state writer.new) ≤ last_end) }
         // On success no write has failed, and bytes were only appended.
         ensures went { OnOk result (OnlyAppended (W.state writer.old) (W.state writer.new)) }
@@ -265,7 +281,7 @@ impl<K: Portable, V: Portable, const E: usize> ArchivedBTreeMap<K, V, E> {
             items: iter,
             look: AnyOrder {},
         };
-        build_from::<KU, VU, K, V, W, A, I, AnyOrder, E>(alloc, len, &mut source, writer)
+        build_from::<BKU, BVU, KU, VU, K, V, W, A, I, AnyOrder, E>(alloc, len, &mut source, writer)
     }
 }
 

@@ -1,4 +1,5 @@
 //! Building from iterators that know how many items they have left.
+ghost use Rattle.rkyv_btree_writing_laws.specs.Entries.{both_borrowed};
 ghost use Rattle.std.specs.Prelude.{◌≡◌, ℕ, ◌<◌, ◌≤◌, alloc_error, OnOk, OnErr, IfOk, IfErr, IsErrOf, IsTrue};
 ghost use Rattle.std.specs.Iterator.{size};
 ghost use Rattle.rkyv_btree_format.specs.Layout.{are_fitting};
@@ -12,6 +13,7 @@ ghost use Rattle.rkyv_btree_writer.specs.Archiving.{BeginsWith};
 ghost use Rattle.rkyv_btree_writer.specs.Writing.{position, last_end};
 
 use crate::archive::{Archive, Serialize};
+use crate::borrow::Borrow;
 use crate::build::BTreeMapResolver;
 use crate::map_type::ArchivedBTreeMap;
 use crate::set_type::{ArchivedBTreeSet, BTreeSetResolver};
@@ -36,36 +38,43 @@ impl<K: Portable, V: Portable, const E: usize> ArchivedBTreeMap<K, V, E> {
     /// let root = Prices::write_root(prices.len(), tree, &mut writer)?;
     /// Ok((writer.into_vec(), root))
     /// ```
-    pub fn serialize_from_exact_iter<'x, KU, VU, W, A, I>(
+    pub fn serialize_from_exact_iter<BKU, BVU, KU, VU, W, A, I>(
         alloc: A,
         iter: I,
         writer: &mut W,
     ) -> Result<BTreeMapResolver, Fault<W::Error>>
     where
-        KU: Archive<Archived = K> + Serialize<W, A> + 'x,
-        VU: Archive<Archived = V> + Serialize<W, A> + 'x,
+        BKU: Borrow<KU> + Drop,
+        BVU: Borrow<VU> + Drop,
+        KU: Archive<Archived = K> + Serialize<W, A>,
+        VU: Archive<Archived = V> + Serialize<W, A>,
         W: Writer,
         A: Allocator + Copy,
-        I: ExactSizeIterator<Item = (&'x KU, &'x VU)>,
+        I: ExactSizeIterator<Item = (BKU, BVU)>,
         requires fitting { IsTrue (are_fitting K.kind V.kind E) }
         requires can { I.can_next iter }
         // With the map after it, what was appended is a map of the iterator's items.
         ensures archived { IfOk result
-            (ArchivesItems K.kind V.kind E KU.archival VU.archival I.next_gives iter
+            (ArchivesItems K.kind V.kind E KU.archival VU.archival
+            (both_borrowed BKU.borrowed BVU.borrowed) I.next_gives iter
             (size (I.remaining iter)) W.state writer.old writer.new) }
         // No accepted map with as many entries has fewer nodes, node bytes or levels.
         ensures smallest { IfOk result
-            (BuildsSmallest K.kind V.kind E KU.archival VU.archival I.next_gives iter
+            (BuildsSmallest K.kind V.kind E KU.archival VU.archival
+            (both_borrowed BKU.borrowed BVU.borrowed) I.next_gives iter
             (size (I.remaining iter)) W.state writer.old writer.new) }
         // docs/FORMAT.md says which bytes these are.
         ensures written { IfOk result
-            (BuildsTree K.kind V.kind E KU.archival VU.archival I.next_gives iter
+            (BuildsTree K.kind V.kind E KU.archival VU.archival
+            (both_borrowed BKU.borrowed BVU.borrowed) I.next_gives iter
             (size (I.remaining iter)) W.state writer.old writer.new) }
         ensures one_tree { IfOk result
-            (BuildsOneTree K.kind V.kind E KU.archival VU.archival I.next_gives iter
+            (BuildsOneTree K.kind V.kind E KU.archival VU.archival
+            (both_borrowed BKU.borrowed BVU.borrowed) I.next_gives iter
             (size (I.remaining iter)) W.state writer.old writer.new) }
         ensures err { IfErr result
-            (FailsToBuild K.kind V.kind E KU.archival VU.archival I.next_gives iter
+            (FailsToBuild K.kind V.kind E KU.archival VU.archival
+            (both_borrowed BKU.borrowed BVU.borrowed) I.next_gives iter
             (size (I.remaining iter)) W.state writer.old writer.new) }
         ensures end { OnOk result
             (0 < size (I.remaining iter) → position (W.state writer.new) ≤ last_end) }
@@ -78,7 +87,9 @@ impl<K: Portable, V: Portable, const E: usize> ArchivedBTreeMap<K, V, E> {
         ensures any_order { (index : ℕ) → IsErrOf result (Fault.OutOfOrder index) → ⊥ }
     {
         let len = iter.len();
-        ArchivedBTreeMap::<K, V, E>::serialize_from_ordered_iter(alloc, len, iter, writer)
+        ArchivedBTreeMap::<K, V, E>::serialize_from_ordered_iter::<BKU, BVU, KU, VU, W, A, I>(
+            alloc, len, iter, writer,
+        )
     }
 }
 
@@ -89,36 +100,37 @@ impl<K: Portable, const E: usize> ArchivedBTreeSet<K, E> {
     /// # Errors
     ///
     /// Those of `serialize_from_ordered_iter`, and the writer's contents are as after these.
-    pub fn serialize_from_exact_iter<'x, KU, W, A, I>(
+    pub fn serialize_from_exact_iter<BKU, KU, W, A, I>(
         alloc: A,
         iter: I,
         writer: &mut W,
     ) -> Result<BTreeSetResolver, Fault<W::Error>>
     where
-        KU: Archive<Archived = K> + Serialize<W, A> + 'x,
+        BKU: Borrow<KU> + Drop,
+        KU: Archive<Archived = K> + Serialize<W, A>,
         W: Writer,
         A: Allocator + Copy,
-        I: ExactSizeIterator<Item = &'x KU>,
+        I: ExactSizeIterator<Item = BKU>,
         requires fitting { IsTrue (are_fitting K.kind unit_kind E) }
         requires can { I.can_next iter }
         // With the set after it, what was appended is a set of the iterator's items.
         ensures archived { IfOk result
-            (ArchivesKeys K.kind E KU.archival I.next_gives iter (size (I.remaining iter))
-            W.state writer.old writer.new) }
+            (ArchivesKeys K.kind E KU.archival BKU.borrowed I.next_gives iter
+            (size (I.remaining iter)) W.state writer.old writer.new) }
         // No accepted set with as many keys has fewer nodes, node bytes or levels.
         ensures smallest { IfOk result
-            (BuildsSmallestSet K.kind E KU.archival I.next_gives iter (size (I.remaining iter))
-            W.state writer.old writer.new) }
+            (BuildsSmallestSet K.kind E KU.archival BKU.borrowed I.next_gives iter
+            (size (I.remaining iter)) W.state writer.old writer.new) }
         // docs/FORMAT.md says which bytes these are.
         ensures written { IfOk result
-            (BuildsSet K.kind E KU.archival I.next_gives iter (size (I.remaining iter))
-            W.state writer.old writer.new) }
+            (BuildsSet K.kind E KU.archival BKU.borrowed I.next_gives iter
+            (size (I.remaining iter)) W.state writer.old writer.new) }
         ensures one_tree { IfOk result
-            (BuildsOneTreeSet K.kind E KU.archival I.next_gives iter (size (I.remaining iter))
-            W.state writer.old writer.new) }
+            (BuildsOneTreeSet K.kind E KU.archival BKU.borrowed I.next_gives iter
+            (size (I.remaining iter)) W.state writer.old writer.new) }
         ensures err { IfErr result
-            (FailsToBuildSet K.kind E KU.archival I.next_gives iter (size (I.remaining iter))
-            W.state writer.old writer.new) }
+            (FailsToBuildSet K.kind E KU.archival BKU.borrowed I.next_gives iter
+            (size (I.remaining iter)) W.state writer.old writer.new) }
         ensures end { OnOk result
             (0 < size (I.remaining iter) → position (W.state writer.new) ≤ last_end) }
         ensures went { OnOk result (OnlyAppended (W.state writer.old) (W.state writer.new)) }
@@ -130,6 +142,8 @@ impl<K: Portable, const E: usize> ArchivedBTreeSet<K, E> {
         ensures any_order { (index : ℕ) → IsErrOf result (Fault.OutOfOrder index) → ⊥ }
     {
         let len = iter.len();
-        ArchivedBTreeSet::<K, E>::serialize_from_ordered_iter(alloc, len, iter, writer)
+        ArchivedBTreeSet::<K, E>::serialize_from_ordered_iter::<BKU, KU, W, A, I>(
+            alloc, len, iter, writer,
+        )
     }
 }

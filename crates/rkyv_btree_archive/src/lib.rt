@@ -2,6 +2,7 @@
 #![tactic(auto)]
 
 pub mod archive;
+pub mod borrow;
 pub mod build;
 mod entries;
 pub mod exact;
@@ -15,6 +16,7 @@ pub mod strict_build;
 pub mod string;
 pub mod to_archive;
 mod tree;
+pub mod try_build;
 pub mod tuple;
 pub mod util;
 pub mod waiting;

@@ -6,14 +6,16 @@ ghost use Rattle.rkyv_btree_writing_laws.specs.Image.{entry_bytes, leaf_bytes, p
 ghost use Rattle.rkyv_btree_format.specs.Layout.{layout_of, are_fitting, len_at, leaf_size, inner_size};
 ghost use Rattle.rkyv_btree_writer.specs.Archiving.{IsUnresolved};
 ghost use Rattle.rkyv_btree_portable.specs.InPlace.{OwnBytes};
-ghost use Rattle.rkyv_btree_writing_laws.specs.Entries.{AreResolved, AreUnresolved, EntriesResolved, EntriesUnresolved, InnerUnfilled, now_of};
+ghost use Rattle.rkyv_btree_writing_laws.specs.Entries.{AreResolved, AreUnresolved, EntriesResolved, EntriesUnresolved, InnerUnfilled, both_borrowed};
 
 use crate::archive::{Archive, resolve_into};
+use crate::borrow::Borrow;
 use rkyv_btree_format::layout;
 use rkyv_btree_portable::check::Portable;
 use rkyv_btree_writer::fault::ResolveFault;
 use rkyv_btree_writer::place::write_offset;
 use std::alloc::Allocator;
+use std::marker::PhantomData;
 use std::mem;
 
 /// Copies bytes into a node, from `start` on.
@@ -60,27 +62,31 @@ trait Half<X> {
         ensures { result.now ≡ part entry.now };
 }
 
-struct Keys;
+struct Keys<M> {
+    of: PhantomData<M>,
+}
 
-struct Values;
+struct Values<N> {
+    of: PhantomData<N>,
+}
 
-impl<'x, M: Archive, N> Half<(&'x M, &'x N)> for Keys {
+impl<B: Borrow<M>, C, M: Archive> Half<(B, C)> for Keys<M> {
     type Part = M;
 
-    ghost part = { λ x. x.0.now };
+    ghost part = { λ x. B.borrowed x.0 };
 
-    fn of<'a>(entry: &'a (&'x M, &'x N)) -> &'a M {
-        entry.0
+    fn of<'a>(entry: &'a (B, C)) -> &'a M {
+        entry.0.borrow()
     }
 }
 
-impl<'x, M, N: Archive> Half<(&'x M, &'x N)> for Values {
+impl<B, C: Borrow<N>, N: Archive> Half<(B, C)> for Values<N> {
     type Part = N;
 
-    ghost part = { λ x. x.1.now };
+    ghost part = { λ x. C.borrowed x.1 };
 
-    fn of<'a>(entry: &'a (&'x M, &'x N)) -> &'a N {
-        entry.1
+    fn of<'a>(entry: &'a (B, C)) -> &'a N {
+        entry.1.borrow()
     }
 }
 
@@ -157,16 +163,18 @@ fn place_halves<H: Half<X>, X, A: Allocator + Copy>(
 
 /// Writes the kind and the entries of a node at position `pos`, and zeros in all of its other bytes.
 #[inline(always)]
-fn place_entries<KU, VU, K, V, A, const E: usize>(
+fn place_entries<BKU, BVU, KU, VU, K, V, A, const E: usize>(
     alloc: A,
     node: &mut [u8],
     kind: u8,
     pos: u32,
-    entries: &[(&KU, &VU)],
+    entries: &[(BKU, BVU)],
     keys: &mut Vec<KU::Resolver, A>,
     values: &mut Vec<VU::Resolver, A>,
 ) -> Result<(), ResolveFault>
 where
+    BKU: Borrow<KU> + Drop,
+    BVU: Borrow<VU> + Drop,
     KU: Archive<Archived = K>,
     VU: Archive<Archived = V>,
     K: Portable,
@@ -181,7 +189,8 @@ where
     ensures ok { OnOk result
         ((owns : List OwnBytes)
         × EntriesResolved (layout_of K.kind V.kind E) KU.archival VU.archival pos
-        (map now_of entries.now) keys.old.items values.old.items owns
+        (map (both_borrowed BKU.borrowed BVU.borrowed) entries.now) keys.old.items
+        values.old.items owns
         × (node.new
         ≡ filled (entry_bytes (layout_of K.kind V.kind E) kind owns) (length node.old))
         × (length (entry_bytes (layout_of K.kind V.kind E) kind owns)
@@ -191,14 +200,15 @@ where
     ensures value_room { vec_capacity values.old ≤ vec_capacity values.new }
     ensures err { IfErr result
         (EntriesUnresolved (layout_of K.kind V.kind E) KU.archival VU.archival pos
-        (map now_of entries.now) keys.old.items values.old.items) }
+        (map (both_borrowed BKU.borrowed BVU.borrowed) entries.now) keys.old.items
+        values.old.items) }
 {
     node.fill(0);
     node[0] = kind;
     let keys_at = layout::key_at::<K, V, E>(0);
-    place_halves::<Keys, _, A>(alloc, node, keys_at as usize, entries, keys, pos + keys_at)?;
+    place_halves::<Keys<KU>, _, A>(alloc, node, keys_at as usize, entries, keys, pos + keys_at)?;
     let values_at = layout::value_at::<K, V, E>(0);
-    place_halves::<Values, _, A>(
+    place_halves::<Values<VU>, _, A>(
         alloc,
         node,
         values_at as usize,
@@ -270,15 +280,17 @@ fn place_children(
 
 /// Fills the bytes of a leaf at position `pos`.
 #[inline(always)]
-fn leaf_into<KU, VU, K, V, A, const E: usize>(
+fn leaf_into<BKU, BVU, KU, VU, K, V, A, const E: usize>(
     alloc: A,
     node: &mut [u8],
     pos: u32,
-    entries: &[(&KU, &VU)],
+    entries: &[(BKU, BVU)],
     keys: &mut Vec<KU::Resolver, A>,
     values: &mut Vec<VU::Resolver, A>,
 ) -> Result<(), ResolveFault>
 where
+    BKU: Borrow<KU> + Drop,
+    BVU: Borrow<VU> + Drop,
     KU: Archive<Archived = K>,
     VU: Archive<Archived = V>,
     K: Portable,
@@ -293,16 +305,18 @@ where
     ensures ok { OnOk result
         ((owns : List OwnBytes)
         × EntriesResolved (layout_of K.kind V.kind E) KU.archival VU.archival pos
-        (map now_of entries.now) keys.old.items values.old.items owns
+        (map (both_borrowed BKU.borrowed BVU.borrowed) entries.now) keys.old.items
+        values.old.items owns
         × (node.new ≡ leaf_bytes (layout_of K.kind V.kind E) owns)) }
     ensures spent { OnOk result ((keys.new.items ≡ []) × (values.new.items ≡ [])) }
     ensures key_room { vec_capacity keys.old ≤ vec_capacity keys.new }
     ensures value_room { vec_capacity values.old ≤ vec_capacity values.new }
     ensures err { IfErr result
         (EntriesUnresolved (layout_of K.kind V.kind E) KU.archival VU.archival pos
-        (map now_of entries.now) keys.old.items values.old.items) }
+        (map (both_borrowed BKU.borrowed BVU.borrowed) entries.now) keys.old.items
+        values.old.items) }
 {
-    place_entries::<KU, VU, K, V, A, E>(alloc, node, 0, pos, entries, keys, values)?;
+    place_entries::<BKU, BVU, KU, VU, K, V, A, E>(alloc, node, 0, pos, entries, keys, values)?;
     let start = layout::len_at::<K, V, E>() as usize;
     place_bytes(node, start, &(entries.len() as u32).to_le_bytes());
     Ok(())
@@ -310,15 +324,17 @@ where
 
 /// Fills the first bytes of `node` as a leaf at position `pos`. The bytes after it are unchanged.
 #[inline(always)]
-fn fill_leaf<KU, VU, K, V, A, const E: usize>(
+fn fill_leaf<BKU, BVU, KU, VU, K, V, A, const E: usize>(
     alloc: A,
     node: &mut [u8],
     pos: u32,
-    entries: &[(&KU, &VU)],
+    entries: &[(BKU, BVU)],
     keys: &mut Vec<KU::Resolver, A>,
     values: &mut Vec<VU::Resolver, A>,
 ) -> Result<(), ResolveFault>
 where
+    BKU: Borrow<KU> + Drop,
+    BVU: Borrow<VU> + Drop,
     KU: Archive<Archived = K>,
     VU: Archive<Archived = V>,
     K: Portable,
@@ -333,7 +349,8 @@ where
     ensures ok { OnOk result
         ((owns : List OwnBytes)
         × EntriesResolved (layout_of K.kind V.kind E) KU.archival VU.archival pos
-        (map now_of entries.now) keys.old.items values.old.items owns
+        (map (both_borrowed BKU.borrowed BVU.borrowed) entries.now) keys.old.items
+        values.old.items owns
         × (node.new
         ≡ leaf_bytes (layout_of K.kind V.kind E) owns
         ++ drop (leaf_size (layout_of K.kind V.kind E)) node.old)) }
@@ -342,23 +359,26 @@ where
     ensures value_room { vec_capacity values.old ≤ vec_capacity values.new }
     ensures err { IfErr result
         (EntriesUnresolved (layout_of K.kind V.kind E) KU.archival VU.archival pos
-        (map now_of entries.now) keys.old.items values.old.items) }
+        (map (both_borrowed BKU.borrowed BVU.borrowed) entries.now) keys.old.items
+        values.old.items) }
 {
     let size = layout::leaf_size::<K, V, E>() as usize;
-    leaf_into::<KU, VU, K, V, A, E>(alloc, &mut node[..size], pos, entries, keys, values)
+    leaf_into::<BKU, BVU, KU, VU, K, V, A, E>(alloc, &mut node[..size], pos, entries, keys, values)
 }
 
 /// Fills the first bytes of a list as a leaf at position `pos`. The bytes after it are unchanged.
 #[inline(always)]
-pub(crate) fn put_leaf<KU, VU, K, V, A, const E: usize>(
+pub(crate) fn put_leaf<BKU, BVU, KU, VU, K, V, A, const E: usize>(
     alloc: A,
     node: &mut Vec<u8, A>,
     pos: u32,
-    entries: &[(&KU, &VU)],
+    entries: &[(BKU, BVU)],
     keys: &mut Vec<KU::Resolver, A>,
     values: &mut Vec<VU::Resolver, A>,
 ) -> Result<(), ResolveFault>
 where
+    BKU: Borrow<KU> + Drop,
+    BVU: Borrow<VU> + Drop,
     KU: Archive<Archived = K>,
     VU: Archive<Archived = V>,
     K: Portable,
@@ -373,7 +393,8 @@ where
     ensures ok { OnOk result
         ((owns : List OwnBytes)
         × EntriesResolved (layout_of K.kind V.kind E) KU.archival VU.archival pos
-        (map now_of entries.now) keys.old.items values.old.items owns
+        (map (both_borrowed BKU.borrowed BVU.borrowed) entries.now) keys.old.items
+        values.old.items owns
         × (node.new.items
         ≡ leaf_bytes (layout_of K.kind V.kind E) owns
         ++ drop (leaf_size (layout_of K.kind V.kind E)) node.old.items)) }
@@ -383,25 +404,28 @@ where
     ensures value_room { vec_capacity values.old ≤ vec_capacity values.new }
     ensures err { IfErr result
         (EntriesUnresolved (layout_of K.kind V.kind E) KU.archival VU.archival pos
-        (map now_of entries.now) keys.old.items values.old.items) }
+        (map (both_borrowed BKU.borrowed BVU.borrowed) entries.now) keys.old.items
+        values.old.items) }
 {
     let whole = node.as_mut_slice();
-    fill_leaf::<KU, VU, K, V, A, E>(alloc, whole, pos, entries, keys, values)
+    fill_leaf::<BKU, BVU, KU, VU, K, V, A, E>(alloc, whole, pos, entries, keys, values)
 }
 
 /// Fills the bytes of an inner node at position `pos`. Fails if a pointer can't reach its child.
 #[inline(always)]
-fn inner_into<KU, VU, K, V, A, const E: usize>(
+fn inner_into<BKU, BVU, KU, VU, K, V, A, const E: usize>(
     alloc: A,
     node: &mut [u8],
     pos: u32,
-    entries: &[(&KU, &VU)],
+    entries: &[(BKU, BVU)],
     keys: &mut Vec<KU::Resolver, A>,
     values: &mut Vec<VU::Resolver, A>,
     children: &[Option<u32>],
     last: Option<u32>,
 ) -> Result<(), ResolveFault>
 where
+    BKU: Borrow<KU> + Drop,
+    BVU: Borrow<VU> + Drop,
     KU: Archive<Archived = K>,
     VU: Archive<Archived = V>,
     K: Portable,
@@ -417,7 +441,8 @@ where
     ensures ok { OnOk result
         ((owns : List OwnBytes)
         × EntriesResolved (layout_of K.kind V.kind E) KU.archival VU.archival pos
-        (map now_of entries.now) keys.old.items values.old.items owns
+        (map (both_borrowed BKU.borrowed BVU.borrowed) entries.now) keys.old.items
+        values.old.items owns
         × (node.new
         ≡ inner_bytes (layout_of K.kind V.kind E) pos owns (children.now ++ last ∷ []))
         × (pointers_reach (pos + len_at (layout_of K.kind V.kind E)) (children.now ++ last ∷ [])
@@ -427,10 +452,10 @@ where
     ensures value_room { vec_capacity values.old ≤ vec_capacity values.new }
     ensures err { IfErr result
         (InnerUnfilled (layout_of K.kind V.kind E) KU.archival VU.archival pos
-        (map now_of entries.now) keys.old.items values.old.items
+        (map (both_borrowed BKU.borrowed BVU.borrowed) entries.now) keys.old.items values.old.items
         (children.now ++ last ∷ [])) }
 {
-    place_entries::<KU, VU, K, V, A, E>(alloc, node, 1, pos, entries, keys, values)?;
+    place_entries::<BKU, BVU, KU, VU, K, V, A, E>(alloc, node, 1, pos, entries, keys, values)?;
     let start = layout::lesser_at::<K, V, E>(0);
     if !place_children(node, start as usize, pos + start, children, last) {
         return Err(ResolveFault::OffsetOverflow);
@@ -441,17 +466,19 @@ where
 /// Fills the first bytes of `node` as an inner node at position `pos`. Fails if a pointer can't reach its child. The bytes
 /// after the node are unchanged.
 #[inline(always)]
-fn fill_inner<KU, VU, K, V, A, const E: usize>(
+fn fill_inner<BKU, BVU, KU, VU, K, V, A, const E: usize>(
     alloc: A,
     node: &mut [u8],
     pos: u32,
-    entries: &[(&KU, &VU)],
+    entries: &[(BKU, BVU)],
     keys: &mut Vec<KU::Resolver, A>,
     values: &mut Vec<VU::Resolver, A>,
     children: &[Option<u32>],
     last: Option<u32>,
 ) -> Result<(), ResolveFault>
 where
+    BKU: Borrow<KU> + Drop,
+    BVU: Borrow<VU> + Drop,
     KU: Archive<Archived = K>,
     VU: Archive<Archived = V>,
     K: Portable,
@@ -467,7 +494,8 @@ where
     ensures ok { OnOk result
         ((owns : List OwnBytes)
         × EntriesResolved (layout_of K.kind V.kind E) KU.archival VU.archival pos
-        (map now_of entries.now) keys.old.items values.old.items owns
+        (map (both_borrowed BKU.borrowed BVU.borrowed) entries.now) keys.old.items
+        values.old.items owns
         × (node.new
         ≡ inner_bytes (layout_of K.kind V.kind E) pos owns (children.now ++ last ∷ [])
         ++ drop (inner_size (layout_of K.kind V.kind E)) node.old)
@@ -478,11 +506,11 @@ where
     ensures value_room { vec_capacity values.old ≤ vec_capacity values.new }
     ensures err { IfErr result
         (InnerUnfilled (layout_of K.kind V.kind E) KU.archival VU.archival pos
-        (map now_of entries.now) keys.old.items values.old.items
+        (map (both_borrowed BKU.borrowed BVU.borrowed) entries.now) keys.old.items values.old.items
         (children.now ++ last ∷ [])) }
 {
     let size = layout::inner_size::<K, V, E>() as usize;
-    inner_into::<KU, VU, K, V, A, E>(
+    inner_into::<BKU, BVU, KU, VU, K, V, A, E>(
         alloc,
         &mut node[..size],
         pos,
@@ -497,17 +525,19 @@ where
 /// Fills the first bytes of a list as an inner node at position `pos`. Fails if a pointer can't reach its child. The bytes
 /// after the node are unchanged.
 #[inline(always)]
-pub(crate) fn put_inner<KU, VU, K, V, A, const E: usize>(
+pub(crate) fn put_inner<BKU, BVU, KU, VU, K, V, A, const E: usize>(
     alloc: A,
     node: &mut Vec<u8, A>,
     pos: u32,
-    entries: &[(&KU, &VU)],
+    entries: &[(BKU, BVU)],
     keys: &mut Vec<KU::Resolver, A>,
     values: &mut Vec<VU::Resolver, A>,
     children: &[Option<u32>],
     last: Option<u32>,
 ) -> Result<(), ResolveFault>
 where
+    BKU: Borrow<KU> + Drop,
+    BVU: Borrow<VU> + Drop,
     KU: Archive<Archived = K>,
     VU: Archive<Archived = V>,
     K: Portable,
@@ -523,7 +553,8 @@ where
     ensures ok { OnOk result
         ((owns : List OwnBytes)
         × EntriesResolved (layout_of K.kind V.kind E) KU.archival VU.archival pos
-        (map now_of entries.now) keys.old.items values.old.items owns
+        (map (both_borrowed BKU.borrowed BVU.borrowed) entries.now) keys.old.items
+        values.old.items owns
         × (node.new.items
         ≡ inner_bytes (layout_of K.kind V.kind E) pos owns (children.now ++ last ∷ [])
         ++ drop (inner_size (layout_of K.kind V.kind E)) node.old.items)
@@ -535,9 +566,11 @@ where
     ensures value_room { vec_capacity values.old ≤ vec_capacity values.new }
     ensures err { IfErr result
         (InnerUnfilled (layout_of K.kind V.kind E) KU.archival VU.archival pos
-        (map now_of entries.now) keys.old.items values.old.items
+        (map (both_borrowed BKU.borrowed BVU.borrowed) entries.now) keys.old.items values.old.items
         (children.now ++ last ∷ [])) }
 {
     let whole = node.as_mut_slice();
-    fill_inner::<KU, VU, K, V, A, E>(alloc, whole, pos, entries, keys, values, children, last)
+    fill_inner::<BKU, BVU, KU, VU, K, V, A, E>(
+        alloc, whole, pos, entries, keys, values, children, last,
+    )
 }

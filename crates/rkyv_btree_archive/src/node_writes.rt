@@ -5,10 +5,11 @@ ghost use Rattle.rkyv_btree_portable.specs.InPlace.{OwnBytes};
 ghost use Rattle.rkyv_btree_format.specs.Layout.{layout_of, are_fitting, leaf_size, inner_size};
 ghost use Rattle.rkyv_btree_archive.specs.mirror.Scratch.{IsFree};
 ghost use Rattle.rkyv_btree_writer.specs.Writing.{Write, position, last_end};
-ghost use Rattle.rkyv_btree_writing_laws.specs.Entries.{as_fault, now_of};
+ghost use Rattle.rkyv_btree_writing_laws.specs.Entries.{as_fault, both_borrowed};
 ghost use Rattle.rkyv_btree_writing_laws.specs.Written.{IsPadded, NodeWritten, NodeStopped};
 
 use crate::archive::{Archive, Serialize};
+use crate::borrow::Borrow;
 use crate::entries::serialize_entries;
 use crate::node_bytes::{put_inner, put_leaf};
 use rkyv_btree_format::layout;
@@ -63,15 +64,17 @@ pub fn fault_of<E>(fault: ResolveFault) -> Fault<E>
 /// Serializes the entries of a node of `size` bytes, writes the padding before the node, and returns the node's position. The
 /// node ends at a position that fits in 32 bits.
 #[inline(always)]
-fn begin_node<KU, VU, K, V, W, A, const E: usize>(
+fn begin_node<BKU, BVU, KU, VU, K, V, W, A, const E: usize>(
     alloc: A,
     size: u32,
-    entries: &[(&KU, &VU)],
+    entries: &[(BKU, BVU)],
     keys: &mut Vec<KU::Resolver, A>,
     values: &mut Vec<VU::Resolver, A>,
     writer: &mut W,
 ) -> Result<u32, Fault<W::Error>>
 where
+    BKU: Borrow<KU> + Drop,
+    BVU: Borrow<VU> + Drop,
     KU: Archive<Archived = K> + Serialize<W, A>,
     VU: Archive<Archived = V> + Serialize<W, A>,
     K: Portable,
@@ -85,13 +88,15 @@ where
     requires value_room { length entries.now ≤ vec_capacity values.old }
     ensures ok { OnOk result
         (IsPadded (layout_of K.kind V.kind E) KU.archival VU.archival (W.state writer.old)
-        (map now_of entries.now) keys.new.items values.new.items (W.state writer.new)) }
+        (map (both_borrowed BKU.borrowed BVU.borrowed) entries.now) keys.new.items
+        values.new.items (W.state writer.new)) }
     ensures place { IfOk result (λ root. root ≡ position (W.state writer.new)) }
     ensures end { IfOk result (λ root. root + size ≤ last_end) }
     ensures err { IfErr result (λ fault.
         (image : ℕ → List OwnBytes → List Write) →
         NodeStopped (layout_of K.kind V.kind E) KU.archival VU.archival image size
-        (W.state writer.old) (map now_of entries.now) fault (W.state writer.new)) }
+        (W.state writer.old) (map (both_borrowed BKU.borrowed BVU.borrowed) entries.now) fault
+        (W.state writer.new)) }
     ensures keys { OnOk result (length keys.new.items ≡ length entries.now) }
     ensures values { OnOk result (length values.new.items ≡ length entries.now) }
     ensures key_room { vec_capacity keys.old ≤ vec_capacity keys.new }
@@ -111,13 +116,15 @@ where
 ///
 /// Those of serializing an entry and of a write, `PositionOverflow` if the leaf ends past 32 bits, and `Memory`.
 #[inline(always)]
-pub fn write_leaf<KU, VU, K, V, W, A, const E: usize>(
+pub fn write_leaf<BKU, BVU, KU, VU, K, V, W, A, const E: usize>(
     alloc: A,
     scratch: &mut Scratch<KU::Resolver, VU::Resolver, A>,
-    entries: &[(&KU, &VU)],
+    entries: &[(BKU, BVU)],
     writer: &mut W,
 ) -> Result<u32, Fault<W::Error>>
 where
+    BKU: Borrow<KU> + Drop,
+    BVU: Borrow<VU> + Drop,
     KU: Archive<Archived = K> + Serialize<W, A>,
     VU: Archive<Archived = V> + Serialize<W, A>,
     K: Portable,
@@ -130,16 +137,18 @@ where
     ensures ok { IfOk result (λ root.
         NodeWritten (layout_of K.kind V.kind E) KU.archival VU.archival
         (leaf_image (layout_of K.kind V.kind E)) (leaf_size (layout_of K.kind V.kind E))
-        (W.state writer.old) (map now_of entries.now) root (W.state writer.new)) }
+        (W.state writer.old) (map (both_borrowed BKU.borrowed BVU.borrowed) entries.now) root
+        (W.state writer.new)) }
     ensures last { OnOk result (position (W.state writer.new) ≤ last_end) }
     ensures err { IfErr result (λ fault.
         NodeStopped (layout_of K.kind V.kind E) KU.archival VU.archival
         (leaf_image (layout_of K.kind V.kind E)) (leaf_size (layout_of K.kind V.kind E))
-        (W.state writer.old) (map now_of entries.now) fault (W.state writer.new)) }
+        (W.state writer.old) (map (both_borrowed BKU.borrowed BVU.borrowed) entries.now) fault
+        (W.state writer.new)) }
     ensures free { OnOk result (IsFree (layout_of K.kind V.kind E) scratch.new) }
 {
     let size = layout::leaf_size::<K, V, E>();
-    let root = begin_node::<KU, VU, K, V, W, A, E>(
+    let root = begin_node::<BKU, BVU, KU, VU, K, V, W, A, E>(
         alloc,
         size,
         entries,
@@ -147,7 +156,7 @@ where
         &mut scratch.values,
         writer,
     )?;
-    match put_leaf::<KU, VU, K, V, A, E>(
+    match put_leaf::<BKU, BVU, KU, VU, K, V, A, E>(
         alloc,
         &mut scratch.node,
         root,
@@ -168,15 +177,17 @@ where
 /// # Errors
 ///
 /// Those of `write_leaf`, and `OffsetOverflow` if the distance to a child is no offset.
-pub fn write_inner<KU, VU, K, V, W, A, const E: usize>(
+pub fn write_inner<BKU, BVU, KU, VU, K, V, W, A, const E: usize>(
     alloc: A,
     scratch: &mut Scratch<KU::Resolver, VU::Resolver, A>,
-    entries: &[(&KU, &VU)],
+    entries: &[(BKU, BVU)],
     children: &[Option<u32>],
     last: Option<u32>,
     writer: &mut W,
 ) -> Result<u32, Fault<W::Error>>
 where
+    BKU: Borrow<KU> + Drop,
+    BVU: Borrow<VU> + Drop,
     KU: Archive<Archived = K> + Serialize<W, A>,
     VU: Archive<Archived = V> + Serialize<W, A>,
     K: Portable,
@@ -192,18 +203,18 @@ where
         (λ at owns.
         inner_image (layout_of K.kind V.kind E) at owns (children.now ++ last ∷ []))
         (inner_size (layout_of K.kind V.kind E)) (W.state writer.old)
-        (map now_of entries.now) root (W.state writer.new)) }
+        (map (both_borrowed BKU.borrowed BVU.borrowed) entries.now) root (W.state writer.new)) }
     ensures last { OnOk result (position (W.state writer.new) ≤ last_end) }
     ensures err { IfErr result (λ fault.
         NodeStopped (layout_of K.kind V.kind E) KU.archival VU.archival
         (λ at owns.
         inner_image (layout_of K.kind V.kind E) at owns (children.now ++ last ∷ []))
         (inner_size (layout_of K.kind V.kind E)) (W.state writer.old)
-        (map now_of entries.now) fault (W.state writer.new)) }
+        (map (both_borrowed BKU.borrowed BVU.borrowed) entries.now) fault (W.state writer.new)) }
     ensures free { OnOk result (IsFree (layout_of K.kind V.kind E) scratch.new) }
 {
     let size = layout::inner_size::<K, V, E>();
-    let root = begin_node::<KU, VU, K, V, W, A, E>(
+    let root = begin_node::<BKU, BVU, KU, VU, K, V, W, A, E>(
         alloc,
         size,
         entries,
@@ -211,7 +222,7 @@ where
         &mut scratch.values,
         writer,
     )?;
-    match put_inner::<KU, VU, K, V, A, E>(
+    match put_inner::<BKU, BVU, KU, VU, K, V, A, E>(
         alloc,
         &mut scratch.node,
         root,

@@ -24,6 +24,7 @@ ghost use Rattle.rkyv_btree_verify.proofs.MapLaws.{map_laws, map_refusals};
 ghost use Rattle.rkyv_btree_writer.specs.Writing.{position, Wrote, last_end};
 
 use crate::archive::{Archive, Serialize};
+use crate::borrow::Borrow;
 use crate::build::BTreeMapResolver;
 use crate::map_type::ArchivedBTreeMap;
 use rkyv_btree_portable::check::{CheckBytes, Portable, Window};
@@ -92,10 +93,10 @@ pub fn verify<K: CheckBytes, const E: usize>(
 }
 
 /// The entry of a key: the key with a `()`.
-fn with_unit<'x, M>(key: &'x M) -> (&'x M, &'x ())
-    ensures { result.0 ≡ key.entry }
+fn with_unit<B>(key: B) -> (B, ())
+    ensures { result.0 ≡ key }
 {
-    (key, &())
+    (key, ())
 }
 
 impl<K: Portable, const E: usize> ArchivedBTreeSet<K, E> {
@@ -105,37 +106,39 @@ impl<K: Portable, const E: usize> ArchivedBTreeSet<K, E> {
     /// # Errors
     ///
     /// Those of `serialize_from_ordered_iter` of a map, and the writer's contents are as after these.
-    pub fn serialize_from_ordered_iter<'x, KU, W, A, I>(
+    pub fn serialize_from_ordered_iter<BKU, KU, W, A, I>(
         alloc: A,
         len: usize,
         iter: I,
         writer: &mut W,
     ) -> Result<BTreeSetResolver, Fault<W::Error>>
     where
-        KU: Archive<Archived = K> + Serialize<W, A> + 'x,
+        BKU: Borrow<KU> + Drop,
+        KU: Archive<Archived = K> + Serialize<W, A>,
         W: Writer,
         A: Allocator + Copy,
-        I: Iterator<Item = &'x KU>,
+        I: Iterator<Item = BKU>,
         requires fitting { IsTrue (are_fitting K.kind unit_kind E) }
         requires can { I.can_next iter }
         requires ends { UpTo (I.remaining iter) 18446744073709551615 }
         // With the set after it, what was appended is a set of the iterator's items.
         ensures archived { IfOk result
-            (ArchivesKeys K.kind E KU.archival I.next_gives iter len W.state writer.old
+            (ArchivesKeys K.kind E KU.archival BKU.borrowed I.next_gives iter len W.state writer.old
             writer.new) }
         // No accepted set with as many keys has fewer nodes, node bytes or levels.
         ensures smallest { IfOk result
-            (BuildsSmallestSet K.kind E KU.archival I.next_gives iter len
+            (BuildsSmallestSet K.kind E KU.archival BKU.borrowed I.next_gives iter len
             W.state writer.old writer.new) }
         // docs/FORMAT.md says which bytes these are.
         ensures written { IfOk result
-            (BuildsSet K.kind E KU.archival I.next_gives iter len W.state writer.old writer.new) }
+            (BuildsSet K.kind E KU.archival BKU.borrowed I.next_gives iter len W.state writer.old
+            writer.new) }
         // The tree is the one left-complete tree of the keys, and what was appended is its image.
         ensures one_tree { IfOk result
-            (BuildsOneTreeSet K.kind E KU.archival I.next_gives iter len
+            (BuildsOneTreeSet K.kind E KU.archival BKU.borrowed I.next_gives iter len
             W.state writer.old writer.new) }
         ensures err { IfErr result
-            (FailsToBuildSet K.kind E KU.archival I.next_gives iter len
+            (FailsToBuildSet K.kind E KU.archival BKU.borrowed I.next_gives iter len
             W.state writer.old writer.new) }
         ensures end { OnOk result (0 < len → position (W.state writer.new) ≤ last_end) }
         // On success no write has failed, and bytes were only appended.
@@ -154,7 +157,7 @@ impl<K: Portable, const E: usize> ArchivedBTreeSet<K, E> {
         // Keys in any order are serialized: no error is `OutOfOrder`.
         ensures any_order { (index : ℕ) → IsErrOf result (Fault.OutOfOrder index) → ⊥ }
     {
-        ArchivedBTreeMap::<K, (), E>::serialize_from_ordered_iter::<KU, (), W, A, _>(
+        ArchivedBTreeMap::<K, (), E>::serialize_from_ordered_iter::<BKU, (), KU, (), W, A, _>(
             alloc,
             len,
             iter.map(|key| with_unit(key)),
@@ -163,45 +166,47 @@ impl<K: Portable, const E: usize> ArchivedBTreeSet<K, E> {
     }
 
     /// Serializes the items of an iterator, which must increase, as the tree of a set, and returns the position of its root node.
-    /// `len` is the declared number of items. It is the map's call with a `()` for each key.
+    /// `len` is the declared number of items. It is the map's call with a `()` for each key, so an item is a reference or another
+    /// `Copy` type.
     ///
     /// # Errors
     ///
     /// Those of `serialize_from_ordered_iter`, and `Fault::OutOfOrder` with the index of the first item that isn't greater than the
     /// item before it.
-    pub fn serialize_strict_from_ordered_iter<'x, KU, W, A, I>(
+    pub fn serialize_strict_from_ordered_iter<BKU, KU, W, A, I>(
         alloc: A,
         len: usize,
         iter: I,
         writer: &mut W,
     ) -> Result<BTreeSetResolver, Fault<W::Error>>
     where
-        KU: Archive<Archived = K> + Serialize<W, A> + Ord + 'x,
+        BKU: Borrow<KU> + Copy,
+        KU: Archive<Archived = K> + Serialize<W, A> + Ord,
         W: Writer,
         A: Allocator + Copy,
-        I: Iterator<Item = &'x KU>,
+        I: Iterator<Item = BKU>,
         requires fitting { IsTrue (are_fitting K.kind unit_kind E) }
         requires can { I.can_next iter }
         requires ends { UpTo (I.remaining iter) 18446744073709551615 }
         // With the set after it, what was appended is a set of the iterator's items.
         ensures archived { IfOk result
-            (ArchivesKeys K.kind E KU.archival I.next_gives iter len W.state writer.old
+            (ArchivesKeys K.kind E KU.archival BKU.borrowed I.next_gives iter len W.state writer.old
             writer.new) }
         // No accepted set with as many keys has fewer nodes, node bytes or levels.
         ensures smallest { IfOk result
-            (BuildsSmallestSet K.kind E KU.archival I.next_gives iter len
+            (BuildsSmallestSet K.kind E KU.archival BKU.borrowed I.next_gives iter len
             W.state writer.old writer.new) }
         // The keys increase, and docs/FORMAT.md says which bytes were written.
         ensures written { IfOk result
-            (BuildsSetInOrder KU.cmp K.kind E KU.archival I.next_gives iter len
+            (BuildsSetInOrder KU.cmp K.kind E KU.archival BKU.borrowed I.next_gives iter len
             W.state writer.old writer.new) }
         // The tree is the one left-complete tree of the keys, and what was appended is its image.
         ensures one_tree { IfOk result
-            (BuildsOneTreeSet K.kind E KU.archival I.next_gives iter len
+            (BuildsOneTreeSet K.kind E KU.archival BKU.borrowed I.next_gives iter len
             W.state writer.old writer.new) }
         // Each error's cause is there, and no key before it is out of order.
         ensures err { IfErr result
-            (FailsSetInOrder KU.cmp K.kind E KU.archival I.next_gives iter len
+            (FailsSetInOrder KU.cmp K.kind E KU.archival BKU.borrowed I.next_gives iter len
             W.state writer.old writer.new) }
         ensures end { OnOk result (0 < len → position (W.state writer.new) ≤ last_end) }
         // On success no write has failed, and bytes were only appended.
@@ -218,12 +223,15 @@ impl<K: Portable, const E: usize> ArchivedBTreeSet<K, E> {
         ensures none { len ≡ 0 →
             IfErr result IsMiscount × (W.state writer.new ≡ W.state writer.old) }
     {
-        ArchivedBTreeMap::<K, (), E>::serialize_strict_from_ordered_iter::<KU, (), W, A, _>(
-            alloc,
-            len,
-            iter.map(|key| with_unit(key)),
-            writer,
-        )
+        ArchivedBTreeMap::<K, (), E>::serialize_strict_from_ordered_iter::<
+            BKU,
+            (),
+            KU,
+            (),
+            W,
+            A,
+            _,
+        >(alloc, len, iter.map(|key| with_unit(key)), writer)
     }
 }
 

@@ -93,11 +93,17 @@ impl<W: Writer, A: Allocator + Copy, KU: Serialize<W, A> + Ord, VU: Serialize<W,
         ensures memory { NeverGrows KU.archival → NeverGrows VU.archival →
             IsErrOf result (Fault.Memory alloc_error) → W.state writer.new ≡ W.state writer.old }
     {
+        let count = self.len();
         ArchivedBTreeMap::<
             KU::Archived,
             VU::Archived,
             DEFAULT_ENTRIES_PER_NODE,
-        >::serialize_from_ordered_iter(alloc, self.len(), self.iter(), writer)
+        >::serialize_from_ordered_iter::<&KU, &VU, KU, VU, W, A, _>(
+            alloc,
+            count,
+            self.iter(),
+            writer,
+        )
     }
 }
 

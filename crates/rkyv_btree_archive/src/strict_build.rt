@@ -1,4 +1,5 @@
 //! Building archived maps whose keys must increase.
+ghost use Rattle.rkyv_btree_writing_laws.specs.Entries.{both_borrowed};
 ghost use Rattle.std.specs.Prelude.{◌≡◌, ◌<◌, ◌≤◌, alloc_error, OnOk, OnErr, IfOk, IfErr, IfSome, IsErrOf, IsTrue, MatchBool, MatchOption};
 ghost use Rattle.std.specs.declared.cmp.Ordering.TheVariants.{Less};
 ghost use Rattle.std.specs.Iterator.{UpTo};
@@ -13,6 +14,7 @@ ghost use Rattle.rkyv_btree_writer.specs.Writing.{position, last_end};
 ghost use Rattle.rkyv_btree_archive.specs.mirror.InOrder.{IsNext, IsNotNext, met_out_of_order};
 
 use crate::archive::{Archive, Serialize};
+use crate::borrow::Borrow;
 use crate::build::{BTreeMapResolver, build_from};
 use crate::items::{Look, Source};
 use crate::map_type::ArchivedBTreeMap;
@@ -20,41 +22,45 @@ use rkyv_btree_portable::check::Portable;
 use rkyv_btree_writer::fault::Fault;
 use rkyv_btree_writer::place::Writer;
 use std::alloc::Allocator;
+use std::marker::PhantomData;
 
 /// Passes keys that increase, as far as their items are claimed.
 #[derive(Drop)]
-pub(crate) struct InOrder<'x, M> {
+pub(crate) struct InOrder<B, M> {
     /// How many claimed items are to come.
     left: usize,
-    /// The key of the last claimed item.
-    last: Option<&'x M>,
+    /// The key of the last claimed item, as it came.
+    last: Option<B>,
     /// Whether a key was out of order.
     stopped: bool,
+    of: PhantomData<M>,
 }
 
 /// Returns whether a key is greater than the last one, if there is a last one.
-fn is_next<'x, M: Ord>(last: Option<&'x M>, key: &'x M) -> bool
-    ensures { MatchBool result (IfSome last.entry (λ last. M.cmp last.now key.now ≡ Less))
-        (MatchOption last.entry ⊥ (λ last. ¬ (M.cmp last.now key.now ≡ Less))) }
+fn is_next<B: Borrow<M> + Copy, M: Ord>(last: Option<B>, key: &B) -> bool
+    ensures { MatchBool result
+        (IfSome last (λ last. M.cmp (B.borrowed last) (B.borrowed key.now) ≡ Less))
+        (MatchOption last ⊥ (λ last.
+        ¬ (M.cmp (B.borrowed last) (B.borrowed key.now) ≡ Less))) }
 {
     match last {
-        Some(last) => last.cmp(key).is_lt(),
+        Some(last) => last.borrow().cmp(key.borrow()).is_lt(),
         None => true,
     }
 }
 
-impl<'x, M: Ord> Look<'x, M> for InOrder<'x, M> {
-    ghost passes = { IsNext M.cmp };
+impl<B: Borrow<M> + Copy, M: Ord> Look<B> for InOrder<B, M> {
+    ghost passes = { IsNext M.cmp B.borrowed };
 
-    ghost stops = { IsNotNext M.cmp };
+    ghost stops = { IsNotNext M.cmp B.borrowed };
 
-    fn look(&mut self, key: &'x M) -> bool {
+    fn look(&mut self, key: &B) -> bool {
         if self.left > 0 {
-            if !is_next(self.last, key) {
+            if !is_next::<B, M>(self.last, key) {
                 self.stopped = true;
                 return false;
             }
-            self.last = Some(key);
+            self.last = Some(*key);
             self.left -= 1;
         }
         true
@@ -82,47 +88,55 @@ fn out_of_order<E: Drop>(fault: Fault<E>) -> Fault<E>
 impl<K: Portable, V: Portable, const E: usize> ArchivedBTreeMap<K, V, E> {
     /// Serializes the items of an iterator, whose keys must increase, as the tree of a map, and returns the position of its root
     /// node. It does what `serialize_from_ordered_iter` does. It compares each key with the key before it, by `Ord`, when it takes
-    /// the item. It counts the items past the declared length, and doesn't compare them.
+    /// the item, and keeps a copy of the item's key for it. So an item's key is a reference or another `Copy` type: an owned `String`
+    /// is none. It counts the items past the declared length, and doesn't compare them.
     ///
     /// # Errors
     ///
     /// Those of `serialize_from_ordered_iter`, and `Fault::OutOfOrder` with the index of the first item whose key isn't greater
     /// than the key before it. After an error the writer's contents begin with the old ones.
-    pub fn serialize_strict_from_ordered_iter<'x, KU, VU, W, A, I>(
+    pub fn serialize_strict_from_ordered_iter<BKU, BVU, KU, VU, W, A, I>(
         alloc: A,
         len: usize,
         iter: I,
         writer: &mut W,
     ) -> Result<BTreeMapResolver, Fault<W::Error>>
     where
-        KU: Archive<Archived = K> + Serialize<W, A> + Ord + 'x,
-        VU: Archive<Archived = V> + Serialize<W, A> + 'x,
+        BKU: Borrow<KU> + Copy,
+        BVU: Borrow<VU> + Drop,
+        KU: Archive<Archived = K> + Serialize<W, A> + Ord,
+        VU: Archive<Archived = V> + Serialize<W, A>,
         W: Writer,
         A: Allocator + Copy,
-        I: Iterator<Item = (&'x KU, &'x VU)>,
+        I: Iterator<Item = (BKU, BVU)>,
         requires fitting { IsTrue (are_fitting K.kind V.kind E) }
         requires can { I.can_next iter }
         requires ends { UpTo (I.remaining iter) 18446744073709551615 }
         // With the map after it, what was appended is a map of the iterator's items.
         ensures archived { IfOk result
-            (ArchivesItems K.kind V.kind E KU.archival VU.archival I.next_gives iter len
-            W.state writer.old writer.new) }
+            (ArchivesItems K.kind V.kind E KU.archival VU.archival
+            (both_borrowed BKU.borrowed BVU.borrowed) I.next_gives iter len W.state writer.old
+            writer.new) }
         // No accepted map with as many entries has fewer nodes, node bytes or levels.
         ensures smallest { IfOk result
-            (BuildsSmallest K.kind V.kind E KU.archival VU.archival I.next_gives iter len
-            W.state writer.old writer.new) }
+            (BuildsSmallest K.kind V.kind E KU.archival VU.archival
+            (both_borrowed BKU.borrowed BVU.borrowed) I.next_gives iter len W.state writer.old
+            writer.new) }
         // The keys increase, and docs/FORMAT.md says which bytes were written.
         ensures written { IfOk result
-            (BuildsInOrder KU.cmp K.kind V.kind E KU.archival VU.archival I.next_gives iter len
-            W.state writer.old writer.new) }
+            (BuildsInOrder KU.cmp K.kind V.kind E KU.archival VU.archival
+            (both_borrowed BKU.borrowed BVU.borrowed) I.next_gives iter len W.state writer.old
+            writer.new) }
         // The tree is the only left-complete tree of the items, and the appended bytes are its image.
         ensures one_tree { IfOk result
-            (BuildsOneTree K.kind V.kind E KU.archival VU.archival I.next_gives iter len
-            W.state writer.old writer.new) }
+            (BuildsOneTree K.kind V.kind E KU.archival VU.archival
+            (both_borrowed BKU.borrowed BVU.borrowed) I.next_gives iter len W.state writer.old
+            writer.new) }
         // Each error's cause is there, and no key before it is out of order.
         ensures err { IfErr result
-            (FailsInOrder KU.cmp K.kind V.kind E KU.archival VU.archival I.next_gives iter len
-            W.state writer.old writer.new) }
+            (FailsInOrder KU.cmp K.kind V.kind E KU.archival VU.archival
+            (both_borrowed BKU.borrowed BVU.borrowed) I.next_gives iter len W.state writer.old
+            writer.new) }
         ensures end { OnOk result (0 < len → position (W.state writer.new) ≤ last_end) }
         // On success no write has failed, and bytes were only appended.
         ensures went { OnOk result (OnlyAppended (W.state writer.old) (W.state writer.new)) }
@@ -144,9 +158,10 @@ impl<K: Portable, V: Portable, const E: usize> ArchivedBTreeMap<K, V, E> {
                 left: len,
                 last: None,
                 stopped: false,
+                of: PhantomData,
             },
         };
-        let built = build_from::<KU, VU, K, V, W, A, I, InOrder<'x, KU>, E>(
+        let built = build_from::<BKU, BVU, KU, VU, K, V, W, A, I, InOrder<BKU, KU>, E>(
             alloc,
             len,
             &mut source,

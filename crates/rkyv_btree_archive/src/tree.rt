@@ -1,5 +1,6 @@
 //! Writing a tree in one pass over its entries. Only the entries of open nodes wait in memory: those of one node for each level
 //! above the last, and those of one leaf.
+ghost use Rattle.rkyv_btree_writing_laws.specs.Entries.{both_borrowed};
 ghost use Rattle.std.specs.Prelude.{◌≡◌, ℕ, ◌+◌, ◌*◌, ◌-◌, ◌^◌, ◌≤◌, ◌<◌, ◌↔◌, List, [], ◌∷◌, ◌++◌, length, replicate};
 ghost use Rattle.std.specs.Prelude.{vec_capacity, OnOk, IfOk, IfErr, IfSome, IfNone, IsTrue};
 ghost use Rattle.std.specs.Iterator.{IsFinite, size};
@@ -11,6 +12,7 @@ ghost use Rattle.rkyv_btree_archive.specs.mirror.Source.{Gives};
 ghost use Rattle.rkyv_btree_writer.specs.Writing.{position, last_end};
 
 use crate::archive::{Archive, Serialize};
+use crate::borrow::Borrow;
 use crate::items::{Look, Source, take_items};
 use crate::node_writes::{Scratch, write_leaf};
 use crate::waiting::{push, wait, write_above};
@@ -73,34 +75,36 @@ fn innermost<A: Allocator>(starts: &Vec<usize, A>) -> Option<usize>
 /// The memory for writing a tree: that for one node, and lists of the entries and children that wait for their nodes, of the
 /// open nodes, and of a leaf's entries.
 #[derive(Drop)]
-pub(crate) struct Lists<'x, KU: Archive, VU: Archive, A: Allocator> {
+pub(crate) struct Lists<BKU, BVU, KU: Archive, VU: Archive, A: Allocator> {
     pub(crate) scratch: Scratch<KU::Resolver, VU::Resolver, A>,
-    pub(crate) waiting: Vec<(&'x KU, &'x VU), A>,
+    pub(crate) waiting: Vec<(BKU, BVU), A>,
     pub(crate) children: Vec<Option<u32>, A>,
     pub(crate) starts: Vec<usize, A>,
-    pub(crate) leaf: Vec<(&'x KU, &'x VU), A>,
+    pub(crate) leaf: Vec<(BKU, BVU), A>,
 }
 
 /// Takes the items of a tree, writes the tree, and returns the position of its root node. The tree has `above` levels above its
 /// last one, which has `on_last` entries.
-pub(crate) fn write_tree<'x, KU, VU, K, V, W, A, I, L, const E: usize>(
+pub(crate) fn write_tree<BKU, BVU, KU, VU, K, V, W, A, I, L, const E: usize>(
     alloc: A,
     above: usize,
     on_last: usize,
     claim: usize,
-    lists: Lists<'x, KU, VU, A>,
+    lists: Lists<BKU, BVU, KU, VU, A>,
     source: &mut Source<I, L>,
     writer: &mut W,
 ) -> Result<Option<u32>, Fault<W::Error>>
 where
-    KU: Archive<Archived = K> + Serialize<W, A> + 'x,
-    VU: Archive<Archived = V> + Serialize<W, A> + 'x,
+    BKU: Borrow<KU> + Drop,
+    BVU: Borrow<VU> + Drop,
+    KU: Archive<Archived = K> + Serialize<W, A>,
+    VU: Archive<Archived = V> + Serialize<W, A>,
     K: Portable,
     V: Portable,
     W: Writer,
     A: Allocator + Copy,
-    I: Iterator<Item = (&'x KU, &'x VU)>,
-    L: Look<'x, KU> + Drop,
+    I: Iterator<Item = (BKU, BVU)>,
+    L: Look<BKU> + Drop,
     requires fitting { IsTrue (are_fitting K.kind V.kind E) }
     requires claim { (E + 1) ^ above + on_last ≡ claim + 1 }
     requires some { 1 ≤ on_last }
@@ -115,12 +119,12 @@ where
     requires ends { IsFinite (I.remaining source.old.items) }
     ensures ok { IfOk result (λ root.
         NextWritten (layout_of K.kind V.kind E) KU.archival VU.archival
-        (Gives I.next_gives L.passes L.stops) above on_last source.old (W.state writer.old) root
-        source.new (W.state writer.new)) }
+        (both_borrowed BKU.borrowed BVU.borrowed) (Gives I.next_gives L.passes L.stops) above
+        on_last source.old (W.state writer.old) root source.new (W.state writer.new)) }
     ensures err { IfErr result (λ fault.
         NextFault (layout_of K.kind V.kind E) KU.archival VU.archival
-        (Gives I.next_gives L.passes L.stops) claim 0 above on_last source.old
-        (W.state writer.old) fault source.new (W.state writer.new)) }
+        (both_borrowed BKU.borrowed BVU.borrowed) (Gives I.next_gives L.passes L.stops) claim 0
+        above on_last source.old (W.state writer.old) fault source.new (W.state writer.new)) }
     ensures left { OnOk result
         (size (I.remaining source.new.items) + claim ≤ size (I.remaining source.old.items)) }
     ensures last { OnOk result (position (W.state writer.new) ≤ last_end) }
@@ -144,11 +148,11 @@ where
     }
     let mut taken = first_len;
     let mut left = on_last.saturating_sub(E);
-    let place = write_leaf::<KU, VU, K, V, W, A, E>(alloc, &mut scratch, &leaf, writer)?;
+    let place = write_leaf::<BKU, BVU, KU, VU, K, V, W, A, E>(alloc, &mut scratch, &leaf, writer)?;
     let mut child = Some(place);
     while let Some(first) = innermost(&starts) {
         if waiting.len() - first == E {
-            let root = write_above::<KU, VU, K, V, W, A, E>(
+            let root = write_above::<BKU, BVU, KU, VU, K, V, W, A, E>(
                 alloc,
                 &mut scratch,
                 &mut waiting,
@@ -162,7 +166,7 @@ where
             starts.truncate(starts.len() - 1);
             levels += 1;
         } else {
-            let Some(entry) = source.next::<KU, VU>() else {
+            let Some(entry) = source.next::<BKU, BVU>() else {
                 return Err(Fault::Length(IteratorLengthMismatch {
                     expected: claim,
                     actual: taken,
@@ -184,7 +188,7 @@ where
                 }
                 taken += len;
                 left = left.saturating_sub(E);
-                let next_place = write_leaf::<KU, VU, K, V, W, A, E>(
+                let next_place = write_leaf::<BKU, BVU, KU, VU, K, V, W, A, E>(
                     alloc,
                     &mut scratch,
                     &leaf,

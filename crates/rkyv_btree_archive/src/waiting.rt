@@ -3,11 +3,12 @@ ghost use Rattle.std.specs.Prelude.{◌≡◌, ◌+◌, ◌≤◌, ◌<◌, [], 
 ghost use Rattle.rkyv_btree_format.specs.Layout.{layout_of, are_fitting, inner_size};
 ghost use Rattle.rkyv_btree_archive.specs.mirror.Scratch.{IsFree};
 ghost use Rattle.rkyv_btree_writer.specs.Writing.{position, last_end};
-ghost use Rattle.rkyv_btree_writing_laws.specs.Entries.{now_of};
+ghost use Rattle.rkyv_btree_writing_laws.specs.Entries.{both_borrowed};
 ghost use Rattle.rkyv_btree_writing_laws.specs.Image.{inner_image};
 ghost use Rattle.rkyv_btree_writing_laws.specs.Written.{NodeWritten, NodeStopped};
 
 use crate::archive::{Archive, Serialize};
+use crate::borrow::Borrow;
 use crate::node_writes::{Scratch, write_inner};
 use rkyv_btree_portable::check::Portable;
 use rkyv_btree_writer::fault::Fault;
@@ -49,10 +50,10 @@ pub fn wait<T: Drop, A: Allocator>(
 /// # Errors
 ///
 /// Those of `write_inner`. The lists are unchanged then.
-pub fn write_above<'x, KU, VU, K, V, W, A, const E: usize>(
+pub fn write_above<BKU, BVU, KU, VU, K, V, W, A, const E: usize>(
     alloc: A,
     scratch: &mut Scratch<KU::Resolver, VU::Resolver, A>,
-    waiting: &mut Vec<(&'x KU, &'x VU), A>,
+    waiting: &mut Vec<(BKU, BVU), A>,
     children: &mut Vec<Option<u32>, A>,
     first: usize,
     first_child: usize,
@@ -60,8 +61,10 @@ pub fn write_above<'x, KU, VU, K, V, W, A, const E: usize>(
     writer: &mut W,
 ) -> Result<u32, Fault<W::Error>>
 where
-    KU: Archive<Archived = K> + Serialize<W, A> + 'x,
-    VU: Archive<Archived = V> + Serialize<W, A> + 'x,
+    BKU: Borrow<KU> + Drop,
+    BVU: Borrow<VU> + Drop,
+    KU: Archive<Archived = K> + Serialize<W, A>,
+    VU: Archive<Archived = V> + Serialize<W, A>,
     K: Portable,
     V: Portable,
     W: Writer,
@@ -75,13 +78,15 @@ where
         (λ at owns. inner_image (layout_of K.kind V.kind E) at owns
         (drop first_child children.old.items ++ last ∷ []))
         (inner_size (layout_of K.kind V.kind E)) (W.state writer.old)
-        (map now_of (drop first waiting.old.items)) root (W.state writer.new)) }
+        (map (both_borrowed BKU.borrowed BVU.borrowed) (drop first waiting.old.items)) root
+        (W.state writer.new)) }
     ensures err { IfErr result (λ fault.
         NodeStopped (layout_of K.kind V.kind E) KU.archival VU.archival
         (λ at owns. inner_image (layout_of K.kind V.kind E) at owns
         (drop first_child children.old.items ++ last ∷ []))
         (inner_size (layout_of K.kind V.kind E)) (W.state writer.old)
-        (map now_of (drop first waiting.old.items)) fault (W.state writer.new)) }
+        (map (both_borrowed BKU.borrowed BVU.borrowed) (drop first waiting.old.items)) fault
+        (W.state writer.new)) }
     ensures last { OnOk result (position (W.state writer.new) ≤ last_end) }
     ensures free { OnOk result (IsFree (layout_of K.kind V.kind E) scratch.new) }
     ensures kept { OnOk result ((waiting.new.items ≡ take first waiting.old.items)
@@ -89,7 +94,7 @@ where
     ensures room { OnOk result ((vec_capacity waiting.old ≤ vec_capacity waiting.new)
         × (vec_capacity children.old ≤ vec_capacity children.new)) }
 {
-    let root = write_inner::<KU, VU, K, V, W, A, E>(
+    let root = write_inner::<BKU, BVU, KU, VU, K, V, W, A, E>(
         alloc,
         scratch,
         &waiting[first..],

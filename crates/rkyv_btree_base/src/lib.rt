@@ -28,6 +28,11 @@ pub mod check {
     pub use rkyv_btree_portable::in_place::InPlace;
 }
 
+/// Items that lend what is serialized: values themselves, and references.
+pub mod borrow {
+    pub use rkyv_btree_archive::borrow::Borrow;
+}
+
 /// Sizes and offsets of nodes, and levels of trees.
 pub mod layout {
     pub use rkyv_btree_format::layout::{
@@ -40,6 +45,11 @@ pub mod layout {
 /// Writers, places for archived values, and relative pointers.
 pub mod place {
     pub use rkyv_btree_writer::place::{Place, RelPtr, VecWriter, Writer};
+}
+
+/// The errors of building from iterators that can fail.
+pub mod try_build {
+    pub use rkyv_btree_archive::try_build::TryFault;
 }
 
 /// Laws of archives, of their validation and of their trees. Each function has an empty body: call it to make its clauses known to the

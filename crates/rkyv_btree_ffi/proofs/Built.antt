@@ -152,17 +152,17 @@ longer cmp entries first later index is o = record {
 module _ {M N R S P : Type 0} (K V : Kind) (KA : Archival M R) (VA : Archival N S) (key : Matches KA.kind K) (value : Matches VA.kind V) (k : IsLawful KA.kind) (v : IsLawful VA.kind) (fits : IsTrue (are_fitting K V 5))
     (ka : IsArchived KA) (va : IsArchived VA) (kc : HasCauses KA) (vc : HasCauses VA) (cmp : M → M → Ordering) (natives : List (M × N)) (rest : P → List (M × N)) (iter : P) (is : rest iter ≡ natives) (from to : Writing) where
   abbrev Cause : Fault AllocError → Type 0
-  Cause fault = TreeCause K V 5 KA VA (YieldsFirstBy now_of rest) iter (length natives) from fault to
+  Cause fault = TreeCause K V 5 KA VA now_of (YieldsFirstBy now_of rest) iter (length natives) from fault to
 
   unserialised : (fault : Fault AllocError) → (length natives ≡ 0 → IsMiscount fault) → Cause fault → IsUnserialised (tree_archival 5 KA VA (λ xs. xs)) natives from fault to
   unserialised fault none h =
-      list_unserialised 5 K V KA VA key value k v fits (λ xs. xs) natives from to (YieldsFirstBy now_of rest) iter (length natives) (λ items d. drained rest iter items d ∙ is)
+      list_unserialised 5 K V KA VA key value k v fits (λ xs. xs) natives from to now_of (YieldsFirstBy now_of rest) iter (length natives) (λ items d. drained rest iter items d ∙ is)
       ka va kc vc (λ items end y. (rest end, sym is ∙ yielded rest iter items end y)) refl (Err fault) none h
 
   pub any_fault : (fault : Fault AllocError) → (length natives ≡ 0 → IsMiscount fault) → Cause fault → TreeFault KA VA cmp Any natives from fault to
   any_fault fault none h = tree_fault KA VA cmp Any natives from fault to (unserialised fault none h)
 
-  pub strict_fault : (fault : Fault AllocError) → (length natives ≡ 0 → IsMiscount fault) → StrictFault cmp K V 5 KA VA (YieldsFirstBy now_of rest) iter (length natives) from fault to → TreeFault KA VA cmp Increasing natives from fault to
+  pub strict_fault : (fault : Fault AllocError) → (length natives ≡ 0 → IsMiscount fault) → StrictFault cmp K V 5 KA VA now_of (YieldsFirstBy now_of rest) iter (length natives) from fault to → TreeFault KA VA cmp Increasing natives from fault to
   strict_fault (OutOfOrder index) none h = (refl, longer cmp natives (map now_of h.items) (rest h.rest) index (sym is ∙ yielded rest iter h.items h.rest h.taken) h.out)
   strict_fault (Length m) none h = unserialised (Length m) none h.0
   strict_fault LengthOverflow none (inl h) = unserialised LengthOverflow none (inl h)
@@ -188,11 +188,11 @@ if_err (Err e) none h f = f e none h
 
 module _ {M N R S P Q F : Type 0} (K V : Kind) (KA : Archival M R) (VA : Archival N S) (natives : List (M × N)) (rest : P → List (M × N)) (iter : P) (is : rest iter ≡ natives) (claim : ℕ) (state : Q → Writing) (before after : Q) where
   -- the archive of all items, whose keys increase
-  pub archived_all : (r : Result ℕ F) → IfOk r (ArchivesItems K V 5 KA VA (YieldsFirstBy now_of rest) iter claim state before after) → IfOk r (λ root. IsArchive K V 5 KA VA (state before) natives root (state after))
+  pub archived_all : (r : Result ℕ F) → IfOk r (ArchivesItems K V 5 KA VA now_of (YieldsFirstBy now_of rest) iter claim state before after) → IfOk r (λ root. IsArchive K V 5 KA VA (state before) natives root (state after))
   archived_all (Ok root) h = subst (λ (xs : List (M × N)). IsArchive K V 5 KA VA (state before) xs root (state after)) (drained rest iter h.items h.all ∙ is) h.archive
   archived_all (Err e) h = tt
 
-  pub increasing_all : (cmp : M → M → Ordering) (r : Result ℕ F) → IfOk r (BuildsInOrder cmp K V 5 KA VA (YieldsFirstBy now_of rest) iter claim state before after) → OnOk r (AreIncreasing cmp natives)
+  pub increasing_all : (cmp : M → M → Ordering) (r : Result ℕ F) → IfOk r (BuildsInOrder cmp K V 5 KA VA now_of (YieldsFirstBy now_of rest) iter claim state before after) → OnOk r (AreIncreasing cmp natives)
   increasing_all cmp (Ok root) h = subst (λ (xs : List (M × N)). AreIncreasing cmp xs) (drained rest iter h.0.items h.0.all ∙ is) h.1
   increasing_all cmp (Err e) h = tt
 

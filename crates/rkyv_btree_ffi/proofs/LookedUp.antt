@@ -10,8 +10,8 @@ use Rattle.rkyv_btree_base.specs.Refusal.TheVariants.{TooLong}
 use Rattle.rkyv_btree_base.specs.Refusing.{too_long}
 use Rattle.rkyv_btree_base.specs.Views.{stands}
 use Rattle.rkyv_btree_base.specs.Whole.{IsArchiveOf, own_at}
-use Rattle.rkyv_btree.specs.Lookup.{found_at}
-use Rattle.rkyv_btree.specs.Map.{IsMap}
+use Rattle.rkyv_btree_view.specs.Lookup.{found_at}
+use Rattle.rkyv_btree_view.specs.Map.{IsMap}
 use Rattle.rkyv_btree_portable.specs.declared.check.Portable
 use Rattle.rkyv_btree_unverified.specs.Lookups.{LookupGives, FindsAt, FoundIsValid, MapsAreSearched}
 use Rattle.rkyv_btree_unverified.specs.Steps.{key_place, value_place, entry_places, places, misplaced, Gives as KeyGives}

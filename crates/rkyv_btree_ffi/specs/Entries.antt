@@ -5,8 +5,8 @@ use Rattle.std.specs.Ordering.{nat_cmp}
 use Rattle.std.specs.declared.cmp.Ordering.{Ordering}
 use Rattle.std.specs.declared.cmp.Ordering.TheVariants.{Less}
 use Rattle.std.specs.declared.ops.Bound.TheVariants.{Included, Unbounded}
-use Rattle.rkyv_btree.specs.Bounds.{IsRun, IsWithin}
-use Rattle.rkyv_btree.specs.Lookup.{found_at}
+use Rattle.rkyv_btree_walk.specs.Bounds.{IsRun, IsWithin}
+use Rattle.rkyv_btree_view.specs.Lookup.{found_at}
 use Rattle.rkyv_btree_ffi.specs.Items.{IsNumberItem, IsTextItem}
 use Rattle.rkyv_btree_ffi.specs.MapTypes.{key_kind, value_kind, entries_at}
 use Rattle.rkyv_btree_ffi.specs.Queries.{number_comparison, text_comparison}

@@ -9,8 +9,8 @@ use Rattle.rkyv_btree_base.specs.Refusal.{Refusal}
 use Rattle.rkyv_btree_base.specs.Refusing.{RefusesWhole}
 use Rattle.rkyv_btree_base.specs.Views.{stands}
 use Rattle.rkyv_btree_base.specs.Whole.{own_at}
-use Rattle.rkyv_btree.specs.Lookup.{found_at}
-use Rattle.rkyv_btree.specs.Map.{IsMap}
+use Rattle.rkyv_btree_view.specs.Lookup.{found_at}
+use Rattle.rkyv_btree_view.specs.Map.{IsMap}
 use Rattle.rkyv_btree_portable.specs.declared.check.Portable
 use Rattle.rkyv_btree_unverified.specs.Lookups.{LookupGives}
 use Rattle.rkyv_btree_unverified.specs.Steps.{value_place, Gives as KeyGives}

@@ -8,8 +8,8 @@ use Rattle.rkyv_btree_base.specs.Refusal.{Refusal}
 use Rattle.rkyv_btree_base.specs.Refusals.{RefusesMap}
 use Rattle.rkyv_btree_base.specs.Views.{stands}
 use Rattle.rkyv_btree_base.specs.Whole.{IsArchiveOf, own_at}
-use Rattle.rkyv_btree.specs.Strict.{RefusesStrict}
-use Rattle.rkyv_btree.specs.Whole.{IsUnopened}
+use Rattle.rkyv_btree_strict.specs.Strict.{RefusesStrict}
+use Rattle.rkyv_btree_convert.specs.Whole.{IsUnopened}
 use Rattle.rkyv_btree_ffi.specs.Codes.{refusal_for}
 use Rattle.rkyv_btree_ffi.specs.MapTypes.{key_kind, value_kind, type_of}
 use Rattle.rkyv_btree_ffi.specs.declared.codes.BtreeRefusal.{BtreeRefusal}

@@ -4,8 +4,8 @@ ghost use Rattle.std.specs.Int.{w64, to_le_bytes};
 ghost use Rattle.rkyv_btree_base.specs.Scalars.{u32_kind, u64_kind};
 ghost use Rattle.rkyv_btree_base.specs.Map.{map_kind};
 ghost use Rattle.rkyv_btree_base.specs.Views.{stands};
-ghost use Rattle.rkyv_btree.specs.Lookup.{ByNative};
-ghost use Rattle.rkyv_btree.specs.Places.{SetsFound};
+ghost use Rattle.rkyv_btree_view.specs.Lookup.{ByNative};
+ghost use Rattle.rkyv_btree_seal.specs.Places.{SetsFound};
 ghost use Rattle.rkyv_btree_ffi.specs.Editing.{narrow, SetsOwn, SetsValue};
 ghost use Rattle.rkyv_btree_ffi.specs.Entries.{comparison_with, by_number, by_text};
 ghost use Rattle.rkyv_btree_ffi.specs.MapTypes.{type_of, kind_of, IfType};
@@ -17,13 +17,13 @@ use crate::item::Shown;
 use crate::map_type::MapType;
 use crate::opening::opened_at;
 use crate::query::Query;
-use rkyv_btree::map::MapSeal;
-use rkyv_btree::view::View;
 use rkyv_btree_base::check::InPlace;
 use rkyv_btree_base::map::ArchivedBTreeMap;
 use rkyv_btree_base::numbers::{ArchivedU32, ArchivedU64};
 use rkyv_btree_base::refusal::Refusal;
 use rkyv_btree_base::text::ArchivedText;
+use rkyv_btree_seal::map_seal::MapSeal;
+use rkyv_btree_view::view::View;
 
 /// Returns the position of the map of a type of the whole archive in the buffer.
 fn opened_in(map_type: MapType, edit: &BtreeEdit<'_>) -> Result<u32, Refusal>

@@ -3,7 +3,7 @@ ghost use Rattle.std.specs.Prelude.{◌≡◌, ◌≢◌, ◌<◌, IsTrue, IfSom
 ghost use Rattle.rkyv_btree_base.specs.Layout.{are_fitting};
 ghost use Rattle.rkyv_btree_base.specs.Map.{map_kind};
 ghost use Rattle.rkyv_btree_base.specs.Whole.{IsArchiveOf, own_at};
-ghost use Rattle.rkyv_btree.specs.Lookup.{ByNative};
+ghost use Rattle.rkyv_btree_view.specs.Lookup.{ByNative};
 ghost use Rattle.rkyv_btree_ffi.specs.Entries.{comparison_with, by_number, by_text, LooksUp};
 ghost use Rattle.rkyv_btree_ffi.specs.Finding.{LookupReturns, IsFoundEntry, IsRefusal};
 ghost use Rattle.rkyv_btree_ffi.specs.Finding.{ShowsLookup, ShowsLookupOf, ShowsViews};
@@ -14,13 +14,13 @@ use crate::codes::{BAD_TYPE, BtreeRefusal, NOT_FOUND, OK, refusal_of};
 use crate::item::{BtreeEntry, Shown};
 use crate::map_type::MapType;
 use crate::query::Query;
-use rkyv_btree::laws::{lookups_are_determined, maps_are_searched};
-use rkyv_btree::unverified::Unverified;
-use rkyv_btree::view::View;
 use rkyv_btree_base::map::ArchivedBTreeMap;
 use rkyv_btree_base::numbers::{ArchivedU32, ArchivedU64};
 use rkyv_btree_base::refusal::Refusal;
 use rkyv_btree_base::text::ArchivedText;
+use rkyv_btree_unverified::unverified::Unverified;
+use rkyv_btree_unverified::unverified_laws::{lookups_are_determined, maps_are_searched};
+use rkyv_btree_view::view::View;
 
 /// Returns the entry of a view of a key and a view of a value as C has it.
 fn entry_of_views<K: Shown, V: Shown>(

@@ -9,13 +9,13 @@ ghost use Rattle.rkyv_btree_ffi.specs.declared.item.BtreeItem.{BtreeItem};
 ghost use Rattle.rkyv_btree_ffi.specs.declared.query.Query.{Query};
 
 use crate::query::Query;
-use rkyv_btree::compare::ViewOrd;
-use rkyv_btree::view::View;
 use rkyv_btree_base::bytes::num32;
 use rkyv_btree_base::check::CheckBytes;
 use rkyv_btree_base::numbers::{ArchivedU32, ArchivedU64};
 use rkyv_btree_base::text::ArchivedText;
 use rkyv_btree_portable::bytes::pointed_at;
+use rkyv_btree_view::compare::ViewOrd;
+use rkyv_btree_view::view::View;
 use std::cmp::Ordering;
 
 /// A key or a value: a number, or a text by its place in a buffer.

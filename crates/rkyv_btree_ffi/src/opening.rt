@@ -13,15 +13,15 @@ use crate::codes::{BAD_TYPE, BtreeRefusal, NOT_OPEN, OK, refusal_of};
 use crate::handle::BtreeMap;
 use crate::map_type::MapType;
 use crate::order::Order;
-use rkyv_btree::compare::ViewOrd;
-use rkyv_btree::strict::open_strict;
-use rkyv_btree::view::View;
-use rkyv_btree::whole::open;
 use rkyv_btree_base::check::CheckBytes;
 use rkyv_btree_base::map::ArchivedBTreeMap;
 use rkyv_btree_base::numbers::{ArchivedU32, ArchivedU64};
 use rkyv_btree_base::refusal::Refusal;
 use rkyv_btree_base::text::ArchivedText;
+use rkyv_btree_convert::from_archive::open;
+use rkyv_btree_strict::strict::open_strict;
+use rkyv_btree_view::compare::ViewOrd;
+use rkyv_btree_view::view::View;
 use std::marker::PhantomData;
 
 /// Returns the position of the map of a whole archive.

@@ -4,10 +4,10 @@ ghost use Rattle.std.specs.Option.{option_map};
 ghost use Rattle.rkyv_btree_base.specs.Map.{map_kind};
 ghost use Rattle.rkyv_btree_base.specs.Read.{entry_at};
 ghost use Rattle.rkyv_btree_base.specs.Views.{stands};
-ghost use Rattle.rkyv_btree.specs.Lookup.{ByNative};
-ghost use Rattle.rkyv_btree.specs.Put.{key_place, value_place};
+ghost use Rattle.rkyv_btree_view.specs.Lookup.{ByNative};
+ghost use Rattle.rkyv_btree_seal.specs.Put.{key_place, value_place};
 ghost use Rattle.rkyv_btree_walk.specs.mirror.Node.{RunStands};
-ghost use Rattle.rkyv_btree.specs.Bounds.{IsRun, IsWithin};
+ghost use Rattle.rkyv_btree_walk.specs.Bounds.{IsRun, IsWithin};
 ghost use Rattle.rkyv_btree_base.specs.Read.{read_map};
 ghost use Rattle.std.specs.Prelude.{◌⊎◌};
 ghost use Rattle.std.specs.declared.ops.Bound.TheVariants.{Included, Unbounded};
@@ -26,16 +26,15 @@ use crate::handle::BtreeMap;
 use crate::item::{BtreeEntry, BtreeItem, Shown};
 use crate::map_type::MapType;
 use crate::query::Query;
-use rkyv_btree::compare_native::Compared;
-use rkyv_btree::view::View;
 use rkyv_btree_base::check::Portable;
 use rkyv_btree_base::map::ArchivedBTreeMap;
 use rkyv_btree_base::numbers::{ArchivedU32, ArchivedU64};
 use rkyv_btree_base::text::ArchivedText;
+use rkyv_btree_view::view::View;
 use rkyv_btree_walk::archived_map::ArchivedMap;
 use rkyv_btree_walk::node::{key_pos, value_pos};
 use rkyv_btree_walk::range_walk::{RangeWalk, start_between, step_before};
-use rkyv_btree_walk::search::search;
+use rkyv_btree_walk::search::{Compared, search};
 use std::marker::PhantomData;
 use std::ops::Bound;
 
@@ -79,7 +78,9 @@ pub(crate) fn found<K: Shown, V: Shown>(
         IsFoundAt K.kind V.kind K.ShowsAt V.ShowsAt buf.now pos comparison result) }
 {
     let compare = |query: &Query<'_>, key: View<K>| Compared::of(K::compare_query(query, &key));
-    let (found, _) = search::<_, K, V, ArchivedBTreeMap<K, V, 5>, _, _>(buf, pos, query, &compare);
+    let (found, _) = search::<_, K, V, ArchivedBTreeMap<K, V, 5>, _, _>(
+        buf, pos, query, &compare, true,
+    );
     match found {
         None => None,
         Some(place) => Some(entry_of::<K, V>(buf, pos, (place.0, place.1 as usize))),

@@ -162,7 +162,7 @@ impl<'a, K: Portable, V: InPlace, M: ArchivedMap<Key = K, Mapped = V>> MapSeal<'
             (option_map place_of result)) }
     {
         let compare = |query: &Q, key: W| Compared::of(cmp(query, key));
-        let (found, _) = search::<Q, K, V, M, W, _>(self.buf, self.pos, key, &compare);
+        let (found, _) = search::<Q, K, V, M, W, _>(self.buf, self.pos, key, &compare, false);
         found_place(found)
     }
 
@@ -209,7 +209,8 @@ impl<'a, K: Portable, V: InPlace, M: ArchivedMap<Key = K, Mapped = V>> MapSeal<'
             (option_map place_of result)) }
     {
         let compare = |query: &T, key: View<K>| K::compared(query, &key);
-        let (found, _) = search::<_, K, V, M, _, _>(self.buf, self.pos, &key, &compare);
+        let all = K::is_plain();
+        let (found, _) = search::<_, K, V, M, _, _>(self.buf, self.pos, &key, &compare, all);
         found_place(found)
     }
 
@@ -300,7 +301,7 @@ impl<'a, K: ViewOrd, V: InPlace, M: ArchivedMap<Key = K, Mapped = V>> MapSeal<'a
             (K.kind.order (view_value key.entry)) (option_map place_of result) }
     {
         let compare = |query: &View<'_, K>, key: View<K>| Compared::of(K::compare(query, &key));
-        let (found, _) = search::<_, K, V, M, _, _>(self.buf, self.pos, &key, &compare);
+        let (found, _) = search::<_, K, V, M, _, _>(self.buf, self.pos, &key, &compare, true);
         found_place(found)
     }
 

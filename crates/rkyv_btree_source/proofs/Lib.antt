@@ -3,7 +3,9 @@ pub mod Brought
 pub mod Covered
 pub mod Faults
 pub mod Fitting
+pub mod Held
 pub mod Inside
+pub mod Knowing
 pub mod Lacking
 pub mod Pairs
 pub mod Parts

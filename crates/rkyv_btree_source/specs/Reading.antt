@@ -49,3 +49,10 @@ pub record IsPart (b c : List ℕ) (at : ℕ) : Type 0 where
 abbrev pub Brings : {E : Type 0} → (kind : Kind) → (List ℕ → ℕ → ℕ → ℕ → Refusal → Type 0) → List ℕ → ℕ → List ℕ → Result ℕ (SourceFault E) → Type 0
 Brings kind Refuses b at room (Ok place) = IsTrue (stands kind b at) × (kind.read room place ≡ kind.read b at)
 Brings kind Refuses b at room (Err fault) = IfRefused (Refuses b 0 at at) fault
+
+-- P holds of the source's own error
+abbrev pub IfRead : {E : Type 0} → (E → Type 0) → SourceFault E → Type 0
+IfRead P (Refused e) = Unit {0}
+IfRead P (Read e) = P e
+IfRead P (NoRoom n) = Unit {0}
+IfRead P OverBudget = Unit {0}

@@ -6,9 +6,10 @@ ghost use Rattle.rkyv_btree_base.specs.Plain.{plain_kind};
 ghost use Rattle.rkyv_btree_base.specs.Refusing.{RefusesWhole};
 ghost use Rattle.rkyv_btree_base.specs.Text.{IsTextRange};
 ghost use Rattle.rkyv_btree_base.specs.Views.{stands};
-ghost use Rattle.rkyv_btree_source.specs.Reading.{Brings, IsCaused, IsPart};
+ghost use Rattle.rkyv_btree_source.specs.Reading.{IfRead, Brings, IsCaused, IsPart};
 ghost use Rattle.rkyv_btree_source.specs.Reads.{IsLacking, Lengths, own_lengths, text_lengths};
 ghost use Rattle.rkyv_btree_writer.specs.TextArchival.{text_own};
+ghost use Rattle.rkyv_btree_source.specs.Known.{AreOf};
 
 use crate::fetch_pair::fetch_pair;
 use crate::reader::Reader;
@@ -41,21 +42,22 @@ pub trait Fetch: CheckBytes {
         requires fitting { IsTrue Self.kind.is_fitting }
         requires size { length own_bytes.now ≡ Self.kind.size }
         requires short { length room.old ≤ 4294967295 }
-        requires part { (b : List ℕ) → S.bytes reader.old.source ≡ Some b → IsPart b own_bytes.now pos }
+        requires part { (b : List ℕ) → AreOf (S.known reader.old.source) b → IsPart b own_bytes.now pos }
         ensures valid { IfOk result (λ place. IsTrue (stands Self.kind room.new place)) }
-        ensures brings { (b : List ℕ) → S.bytes reader.old.source ≡ Some b →
+        ensures brings { (b : List ℕ) → AreOf (S.known reader.old.source) b →
             Brings Self.kind Self.Refuses b pos room.new result }
-        ensures same { S.bytes reader.new.source ≡ S.bytes reader.old.source }
+        ensures same { S.known reader.new.source ≡ S.known reader.old.source }
+        ensures fails { IfErr result (IfRead (S.Fails (S.known reader.old.source))) }
         ensures left { reader.new.left ≤ reader.old.left }
         ensures spent { reader.old.left ≤ reader.new.left + (pos + Self.kind.size) }
         ensures caused { IfErr result
             (IsCaused (pos + Self.kind.size) 0 (length room.old) reader.new.left) }
-        ensures takes { (b : List ℕ) → S.bytes reader.old.source ≡ Some b →
+        ensures takes { (b : List ℕ) → AreOf (S.known reader.old.source) b →
             IfOk result (λ _. reader.old.left ≡ reader.new.left + lengths.outlying b pos) }
-        ensures lacks { (b : List ℕ) → S.bytes reader.old.source ≡ Some b → IfErr result
+        ensures lacks { (b : List ℕ) → AreOf (S.known reader.old.source) b → IfErr result
             (IsLacking (λ n. (n ≡ lengths.room b pos) × (length room.old < n))
             (reader.old.left < lengths.outlying b pos)) }
-        ensures fits { (b : List ℕ) → S.bytes reader.old.source ≡ Some b →
+        ensures fits { (b : List ℕ) → AreOf (S.known reader.old.source) b →
             IfOk result (λ _. lengths.room b pos ≤ length room.old) };
 }
 
@@ -76,6 +78,7 @@ fn fetch_own<T: Scalar, E>(
         (pos + T.form.plain.size)) }
     ensures lacks { (left : ℕ) → IfErr result
         (IsLacking (λ n. (n ≡ T.form.plain.size) × (length room.old < n)) (left < 0)) }
+    ensures fails { IfErr result (IfRead (λ _. ⊥)) }
     ensures fits { IfOk result (λ _. T.form.plain.size ≤ length room.old) }
 {
     let (size, align) = T::size_and_align();

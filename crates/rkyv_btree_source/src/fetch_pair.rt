@@ -2,7 +2,7 @@
 ghost use Rattle.std.specs.Prelude.{◌≡◌, ◌+◌, ◌≤◌, ◌<◌, List, ℕ, IsTrue, IfErr, IfOk, false, length};
 ghost use Rattle.rkyv_btree_base.specs.Entry.{entry_kind, entry_size, RefusesEntry};
 ghost use Rattle.rkyv_btree_base.specs.Views.{stands};
-ghost use Rattle.rkyv_btree_source.specs.Reading.{Brings, IsCaused, IsPart};
+ghost use Rattle.rkyv_btree_source.specs.Reading.{IfRead, Brings, IsCaused, IsPart};
 ghost use Rattle.rkyv_btree_source.specs.Reads.{IsLacking};
 
 use crate::source_fault::SourceFault;
@@ -40,6 +40,7 @@ pub(crate) fn fetch_pair<K: InPlace, V: InPlace, E>(
         (pos + entry_size K.kind V.kind)) }
     ensures lacks { (left : ℕ) → IfErr result
         (IsLacking (λ n. (n ≡ entry_size K.kind V.kind) × (length room.old < n)) (left < 0)) }
+    ensures fails { IfErr result (IfRead (λ _. ⊥)) }
     ensures fits { IfOk result (λ _. entry_size K.kind V.kind ≤ length room.old) }
 {
     if pos % Entry::<K, V>::align() != 0 {

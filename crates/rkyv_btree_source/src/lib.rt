@@ -4,11 +4,13 @@
 
 pub mod fetch;
 mod fetch_pair;
+pub mod piece;
+pub mod pieces;
 pub mod reader;
 pub mod source;
 pub mod source_fault;
 pub mod source_laws;
 mod source_node;
-mod source_search;
-mod source_tree;
+pub mod source_search;
+pub mod source_tree;
 pub mod unverified_source;

@@ -1,7 +1,8 @@
 //! Reads from a source, up to a number of bytes.
 ghost use Rattle.std.specs.Prelude.{◌≡◌, ◌+◌, ◌≤◌, ◌<◌, List, ℕ, Some, length, IfOk, IfErr, OnOk};
 ghost use Rattle.rkyv_btree_base.specs.Bytes.{bytes_at};
-ghost use Rattle.rkyv_btree_source.specs.Reading.{IsOfReading};
+ghost use Rattle.rkyv_btree_source.specs.Reading.{IfRead, IsOfReading};
+ghost use Rattle.rkyv_btree_source.specs.Known.{AreOf};
 
 use crate::source::ReadAt;
 use crate::source_fault::SourceFault;
@@ -20,9 +21,10 @@ impl<S: ReadAt> Reader<S> {
     ///
     /// `Read` with the source's own error.
     pub fn size(&mut self) -> Result<u64, SourceFault<S::Error>>
-        ensures value { IfOk result (λ size. (b : List ℕ) → S.bytes self.old.source ≡ Some b →
+        ensures value { IfOk result (λ size. (b : List ℕ) → AreOf (S.known self.old.source) b →
             size ≡ length b) }
-        ensures same { S.bytes self.new.source ≡ S.bytes self.old.source }
+        ensures same { S.known self.new.source ≡ S.known self.old.source }
+        ensures fails { IfErr result (IfRead (S.Fails (S.known self.old.source))) }
         ensures left { self.new.left ≡ self.old.left }
         ensures fault { IfErr result (IsOfReading ⊥) }
     {
@@ -39,11 +41,12 @@ impl<S: ReadAt> Reader<S> {
     /// `OverBudget` if `part` is longer than what is left of the budget, which is then unchanged. `Read` if the source fails; its
     /// bytes count as read then.
     pub fn read(&mut self, pos: u32, part: &mut [u8]) -> Result<(), SourceFault<S::Error>>
-        requires { (b : List ℕ) → S.bytes self.old.source ≡ Some b →
+        requires { (b : List ℕ) → AreOf (S.known self.old.source) b →
             pos + length part.old ≤ length b }
-        ensures gives { OnOk result ((b : List ℕ) → S.bytes self.old.source ≡ Some b →
+        ensures gives { OnOk result ((b : List ℕ) → AreOf (S.known self.old.source) b →
             part.new ≡ bytes_at b pos (length part.old)) }
-        ensures same { S.bytes self.new.source ≡ S.bytes self.old.source }
+        ensures same { S.known self.new.source ≡ S.known self.old.source }
+        ensures fails { IfErr result (IfRead (S.Fails (S.known self.old.source))) }
         ensures counts { OnOk result (self.old.left ≡ self.new.left + length part.old) }
         ensures left { self.new.left ≤ self.old.left }
         ensures spent { self.old.left ≤ self.new.left + length part.old }

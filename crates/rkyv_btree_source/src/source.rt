@@ -1,6 +1,7 @@
 //! Sources of bytes that are read at a position.
-ghost use Rattle.std.specs.Prelude.{◌≡◌, ◌+◌, ◌≤◌, List, Option, Some, None, ℕ, length, IfOk, OnOk};
+ghost use Rattle.std.specs.Prelude.{◌≡◌, ◌+◌, ◌≤◌, List, Option, Some, None, ℕ, length, IfErr, IfOk, OnOk};
 ghost use Rattle.rkyv_btree_base.specs.Bytes.{bytes_at};
+ghost use Rattle.rkyv_btree_source.specs.Known.{Known, AreOf, nothing, whole};
 
 use std::convert::Infallible;
 use std::io;
@@ -14,28 +15,33 @@ pub trait ReadAt {
     /// Why a read fails.
     type Error: Drop;
 
-    /// All bytes, where they are known.
-    ghost bytes: { Self → Option (List ℕ) } = { λ _. None };
+    /// What is known of the bytes.
+    ghost known: { Self → Known } = { λ _. nothing };
+
+    /// An error is one that a source of which this is known gives.
+    ghost Fails: { Known → Self.Error → Type 0 } = { λ _ _. Unit {0} };
 
     /// Returns the number of bytes.
     fn size(&mut self) -> Result<u64, Self::Error>
-        ensures value { IfOk result (λ size. (b : List ℕ) → bytes self.old ≡ Some b →
+        ensures value { IfOk result (λ size. (b : List ℕ) → AreOf (known self.old) b →
             size ≡ length b) }
-        ensures same { bytes self.new ≡ bytes self.old };
+        ensures same { known self.new ≡ known self.old }
+        ensures fails { IfErr result (Fails (known self.old)) };
 
     /// Fills `part` with the bytes from position `pos` on.
     fn read_at(&mut self, pos: u32, part: &mut [u8]) -> Result<(), Self::Error>
-        requires { (b : List ℕ) → bytes self.old ≡ Some b → pos + length part.old ≤ length b }
-        ensures gives { OnOk result ((b : List ℕ) → bytes self.old ≡ Some b →
+        requires { (b : List ℕ) → AreOf (known self.old) b → pos + length part.old ≤ length b }
+        ensures gives { OnOk result ((b : List ℕ) → AreOf (known self.old) b →
             part.new ≡ bytes_at b pos (length part.old)) }
-        ensures same { bytes self.new ≡ bytes self.old };
+        ensures same { known self.new ≡ known self.old }
+        ensures fails { IfErr result (Fails (known self.old)) };
 }
 
 /// Bytes in memory. Each read copies some of them, and none fails.
 impl<'a> ReadAt for &'a [u8] {
     type Error = Infallible;
 
-    ghost bytes = { λ s. Some s.now };
+    ghost known = { λ s. whole s.now };
 
     fn size(&mut self) -> Result<u64, Infallible> {
         let bytes = *self;

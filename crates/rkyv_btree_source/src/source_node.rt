@@ -3,9 +3,10 @@ ghost use Rattle.std.specs.Prelude.{◌≡◌, ◌+◌, ◌-◌, ◌≤◌, ◌<
 ghost use Rattle.std.specs.Int.{cast_signed, w32};
 ghost use Rattle.rkyv_btree_base.specs.Bytes.{place_at};
 ghost use Rattle.rkyv_btree_base.specs.Layout.{layout_of, are_fitting, leaf_size, inner_size};
-ghost use Rattle.rkyv_btree_source.specs.Reading.{GivesBy, IsCaused, IsPart};
+ghost use Rattle.rkyv_btree_source.specs.Reading.{IfRead, GivesBy, IsCaused, IsPart};
 ghost use Rattle.rkyv_btree_source.specs.Reads.{IsLacking};
 ghost use Rattle.rkyv_btree_unverified.specs.Steps.{HasRoom, HeadGives, NodeGives, PlaceGives};
+ghost use Rattle.rkyv_btree_source.specs.Known.{AreOf};
 
 use crate::reader::Reader;
 use crate::source::ReadAt;
@@ -49,15 +50,16 @@ pub(crate) fn read_head<S: ReadAt, K: Portable, V: Portable, M: ArchivedMap<Key 
 ) -> Result<Option<u32>, SourceFault<S::Error>>
     requires { IsTrue (are_fitting K.kind V.kind M.E) }
     ensures room { IfOk result (λ root. IfSome root (HasRoom K.kind V.kind M.E at)) }
-    ensures inside { IfOk result (λ _. (b : List ℕ) → S.bytes reader.old.source ≡ Some b →
+    ensures inside { IfOk result (λ _. (b : List ℕ) → AreOf (S.known reader.old.source) b →
         (length b ≤ 4294967295) × (at + 8 ≤ length b)) }
-    ensures gives { (b : List ℕ) → S.bytes reader.old.source ≡ Some b →
+    ensures gives { (b : List ℕ) → AreOf (S.known reader.old.source) b →
         GivesBy (λ (root : Option ℕ). root) (HeadGives K.kind V.kind M.E b at) result }
-    ensures same { S.bytes reader.new.source ≡ S.bytes reader.old.source }
+    ensures same { S.known reader.new.source ≡ S.known reader.old.source }
+    ensures fails { IfErr result (IfRead (S.Fails (S.known reader.old.source))) }
     ensures left { reader.new.left ≤ reader.old.left }
     ensures spent { reader.old.left ≤ reader.new.left + 8 }
     ensures caused { (n : ℕ) → IfErr result (IsCaused (at + 8) 0 n reader.new.left) }
-    ensures known { (b : List ℕ) → S.bytes reader.old.source ≡ Some b → (n : ℕ) →
+    ensures known { (b : List ℕ) → AreOf (S.known reader.old.source) b → (n : ℕ) →
         IfErr result (IsCaused (length b) 0 n reader.new.left) }
     ensures takes { IfOk result (λ _. reader.old.left ≡ reader.new.left + 8) }
     ensures lacks { IfErr result (IsLacking (λ _. ⊥) (reader.old.left < 8)) }

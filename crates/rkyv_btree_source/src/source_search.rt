@@ -3,12 +3,13 @@ ghost use Rattle.std.specs.Prelude.{◌≡◌, ◌+◌, ◌*◌, ◌≤◌, ◌<
 ghost use Rattle.std.specs.declared.cmp.Ordering.{Ordering as Comparison};
 ghost use Rattle.rkyv_btree_base.specs.Layout.{layout_of, are_fitting, leaf_size, inner_size};
 ghost use Rattle.rkyv_btree_base.specs.Views.{stands};
-ghost use Rattle.rkyv_btree_source.specs.Reading.{Brings, GivesBy, IsCaused, IsPart};
+ghost use Rattle.rkyv_btree_source.specs.Reading.{IfRead, Brings, GivesBy, IsCaused, IsPart};
 ghost use Rattle.rkyv_btree_source.specs.Reads.{EachFits, IsLacking, Lacks, NodeBytes, NodeReads, Reads};
 ghost use Rattle.rkyv_btree_source.specs.mirror.Found.{halt_of, next_of, StopStands, StopFits, StopReads, StopTakes, StopWithin, NodeStepTakes, StepStands, StepReads, StepTakes};
 ghost use Rattle.rkyv_btree_unverified.specs.Steps.{ChildGives, HasRoom, KeysGive, NodeGives};
 ghost use Rattle.rkyv_btree_unverified.specs.mirror.Passes.{NextGives};
 ghost use Rattle.rkyv_btree_walk.specs.Search.{compared_of};
+ghost use Rattle.rkyv_btree_source.specs.Known.{AreOf};
 
 use crate::fetch::Fetch;
 use crate::reader::Reader;
@@ -26,10 +27,10 @@ use rkyv_btree_walk::shows::Shows;
 
 /// The entry at which a search ends: its node, its number there, and where its value was brought.
 #[derive(Clone, Copy)]
-pub(crate) struct Hit {
-    pub(crate) node: u32,
-    pub(crate) index: u32,
-    pub(crate) value: u32,
+pub struct Hit {
+    pub node: u32,
+    pub index: u32,
+    pub value: u32,
 }
 
 /// How the search of a node stops: at an entry that gives Equal, whose value was brought to a place, or before another.
@@ -59,21 +60,22 @@ fn fetch_part<S: ReadAt, T: Fetch>(
     requires inside { at + T.kind.size ≤ length bytes.now }
     requires small { node + length bytes.now ≤ 4294967295 }
     requires short { length room.old ≤ 4294967295 }
-    requires part { (b : List ℕ) → S.bytes reader.old.source ≡ Some b → IsPart b bytes.now node }
+    requires part { (b : List ℕ) → AreOf (S.known reader.old.source) b → IsPart b bytes.now node }
     ensures valid { IfOk result (λ place. IsTrue (stands T.kind room.new place)) }
-    ensures brings { (b : List ℕ) → S.bytes reader.old.source ≡ Some b →
+    ensures brings { (b : List ℕ) → AreOf (S.known reader.old.source) b →
         Brings T.kind T.Refuses b (node + at) room.new result }
-    ensures same { S.bytes reader.new.source ≡ S.bytes reader.old.source }
+    ensures same { S.known reader.new.source ≡ S.known reader.old.source }
+    ensures fails { IfErr result (IfRead (S.Fails (S.known reader.old.source))) }
     ensures left { reader.new.left ≤ reader.old.left }
     ensures spent { reader.old.left ≤ reader.new.left + (node + length bytes.now) }
     ensures caused { IfErr result
         (IsCaused (node + length bytes.now) 0 (length room.old) reader.new.left) }
-    ensures takes { (b : List ℕ) → S.bytes reader.old.source ≡ Some b →
+    ensures takes { (b : List ℕ) → AreOf (S.known reader.old.source) b →
         IfOk result (λ _. reader.old.left ≡ reader.new.left + T.lengths.outlying b (node + at)) }
-    ensures lacks { (b : List ℕ) → S.bytes reader.old.source ≡ Some b → IfErr result
+    ensures lacks { (b : List ℕ) → AreOf (S.known reader.old.source) b → IfErr result
         (IsLacking (λ n. (n ≡ T.lengths.room b (node + at)) × (length room.old < n))
         (reader.old.left < T.lengths.outlying b (node + at))) }
-    ensures fits { (b : List ℕ) → S.bytes reader.old.source ≡ Some b →
+    ensures fits { (b : List ℕ) → AreOf (S.known reader.old.source) b →
         IfOk result (λ _. T.lengths.room b (node + at) ≤ length room.old) }
 {
     let own_bytes = &bytes[at as usize..at as usize + T::size() as usize];
@@ -108,34 +110,35 @@ fn search_keys<
     requires small { node + length bytes.now ≤ 4294967295 }
     requires short { length room.old ≤ 4294967295 }
     requires few { count ≤ M.E }
-    requires part { (b : List ℕ) → S.bytes reader.old.source ≡ Some b → IsPart b bytes.now node }
+    requires part { (b : List ℕ) → AreOf (S.known reader.old.source) b → IsPart b bytes.now node }
     ensures valid { IfOk result (StopStands V.kind room.new) }
-    ensures gives { (b : List ℕ) → S.bytes reader.old.source ≡ Some b →
+    ensures gives { (b : List ℕ) → AreOf (S.known reader.old.source) b →
         (compared : T → K.kind.Value → Comparison) →
         ((n : T) (c : List ℕ) (at : ℕ) → K.compared_at n c at ≡ compared n (K.kind.read c at)) →
         GivesBy halt_of (KeysGive K.kind V.kind M.E b (compared key.now) K.Refuses V.Refuses
         node count) result }
-    ensures value { (b : List ℕ) → S.bytes reader.old.source ≡ Some b →
+    ensures value { (b : List ℕ) → AreOf (S.known reader.old.source) b →
         IfOk result (StopReads K.kind V.kind M.E b room.new node) }
     ensures within { IfOk result (StopWithin count) }
-    ensures same { S.bytes reader.new.source ≡ S.bytes reader.old.source }
+    ensures same { S.known reader.new.source ≡ S.known reader.old.source }
+    ensures fails { IfErr result (IfRead (S.Fails (S.known reader.old.source))) }
     ensures left { reader.new.left ≤ reader.old.left }
     ensures spent { reader.old.left ≤ reader.new.left + (M.E + 1) * (node + length bytes.now) }
     ensures caused { IfErr result
         (IsCaused (node + length bytes.now) 0 (length room.old) reader.new.left) }
-    ensures takes { (b : List ℕ) → S.bytes reader.old.source ≡ Some b →
+    ensures takes { (b : List ℕ) → AreOf (S.known reader.old.source) b →
         (compared : T → K.kind.Value → Comparison) →
         ((n : T) (c : List ℕ) (at : ℕ) → K.compared_at n c at ≡ compared n (K.kind.read c at)) →
         IfOk result (StopTakes K.kind V.kind M.E b K.lengths V.lengths (compared key.now)
         node count reader.old.left reader.new.left) }
-    ensures lacks { (b : List ℕ) → S.bytes reader.old.source ≡ Some b →
+    ensures lacks { (b : List ℕ) → AreOf (S.known reader.old.source) b →
         (compared : T → K.kind.Value → Comparison) →
         ((n : T) (c : List ℕ) (at : ℕ) → K.compared_at n c at ≡ compared n (K.kind.read c at)) →
         (hi : ℕ) → NodeGives K.kind V.kind M.E b hi node (Ok count) →
         IfErr result (Lacks K.kind V.kind M.E b K.lengths V.lengths
         (NodeReads K.kind V.kind M.E b K.lengths V.lengths (compared key.now) hi node)
         0 reader.old.left (length room.old)) }
-    ensures fits { (b : List ℕ) → S.bytes reader.old.source ≡ Some b →
+    ensures fits { (b : List ℕ) → AreOf (S.known reader.old.source) b →
         (compared : K.kind.Value → Comparison) →
         IfOk result (StopFits K.kind V.kind M.E b K.lengths V.lengths compared
         node count (length room.old)) }
@@ -212,32 +215,33 @@ fn search_bytes<
         → inner_size (layout_of K.kind V.kind M.E) ≤ length bytes.now }
     requires small { node + length bytes.now ≤ 4294967295 }
     requires short { length room.old ≤ 4294967295 }
-    requires part { (b : List ℕ) → S.bytes reader.old.source ≡ Some b → IsPart b bytes.now node }
+    requires part { (b : List ℕ) → AreOf (S.known reader.old.source) b → IsPart b bytes.now node }
     ensures valid { IfOk result (StepStands K.kind V.kind M.E room.new node) }
-    ensures gives { (b : List ℕ) → S.bytes reader.old.source ≡ Some b →
+    ensures gives { (b : List ℕ) → AreOf (S.known reader.old.source) b →
         (compared : T → K.kind.Value → Comparison) →
         ((n : T) (c : List ℕ) (at : ℕ) → K.compared_at n c at ≡ compared n (K.kind.read c at)) →
         (m : ℕ) → GivesBy next_of (NextGives K.kind V.kind M.E b (compared key.now)
         K.Refuses V.Refuses m hi node) result }
-    ensures value { (b : List ℕ) → S.bytes reader.old.source ≡ Some b →
+    ensures value { (b : List ℕ) → AreOf (S.known reader.old.source) b →
         IfOk result (StepReads K.kind V.kind M.E b room.new) }
-    ensures same { S.bytes reader.new.source ≡ S.bytes reader.old.source }
+    ensures same { S.known reader.new.source ≡ S.known reader.old.source }
+    ensures fails { IfErr result (IfRead (S.Fails (S.known reader.old.source))) }
     ensures left { reader.new.left ≤ reader.old.left }
     ensures spent { reader.old.left ≤ reader.new.left + (M.E + 1) * (node + length bytes.now) }
     ensures caused { IfErr result
         (IsCaused (node + length bytes.now) 0 (length room.old) reader.new.left) }
-    ensures takes { (b : List ℕ) → S.bytes reader.old.source ≡ Some b →
+    ensures takes { (b : List ℕ) → AreOf (S.known reader.old.source) b →
         (compared : T → K.kind.Value → Comparison) →
         ((n : T) (c : List ℕ) (at : ℕ) → K.compared_at n c at ≡ compared n (K.kind.read c at)) →
         IfOk result (StepTakes K.kind V.kind M.E b K.lengths V.lengths (compared key.now)
         hi node reader.old.left reader.new.left) }
-    ensures lacks { (b : List ℕ) → S.bytes reader.old.source ≡ Some b →
+    ensures lacks { (b : List ℕ) → AreOf (S.known reader.old.source) b →
         (compared : T → K.kind.Value → Comparison) →
         ((n : T) (c : List ℕ) (at : ℕ) → K.compared_at n c at ≡ compared n (K.kind.read c at)) →
         IfErr result (Lacks K.kind V.kind M.E b K.lengths V.lengths
         (NodeReads K.kind V.kind M.E b K.lengths V.lengths (compared key.now) hi node)
         0 reader.old.left (length room.old)) }
-    ensures fits { (b : List ℕ) → S.bytes reader.old.source ≡ Some b →
+    ensures fits { (b : List ℕ) → AreOf (S.known reader.old.source) b →
         (compared : T → K.kind.Value → Comparison) →
         ((n : T) (c : List ℕ) (at : ℕ) → K.compared_at n c at ≡ compared n (K.kind.read c at)) →
         IfOk result (λ _. EachFits K.kind V.kind M.E b K.lengths V.lengths
@@ -278,34 +282,35 @@ pub(crate) fn search_node<
     requires room { HasRoom K.kind V.kind M.E hi node }
     requires short { length room.old ≤ 4294967295 }
     requires page { inner_size (layout_of K.kind V.kind M.E) ≤ length page.old }
-    requires inside { (b : List ℕ) → S.bytes reader.old.source ≡ Some b →
+    requires inside { (b : List ℕ) → AreOf (S.known reader.old.source) b →
         (length b ≤ 4294967295) × (hi ≤ length b) }
     ensures valid { IfOk result (StepStands K.kind V.kind M.E room.new node) }
-    ensures gives { (b : List ℕ) → S.bytes reader.old.source ≡ Some b →
+    ensures gives { (b : List ℕ) → AreOf (S.known reader.old.source) b →
         (compared : T → K.kind.Value → Comparison) →
         ((n : T) (c : List ℕ) (at : ℕ) → K.compared_at n c at ≡ compared n (K.kind.read c at)) →
         (m : ℕ) → GivesBy next_of (NextGives K.kind V.kind M.E b (compared key.now)
         K.Refuses V.Refuses m hi node) result }
-    ensures value { (b : List ℕ) → S.bytes reader.old.source ≡ Some b →
+    ensures value { (b : List ℕ) → AreOf (S.known reader.old.source) b →
         IfOk result (StepReads K.kind V.kind M.E b room.new) }
-    ensures same { S.bytes reader.new.source ≡ S.bytes reader.old.source }
+    ensures same { S.known reader.new.source ≡ S.known reader.old.source }
+    ensures fails { IfErr result (IfRead (S.Fails (S.known reader.old.source))) }
     ensures left { reader.new.left ≤ reader.old.left }
     ensures spent { reader.old.left ≤ reader.new.left + (M.E + 2) * hi }
     ensures caused { IfErr result
         (IsCaused hi 0 (length room.old) reader.new.left) }
-    ensures takes { (b : List ℕ) → S.bytes reader.old.source ≡ Some b →
+    ensures takes { (b : List ℕ) → AreOf (S.known reader.old.source) b →
         (compared : T → K.kind.Value → Comparison) →
         ((n : T) (c : List ℕ) (at : ℕ) → K.compared_at n c at ≡ compared n (K.kind.read c at)) →
         IfOk result (NodeStepTakes K.kind V.kind M.E b K.lengths V.lengths (compared key.now)
         hi node reader.old.left reader.new.left) }
-    ensures lacks { (b : List ℕ) → S.bytes reader.old.source ≡ Some b →
+    ensures lacks { (b : List ℕ) → AreOf (S.known reader.old.source) b →
         (compared : T → K.kind.Value → Comparison) →
         ((n : T) (c : List ℕ) (at : ℕ) → K.compared_at n c at ≡ compared n (K.kind.read c at)) →
         (at before : ℕ) → Reads K.kind V.kind M.E b K.lengths V.lengths (compared key.now) at
         before (NodeBytes hi node) → IfErr result (Lacks K.kind V.kind M.E b K.lengths V.lengths
         (Reads K.kind V.kind M.E b K.lengths V.lengths (compared key.now) at)
         0 (before + reader.old.left) (length room.old)) }
-    ensures fits { (b : List ℕ) → S.bytes reader.old.source ≡ Some b →
+    ensures fits { (b : List ℕ) → AreOf (S.known reader.old.source) b →
         (compared : T → K.kind.Value → Comparison) →
         ((n : T) (c : List ℕ) (at : ℕ) → K.compared_at n c at ≡ compared n (K.kind.read c at)) →
         IfOk result (λ _. EachFits K.kind V.kind M.E b K.lengths V.lengths

@@ -8,13 +8,14 @@ ghost use Rattle.rkyv_btree_base.specs.Layout.{are_fitting, layout_of, inner_siz
 ghost use Rattle.rkyv_btree_base.specs.Map.{map_kind};
 ghost use Rattle.rkyv_btree_base.specs.Refusal.TheVariants.{TooLong};
 ghost use Rattle.rkyv_btree_base.specs.Whole.{own_at};
-ghost use Rattle.rkyv_btree_source.specs.Reading.{IfRefused, IsCaused, most_read};
+ghost use Rattle.rkyv_btree_source.specs.Reading.{IfRead, IfRefused, IsCaused, most_read};
 ghost use Rattle.rkyv_btree_source.specs.Reads.{EachFits, Lacks, Reads, Takes};
 ghost use Rattle.rkyv_btree_unverified.specs.Lookups.{FindsAt, LookupGives};
 ghost use Rattle.rkyv_btree_unverified.specs.Steps.{value_place};
 ghost use Rattle.rkyv_btree_view.specs.Lookup.{ByNative};
 ghost use Rattle.rkyv_btree_view.specs.Map.{IsMap};
 ghost use Rattle.rkyv_btree_view.specs.View.{view_value};
+ghost use Rattle.rkyv_btree_source.specs.Known.{AreOf};
 
 use crate::fetch::Fetch;
 use crate::reader::Reader;
@@ -82,11 +83,11 @@ impl<S: ReadAt, K: Portable, V: Portable, M: ArchivedMap<Key = K, Mapped = V>> U
     where
         S: Drop,
         requires { IsTrue (are_fitting K.kind V.kind M.E) }
-        ensures source { IfOk result (λ map. S.bytes map.reader.source ≡ S.bytes source) }
+        ensures source { IfOk result (λ map. S.known map.reader.source ≡ S.known source) }
         ensures budget { IfOk result (λ map. map.reader.left ≡ budget) }
-        ensures position { (b : List ℕ) → S.bytes source ≡ Some b →
+        ensures position { (b : List ℕ) → AreOf (S.known source) b →
             IfOk result (λ map. map.pos ≡ own_at (map_kind K.kind V.kind M.E) b) }
-        ensures refused { (b : List ℕ) → S.bytes source ≡ Some b →
+        ensures refused { (b : List ℕ) → AreOf (S.known source) b →
             IfErr result (IfRefused (λ refusal. (refusal ≡ TooLong) × (4294967295 < length b))) }
     {
         let mut reader = Reader {
@@ -150,22 +151,23 @@ impl<S: ReadAt, K: Fetch, V: Fetch, M: ArchivedMap<Key = K, Mapped = V>> Unverif
         K: CompareWith<T>,
         requires { length lent.old ≤ 4294967295 }
         // What is found reads as the value beside an equal key, which is where the search of the bytes comes to.
-        ensures places { (b : List ℕ) → S.bytes self.old.reader.source ≡ Some b →
+        ensures places { (b : List ℕ) → AreOf (S.known self.old.reader.source) b →
             ByNative K.kind K.compared_at key (λ comparison. IfOk result (λ found.
             FindsAt K.kind V.kind M.E b comparison K.Refuses V.Refuses self.old.pos
             (λ e. V.kind.read b (value_place K.kind V.kind M.E e)) (option_map view_value found))) }
-        ensures refused { (b : List ℕ) → S.bytes self.old.reader.source ≡ Some b →
+        ensures refused { (b : List ℕ) → AreOf (S.known self.old.reader.source) b →
             ByNative K.kind K.compared_at key (λ comparison. IfErr result (IfRefused (λ refusal.
             LookupGives K.kind V.kind M.E b comparison K.Refuses V.Refuses self.old.pos
             (Err refusal)))) }
         // In a map nothing is refused, and this is what std's lookup finds.
-        ensures accepts { (b : List ℕ) → S.bytes self.old.reader.source ≡ Some b → (m : _) →
+        ensures accepts { (b : List ℕ) → AreOf (S.known self.old.reader.source) b → (m : _) →
             IsMap K.kind V.kind M.E b self.old.pos m → IfErr result (IfRefused (λ _. ⊥)) }
-        ensures sorted { (b : List ℕ) → S.bytes self.old.reader.source ≡ Some b → (m : _) →
+        ensures sorted { (b : List ℕ) → AreOf (S.known self.old.reader.source) b → (m : _) →
             IsMap K.kind V.kind M.E b self.old.pos m → Increasing K.kind.order m →
             ByNative K.kind K.compared_at key (λ comparison.
             IfOk result (λ found. option_map view_value found ≡ lookup (is_at comparison) m)) }
-        ensures same { S.bytes self.new.reader.source ≡ S.bytes self.old.reader.source }
+        ensures same { S.known self.new.reader.source ≡ S.known self.old.reader.source }
+        ensures fails { IfErr result (IfRead (S.Fails (S.known self.old.reader.source))) }
         ensures position { self.new.pos ≡ self.old.pos }
         ensures budget { self.new.reader.left ≤ self.old.reader.left }
         // This is what all reads of a lookup take of the budget.
@@ -175,22 +177,22 @@ impl<S: ReadAt, K: Fetch, V: Fetch, M: ArchivedMap<Key = K, Mapped = V>> Unverif
         // whose bytes are known.
         ensures caused { IfErr result (IsCaused (self.old.pos + 8)
             (inner_size (layout_of K.kind V.kind M.E)) (length lent.old) self.new.reader.left) }
-        ensures known { (b : List ℕ) → S.bytes self.old.reader.source ≡ Some b →
+        ensures known { (b : List ℕ) → AreOf (S.known self.old.reader.source) b →
             IfErr result (IsCaused (length b)
             (inner_size (layout_of K.kind V.kind M.E)) (length lent.old) self.new.reader.left) }
         // A lookup that ends takes the bytes of what it reads of the budget, and no others.
-        ensures takes { (b : List ℕ) → S.bytes self.old.reader.source ≡ Some b →
+        ensures takes { (b : List ℕ) → AreOf (S.known self.old.reader.source) b →
             ByNative K.kind K.compared_at key (λ comparison. IfOk result (λ _. (all : ℕ)
             × Takes K.kind V.kind M.E b K.lengths V.lengths comparison self.old.pos all
             × (self.old.reader.left ≡ self.new.reader.left + all))) }
         // Where the budget or the lent buffer is too small, one part that the lookup reads doesn't fit.
-        ensures lacks { (b : List ℕ) → S.bytes self.old.reader.source ≡ Some b →
+        ensures lacks { (b : List ℕ) → AreOf (S.known self.old.reader.source) b →
             ByNative K.kind K.compared_at key (λ comparison. IfErr result
             (Lacks K.kind V.kind M.E b K.lengths V.lengths
             (Reads K.kind V.kind M.E b K.lengths V.lengths comparison self.old.pos)
             (inner_size (layout_of K.kind V.kind M.E)) self.old.reader.left (length lent.old))) }
         // And a lookup that ends had room for all of them.
-        ensures fits { (b : List ℕ) → S.bytes self.old.reader.source ≡ Some b →
+        ensures fits { (b : List ℕ) → AreOf (S.known self.old.reader.source) b →
             ByNative K.kind K.compared_at key (λ comparison. IfOk result (λ _.
             EachFits K.kind V.kind M.E b K.lengths V.lengths
             (Reads K.kind V.kind M.E b K.lengths V.lengths comparison self.old.pos)
@@ -229,22 +231,23 @@ impl<S: ReadAt, K: Fetch, V: Fetch, M: ArchivedMap<Key = K, Mapped = V>> Unverif
         K: CompareWith<T>,
         requires { length lent.old ≤ 4294967295 }
         // This says whether an equal key is where the search of the bytes comes to.
-        ensures places { (b : List ℕ) → S.bytes self.old.reader.source ≡ Some b →
+        ensures places { (b : List ℕ) → AreOf (S.known self.old.reader.source) b →
             ByNative K.kind K.compared_at key (λ comparison. IfOk result (λ found. (entry : _)
             × LookupGives K.kind V.kind M.E b comparison K.Refuses V.Refuses self.old.pos (Ok entry)
             × (found ≡ is_some entry))) }
-        ensures refused { (b : List ℕ) → S.bytes self.old.reader.source ≡ Some b →
+        ensures refused { (b : List ℕ) → AreOf (S.known self.old.reader.source) b →
             ByNative K.kind K.compared_at key (λ comparison. IfErr result (IfRefused (λ refusal.
             LookupGives K.kind V.kind M.E b comparison K.Refuses V.Refuses self.old.pos
             (Err refusal)))) }
         // In a map nothing is refused, and this is what std's lookup says.
-        ensures accepts { (b : List ℕ) → S.bytes self.old.reader.source ≡ Some b → (m : _) →
+        ensures accepts { (b : List ℕ) → AreOf (S.known self.old.reader.source) b → (m : _) →
             IsMap K.kind V.kind M.E b self.old.pos m → IfErr result (IfRefused (λ _. ⊥)) }
-        ensures sorted { (b : List ℕ) → S.bytes self.old.reader.source ≡ Some b → (m : _) →
+        ensures sorted { (b : List ℕ) → AreOf (S.known self.old.reader.source) b → (m : _) →
             IsMap K.kind V.kind M.E b self.old.pos m → Increasing K.kind.order m →
             ByNative K.kind K.compared_at key (λ comparison.
             IfOk result (λ found. found ≡ is_some (lookup (is_at comparison) m))) }
-        ensures same { S.bytes self.new.reader.source ≡ S.bytes self.old.reader.source }
+        ensures same { S.known self.new.reader.source ≡ S.known self.old.reader.source }
+        ensures fails { IfErr result (IfRead (S.Fails (S.known self.old.reader.source))) }
         ensures position { self.new.pos ≡ self.old.pos }
         ensures budget { self.new.reader.left ≤ self.old.reader.left }
         // This is what all reads of a lookup take of the budget.
@@ -254,22 +257,22 @@ impl<S: ReadAt, K: Fetch, V: Fetch, M: ArchivedMap<Key = K, Mapped = V>> Unverif
         // whose bytes are known.
         ensures caused { IfErr result (IsCaused (self.old.pos + 8)
             (inner_size (layout_of K.kind V.kind M.E)) (length lent.old) self.new.reader.left) }
-        ensures known { (b : List ℕ) → S.bytes self.old.reader.source ≡ Some b →
+        ensures known { (b : List ℕ) → AreOf (S.known self.old.reader.source) b →
             IfErr result (IsCaused (length b)
             (inner_size (layout_of K.kind V.kind M.E)) (length lent.old) self.new.reader.left) }
         // A lookup that ends takes the bytes of what it reads of the budget, and no others.
-        ensures takes { (b : List ℕ) → S.bytes self.old.reader.source ≡ Some b →
+        ensures takes { (b : List ℕ) → AreOf (S.known self.old.reader.source) b →
             ByNative K.kind K.compared_at key (λ comparison. IfOk result (λ _. (all : ℕ)
             × Takes K.kind V.kind M.E b K.lengths V.lengths comparison self.old.pos all
             × (self.old.reader.left ≡ self.new.reader.left + all))) }
         // Where the budget or the lent buffer is too small, one part that the lookup reads doesn't fit.
-        ensures lacks { (b : List ℕ) → S.bytes self.old.reader.source ≡ Some b →
+        ensures lacks { (b : List ℕ) → AreOf (S.known self.old.reader.source) b →
             ByNative K.kind K.compared_at key (λ comparison. IfErr result
             (Lacks K.kind V.kind M.E b K.lengths V.lengths
             (Reads K.kind V.kind M.E b K.lengths V.lengths comparison self.old.pos)
             (inner_size (layout_of K.kind V.kind M.E)) self.old.reader.left (length lent.old))) }
         // And a lookup that ends had room for all of them.
-        ensures fits { (b : List ℕ) → S.bytes self.old.reader.source ≡ Some b →
+        ensures fits { (b : List ℕ) → AreOf (S.known self.old.reader.source) b →
             ByNative K.kind K.compared_at key (λ comparison. IfOk result (λ _.
             EachFits K.kind V.kind M.E b K.lengths V.lengths
             (Reads K.kind V.kind M.E b K.lengths V.lengths comparison self.old.pos)

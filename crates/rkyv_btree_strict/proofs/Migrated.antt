@@ -37,13 +37,13 @@ then_begins s m t (first, a) (base, (second, contents)) = (base ∙ a.base, (fir
 
 module _ {T U A B R S : Type 0} (cmp : T → T → Ordering) (K V : Kind) (KA : Archival T R) (VA : Archival U S) (model : List (T × U) → List (A × B)) (native : Result (List (A × B)) EntryFault) where
   module _ (entries : List (T × U)) (are : AreNative cmp K V KA VA model native entries) (claim : ℕ) (count : claim ≡ length entries) (from : Writing) where
-    built_of : (root : ℕ) (mid : Writing) → Serialised K V 5 KA VA (TakesFirst deref_pair) entries claim from root mid → Built (layout_of K V 5) KA VA from entries root mid
+    built_of : (root : ℕ) (mid : Writing) → Serialised K V 5 KA VA now_of (TakesFirst deref_pair) entries claim from root mid → Built (layout_of K V 5) KA VA from entries root mid
     built_of root mid h = subst (λ (xs : List (T × U)). Built (layout_of K V 5) KA VA from xs root mid) (entries_drained entries h.items h.all) h.built
 
-    smallest_of : (root : ℕ) (mid : Writing) → (h : Serialised K V 5 KA VA (TakesFirst deref_pair) entries claim from root mid) → IsSmallestArchive K V 5 KA VA from (map now_of h.items) root mid → IsSmallestArchive K V 5 KA VA from entries root mid
+    smallest_of : (root : ℕ) (mid : Writing) → (h : Serialised K V 5 KA VA now_of (TakesFirst deref_pair) entries claim from root mid) → IsSmallestArchive K V 5 KA VA from (map now_of h.items) root mid → IsSmallestArchive K V 5 KA VA from entries root mid
     smallest_of root mid h smallest = subst (λ (xs : List (T × U)). IsSmallestArchive K V 5 KA VA from xs root mid) (entries_drained entries h.items h.all) smallest
 
-    migrated : {X : Type 0} (root : ℕ) (mid to : Writing) (result : Result ℕ (Fault X)) → Serialised K V 5 KA VA (TakesFirst deref_pair) entries claim from root mid → IsSmallestArchive K V 5 KA VA from entries root mid → OnlyAppended from mid
+    migrated : {X : Type 0} (root : ℕ) (mid to : Writing) (result : Result ℕ (Fault X)) → Serialised K V 5 KA VA now_of (TakesFirst deref_pair) entries claim from root mid → IsSmallestArchive K V 5 KA VA from entries root mid → OnlyAppended from mid
         → IfOk result (λ at. at ≡ round_up (position mid) 4) → OnOk result (Wrote mid (root_image (position mid) root claim) to) → OnOk result (position to ≤ last_end) → OnOk result (claim ≤ last_end)
         → IfOk result (λ at. Migrates cmp K V KA VA model native from at to)
     migrated root mid to (Err fault) h smallest went at wrote end few = tt
@@ -62,17 +62,17 @@ module _ {T U A B R S : Type 0} (cmp : T → T → Ordering) (K V : Kind) (KA : 
     }
 
     pub migrated_by : {X : Type 0} (iter : List (T × U)) → iter ≡ entries → (root : ℕ) (mid to : Writing) (result : Result ℕ (Fault X))
-        → (h : Serialised K V 5 KA VA (TakesFirst deref_pair) iter claim from root mid) × IsSmallestArchive K V 5 KA VA from (map now_of h.items) root mid → OnlyAppended from mid
+        → (h : Serialised K V 5 KA VA now_of (TakesFirst deref_pair) iter claim from root mid) × IsSmallestArchive K V 5 KA VA from (map now_of h.items) root mid → OnlyAppended from mid
         → IfOk result (λ at. at ≡ round_up (position mid) 4) → OnOk result (Wrote mid (root_image (position mid) root claim) to) → OnOk result (position to ≤ last_end) → OnOk result (claim ≤ last_end)
         → IfOk result (λ at. Migrates cmp K V KA VA model native from at to)
     migrated_by iter same root mid to result both went at wrote end few =
-        let b = subst (λ (it : List (T × U)). (h : Serialised K V 5 KA VA (TakesFirst deref_pair) it claim from root mid) × IsSmallestArchive K V 5 KA VA from (map now_of h.items) root mid) same both in
+        let b = subst (λ (it : List (T × U)). (h : Serialised K V 5 KA VA now_of (TakesFirst deref_pair) it claim from root mid) × IsSmallestArchive K V 5 KA VA from (map now_of h.items) root mid) same both in
         migrated root mid to result b.0 (smallest_of root mid b.0 b.1) went at wrote end few
 
-    pub unbuilt : {X : Type 0} (fault : Fault X) (to : Writing) → BuildFault K V 5 KA VA (TakesFirst deref_pair) {X = X} entries claim from fault to → FailsToMigrate cmp K V KA VA model native from fault to
-    unbuilt {X} fault to h = inr (entries, are, inl (subst (λ n. BuildFault K V 5 KA VA (TakesFirst deref_pair) {X = X} entries n from fault to) count h))
+    pub unbuilt : {X : Type 0} (fault : Fault X) (to : Writing) → BuildFault K V 5 KA VA now_of (TakesFirst deref_pair) {X = X} entries claim from fault to → FailsToMigrate cmp K V KA VA model native from fault to
+    unbuilt {X} fault to h = inr (entries, are, inl (subst (λ n. BuildFault K V 5 KA VA now_of (TakesFirst deref_pair) {X = X} entries n from fault to) count h))
 
-    pub unrooted : {X : Type 0} (root : ℕ) (mid to : Writing) (result : Result ℕ (Fault X)) → Serialised K V 5 KA VA (TakesFirst deref_pair) entries claim from root mid → IfErr result (λ fault. RootFault root claim mid fault to)
+    pub unrooted : {X : Type 0} (root : ℕ) (mid to : Writing) (result : Result ℕ (Fault X)) → Serialised K V 5 KA VA now_of (TakesFirst deref_pair) entries claim from root mid → IfErr result (λ fault. RootFault root claim mid fault to)
         → IfErr result (λ fault. FailsToMigrate cmp K V KA VA model native from fault to)
     unrooted root mid to (Ok at) h failed = tt
     unrooted root mid to (Err fault) h failed = inr (entries, are, inr (root, mid, built_of root mid h, subst (λ n. RootFault root n mid fault to) count failed))

@@ -5,6 +5,7 @@ use Rattle.std.specs.Map.{keys_of}
 use Rattle.std.specs.Map.Iter.{TakesFirst, deref_pair}
 use Rattle.std.specs.declared.cmp.Ordering.{Ordering}
 use Rattle.rkyv_btree_base.specs.Archiving.{Archival, Matches}
+use Rattle.rkyv_btree_base.specs.Entries.{now_of}
 use Rattle.rkyv_btree_base.specs.EntryFault.{EntryFault}
 use Rattle.rkyv_btree_base.specs.Fault.{Fault}
 use Rattle.rkyv_btree_base.specs.Fault.TheVariants.{Memory, Entry}
@@ -62,5 +63,5 @@ module _ {T U A B R S : Type 0} (cmp : T → T → Ordering) (K V : Kind) (KA : 
   FailsToMigrate {X} from fault to =
       (IsUnmade fault × (to ≡ from))
       ⊎ ((entries : List (T × U)) × AreNative entries
-      × (BuildFault K V 5 KA VA (TakesFirst deref_pair) {X = X} entries (length entries) from fault to
+      × (BuildFault K V 5 KA VA now_of (TakesFirst deref_pair) {X = X} entries (length entries) from fault to
       ⊎ ((root : ℕ) × (mid : Writing) × Built (layout_of K V 5) KA VA from entries root mid × RootFault root (length entries) mid fault to)))

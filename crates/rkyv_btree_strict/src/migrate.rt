@@ -66,7 +66,7 @@ where
     // The contract of `len` says that the keys of the map increase.
     let len = map.len();
     written_maps_are_held();
-    let root = ArchivedBTreeMap::<K, V, 5>::serialize_from_ordered_iter::<T, U, W, Global, _>(
+    let root = ArchivedBTreeMap::<K, V, 5>::serialize_from_ordered_iter(
         alloc,
         len,
         map.iter(),

@@ -51,6 +51,12 @@ pub trait CompareWith<T>: Portable {
         Compared::of(Self::compare_with(native, view))
     }
 
+    /// Whether that is a plain test of numbers, so that a lookup may compare more keys of a node than it needs, to save jumps.
+    #[inline(always)]
+    fn is_plain() -> bool {
+        false
+    }
+
     ghost compares: { ComparesAs Self.kind compared_at };
 }
 
@@ -70,6 +76,11 @@ impl<T: ToNative> CompareWith<T::Native> for T {
         }
     }
 
+    #[inline(always)]
+    fn is_plain() -> bool {
+        true
+    }
+
     ghost compares = { native_compares T.read_as T.Native.total };
 }
 
@@ -79,6 +90,11 @@ impl CompareWith<NonZeroU32> for ArchivedNonZeroU32 {
 
     fn compare_with(native: &NonZeroU32, view: &View<'_, ArchivedNonZeroU32>) -> Ordering {
         native.get().cmp(&view.to_native().get())
+    }
+
+    #[inline(always)]
+    fn is_plain() -> bool {
+        true
     }
 
     ghost compares = { order_compares non_zero_kind nat_cmp_total non_zero_u32_get };

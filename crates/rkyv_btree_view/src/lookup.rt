@@ -87,7 +87,7 @@ impl<'a, K: Portable, V: Portable, M: ArchivedMap<Key = K, Mapped = V>> View<'a,
             IsComplete K.kind V.kind M.E self.entry comparison (IsSome result)) }
     {
         let compare = |query: &Q, key: W| Compared::of(cmp(query, key));
-        let (found, _) = search::<Q, K, V, M, W, _>(self.buf, self.pos, key, &compare);
+        let (found, _) = search::<Q, K, V, M, W, _>(self.buf, self.pos, key, &compare, false);
         self.entry_found(found)
     }
 
@@ -125,7 +125,9 @@ impl<'a, K: Portable, V: Portable, M: ArchivedMap<Key = K, Mapped = V>> View<'a,
     {
         M::opened(self.buf, self.pos);
         let compare = |query: &Q, key: W| Compared::of(cmp(query, key));
-        let (found, compared) = search::<Q, K, V, M, W, _>(self.buf, self.pos, key, &compare);
+        let (found, compared) = search::<Q, K, V, M, W, _>(
+            self.buf, self.pos, key, &compare, false,
+        );
         steps.add(compared);
         self.entry_found(found)
     }
@@ -149,7 +151,7 @@ impl<'a, K: ViewOrd, V: Portable, M: ArchivedMap<Key = K, Mapped = V> + ShowsEnt
             (IsSome result) }
     {
         let compare = |query: &View<'_, K>, key: View<K>| Compared::of(K::compare(query, &key));
-        let (found, _) = search::<_, K, V, M, _, _>(self.buf, self.pos, &key, &compare);
+        let (found, _) = search::<_, K, V, M, _, _>(self.buf, self.pos, &key, &compare, true);
         self.entry_found(found)
     }
 
@@ -213,6 +215,7 @@ impl<'a, K: ViewOrd, V: Portable, M: ArchivedMap<Key = K, Mapped = V> + ShowsEnt
 impl<'a, K: Portable, V: Portable, M: ArchivedMap<Key = K, Mapped = V> + ShowsEntries> View<'a, M> {
     /// Returns the entry whose key is equal to a native value, or `None`: a number, a `&str`, a pair of these, or what else
     /// keys compare with.
+    #[inline(always)]
     pub fn get_key_value_by<T: Drop>(self, key: T) -> Option<(View<'a, K>, View<'a, V>)>
     where
         K: CompareWith<T>,
@@ -232,7 +235,8 @@ impl<'a, K: Portable, V: Portable, M: ArchivedMap<Key = K, Mapped = V> + ShowsEn
             IsComplete K.kind V.kind M.E self.entry comparison (IsSome result)) }
     {
         let compare = |query: &T, key: View<K>| K::compared(query, &key);
-        let (found, _) = search::<_, K, V, M, _, _>(self.buf, self.pos, &key, &compare);
+        let all = K::is_plain();
+        let (found, _) = search::<_, K, V, M, _, _>(self.buf, self.pos, &key, &compare, all);
         self.entry_found(found)
     }
 
@@ -243,6 +247,7 @@ impl<'a, K: Portable, V: Portable, M: ArchivedMap<Key = K, Mapped = V> + ShowsEn
     /// ```rust
     /// let value = map.get_by(key).map(number);
     /// ```
+    #[inline(always)]
     pub fn get_by<T: Drop>(self, key: T) -> Option<View<'a, V>>
     where
         K: CompareWith<T>,

@@ -12,6 +12,7 @@ ghost use Rattle.rkyv_btree_walk.specs.mirror.Search.{StopsAt, StopsWithin, IsLi
 
 use crate::archived_map::{ArchivedMap, map_len};
 use crate::node::{child, is_leaf, key_pos, leaf_count, root};
+use crate::seek::is_one_number;
 use crate::shows::Shows;
 use rkyv_btree_base::check::Portable;
 use std::cmp::Ordering;
@@ -76,9 +77,9 @@ fn compare_at<'a, Q, K: Portable, W: Shows<'a, K>, C: Fn(&Q, W) -> Compared>(
     cmp(key, W::at(buf, pos))
 }
 
-/// Compares the query with the keys of a node, from the left.
+/// Compares the query with the keys of a node, from the left, up to the first that it isn't past.
 #[inline(always)]
-fn search_node<
+fn search_in_turn<
     'a,
     Q,
     K: Portable,
@@ -108,6 +109,71 @@ fn search_node<
     Stop::Before(count)
 }
 
+/// Compares the query with all keys of a node, so that no jump depends on a key but on one that is equal.
+#[inline(always)]
+fn search_at_once<
+    'a,
+    Q,
+    K: Portable,
+    V: Portable,
+    M: ArchivedMap<Key = K, Mapped = V>,
+    W: Shows<'a, K>,
+    C: Fn(&Q, W) -> Compared,
+>(buf: &'a [u8], node: u32, count: u32, key: &Q, cmp: &C) -> Stop
+    requires callable { C.IsAlwaysCallable cmp.now }
+    requires node { CanBeSearched K.kind V.kind M.E buf.now node count }
+    ensures within { StopsWithin count result }
+    ensures stops { (c : Q → K.kind.Value → Comparison)
+        → IsComparedBy (C.post cmp.now) (shown_value K.kind W.Shows) c
+        → StopsAt (λ i. comparison_at K.kind V.kind M.E buf.now (c key.now) (node, i)) count result }
+{
+    let mut next = 0;
+    let mut past = true;
+    let mut equal = false;
+    for number in 0..count {
+        let pos = key_pos::<K, V, M>(node, number as usize);
+        let compared = compare_at::<Q, K, W, C>(buf, pos, key, cmp);
+        equal |= past & compared.equal;
+        past &= compared.past;
+        next += u32::from(past);
+    }
+    if equal && next < count {
+        return Stop::At(next);
+    }
+    Stop::Before(next)
+}
+
+/// A node of more entries isn't searched at once.
+const AT_ONCE: usize = 16;
+
+/// So many levels are searched at once. Nodes further down are seldom in a processor's cache, where a search in turn is faster:
+/// the processor foresees the child that it goes to, and begins to read it.
+const NEAR: u32 = 5;
+
+/// Compares the query with the keys of a node. Where it may compare them all, and they are numbers, it does that at once.
+#[inline(always)]
+fn search_node<
+    'a,
+    Q,
+    K: Portable,
+    V: Portable,
+    M: ArchivedMap<Key = K, Mapped = V>,
+    W: Shows<'a, K>,
+    C: Fn(&Q, W) -> Compared,
+>(buf: &'a [u8], node: u32, count: u32, key: &Q, cmp: &C, all: bool) -> Stop
+    requires callable { C.IsAlwaysCallable cmp.now }
+    requires node { CanBeSearched K.kind V.kind M.E buf.now node count }
+    ensures within { StopsWithin count result }
+    ensures stops { (c : Q → K.kind.Value → Comparison)
+        → IsComparedBy (C.post cmp.now) (shown_value K.kind W.Shows) c
+        → StopsAt (λ i. comparison_at K.kind V.kind M.E buf.now (c key.now) (node, i)) count result }
+{
+    if all && is_one_number::<K>() && M::entries_per_node() <= AT_ONCE {
+        return search_at_once::<Q, K, V, M, W, C>(buf, node, count, key, cmp);
+    }
+    search_in_turn::<Q, K, V, M, W, C>(buf, node, count, key, cmp)
+}
+
 /// The entry of the tree at `from` at which a search ends with Equal, by its node and number, and how many entries it
 /// asks.
 #[inline(always)]
@@ -119,7 +185,7 @@ fn search_tree<
     M: ArchivedMap<Key = K, Mapped = V>,
     W: Shows<'a, K>,
     C: Fn(&Q, W) -> Compared,
->(buf: &'a [u8], from: u32, key: &Q, cmp: &C) -> (Option<(u32, u32)>, u64)
+>(buf: &'a [u8], from: u32, key: &Q, cmp: &C, all: bool) -> (Option<(u32, u32)>, u64)
     requires callable { C.IsAlwaysCallable cmp.now }
     requires tree { TreeCanBeRead K.kind V.kind M.E buf.now from }
     ensures stands { IfSome result.0 (λ e. RunStands K.kind V.kind M.E buf.now e.0 e.1 (e.1 + 1)) }
@@ -133,10 +199,11 @@ fn search_tree<
 {
     let mut node = from;
     let mut compared = 0u64;
+    let mut near = NEAR;
     'down: loop {
         if is_leaf::<K, V, M>(buf, node) {
             let count = leaf_count::<K, V, M>(buf, node);
-            let stop = search_node::<Q, K, V, M, W, C>(buf, node, count, key, cmp);
+            let stop = search_node::<Q, K, V, M, W, C>(buf, node, count, key, cmp, all);
             compared += u64::from(stop.comparisons(count));
             return match stop {
                 Stop::At(i) => (Some((node, i)), compared),
@@ -145,7 +212,8 @@ fn search_tree<
         }
         // An inner node's number of entries is known when this is compiled, so its search has no loop.
         let count = M::entries_per_node() as u32;
-        let stop = search_node::<Q, K, V, M, W, C>(buf, node, count, key, cmp);
+        let stop = search_node::<Q, K, V, M, W, C>(buf, node, count, key, cmp, all && near > 0);
+        near = near.saturating_sub(1);
         compared += u64::from(stop.comparisons(count));
         match stop {
             Stop::At(i) => return (Some((node, i)), compared),
@@ -167,7 +235,7 @@ pub fn search<
     M: ArchivedMap<Key = K, Mapped = V>,
     W: Shows<'a, K>,
     C: Fn(&Q, W) -> Compared,
->(buf: &'a [u8], pos: u32, key: &Q, cmp: &C) -> (Option<(u32, u32)>, u64)
+>(buf: &'a [u8], pos: u32, key: &Q, cmp: &C, all: bool) -> (Option<(u32, u32)>, u64)
     requires callable { C.IsAlwaysCallable cmp.now }
     requires stands { IsTrue (stands M.kind buf.now pos) }
     ensures stands { IfSome result.0 (λ e. RunStands K.kind V.kind M.E buf.now e.0 e.1 (e.1 + 1)) }
@@ -183,7 +251,7 @@ pub fn search<
     M::opened(buf, pos);
     let count = map_len::<K, V, M>(buf, pos);
     if count > 0 {
-        return search_tree::<Q, K, V, M, W, C>(buf, root(buf, pos), key, cmp);
+        return search_tree::<Q, K, V, M, W, C>(buf, root(buf, pos), key, cmp, all);
     }
     (None, 0)
 }

@@ -115,7 +115,7 @@ fn count_node<
 
 /// Whether a key is one number, by its size: then it is compared faster than a jump is made that can't be foreseen.
 #[inline(always)]
-fn is_one_number<K: Portable>() -> bool
+pub(crate) fn is_one_number<K: Portable>() -> bool
     requires { IsTrue K.kind.is_fitting }
 {
     K::size() <= K::align()

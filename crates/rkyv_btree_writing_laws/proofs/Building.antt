@@ -1,5 +1,5 @@
 -- What building leaves, from what its parts leave.
-use Rattle.std.proofs.Common.{◌≡◌, ◌≢◌, ℕ, ◌+◌, ◌-◌, ◌<◌, ◌≤◌, ◌∙◌, Bool, IsTrue, List, [], ◌∷◌, ◌++◌, length, map, replicate, take, Bor, Option, None, unwrap_or, refl, sym, subst, ap, arith}
+use Rattle.std.proofs.Common.{◌≡◌, ◌≢◌, ℕ, ◌+◌, ◌-◌, ◌<◌, ◌≤◌, ◌∙◌, Bool, IsTrue, List, [], ◌∷◌, ◌++◌, length, map, replicate, take, Option, None, unwrap_or, refl, sym, subst, ap, arith}
 use Rattle.std.specs.Iterator.{Yields, YieldsThen, Drains}
 use Rattle.std.proofs.lemmas.List.{length-append, length-map, length-replicate, append-nil, nil_from_length, take_at}
 use Rattle.rkyv_btree_writer.specs.Archiving.{Archival, IsArchived, Matches}
@@ -14,7 +14,6 @@ use Rattle.rkyv_btree_writing_laws.specs.Serialising.{meaning_of, BeginClaimed, 
 use Rattle.rkyv_btree_format.specs.Spells.{Spells}
 use Rattle.rkyv_btree_shape.specs.Tree.{list}
 use Rattle.rkyv_btree_writer.specs.Writing.{Writing, position, Write, Wrote, Refused, last_end}
-use Rattle.rkyv_btree_writing_laws.specs.Entries.{now_of}
 use Rattle.rkyv_btree_writing_laws.specs.Written.{ChildWritten}
 use Rattle.rkyv_btree_format.proofs.Sizes.{room_of}
 use Rattle.rkyv_btree_writer.specs.declared.fault.Fault.{Fault}
@@ -41,19 +40,19 @@ drained steps s xs t ys n y d is none =
     subst (Drains steps s) (ap (λ zs. xs ++ zs) (nil_from_length ys (sym is ∙ none)) ∙ append-nil xs) (d.0, then-behind steps s xs t ys d.0 y d.1)
 
 -- some items are the first of a list of as many entries as claimed
-pub some_claimed : {M N : Type 0} (items : List (Bor M × Bor N)) (claim : ℕ) → 0 < length items → length items ≤ claim → (xs : List (M × N)) × BeginClaimed items claim xs
-some_claimed [] claim some few = absurd (omega arith)
-some_claimed (x ∷ items) claim some few =
-    let others = replicate (claim - length (x ∷ items)) (now_of x) in
-    let same = length-map (x ∷ items) now_of in
-    let front = length-append (map now_of (x ∷ items)) others in
-    let back = length-replicate (claim - length (x ∷ items)) (now_of x) in
-    (map now_of (x ∷ items) ++ others, record { later = others; parts = refl; count = omega (arith, same, front, back, few) })
+pub some_claimed : {I M N : Type 0} (borrowed : I → M × N) (items : List I) (claim : ℕ) → 0 < length items → length items ≤ claim → (xs : List (M × N)) × BeginClaimed borrowed items claim xs
+some_claimed borrowed [] claim some few = absurd (omega arith)
+some_claimed borrowed (x ∷ items) claim some few =
+    let others = replicate (claim - length (x ∷ items)) (borrowed x) in
+    let same = length-map (x ∷ items) borrowed in
+    let front = length-append (map borrowed (x ∷ items)) others in
+    let back = length-replicate (claim - length (x ∷ items)) (borrowed x) in
+    (map borrowed (x ∷ items) ++ others, record { later = others; parts = refl; count = omega (arith, same, front, back, few) })
 
-module _ {M N R S P : Type 0} (K V : Kind) (E : ℕ) (KA : Archival M R) (VA : Archival N S) (steps : P → Option (Bor M × Bor N) → P → Type 0) where
+module _ {I M N R S P : Type 0} (K V : Kind) (E : ℕ) (KA : Archival M R) (VA : Archival N S) (borrowed : I → M × N) (steps : P → Option I → P → Type 0) where
   -- it gave more, and the tree of the first was written
-  pub miscounted_of : (iter : P) (claim more : ℕ) (s t : Writing) (xs : List (Bor M × Bor N)) (rest : P) (ys : List (Bor M × Bor N)) (end : P) (place : Option ℕ) →
-      Yields steps iter xs rest → YieldsThen steps rest ys None end → more ≡ length ys → more ≢ 0 → length xs ≡ claim → ChildWritten (layout_of K V E) KA VA s (planned_alone E (map now_of xs)) place t → (m : Miscounted K V E KA VA steps iter claim claim (claim + more) s t) × (m.all.0 ≡ end)
+  pub miscounted_of : (iter : P) (claim more : ℕ) (s t : Writing) (xs : List I) (rest : P) (ys : List I) (end : P) (place : Option ℕ) →
+      Yields steps iter xs rest → YieldsThen steps rest ys None end → more ≡ length ys → more ≢ 0 → length xs ≡ claim → ChildWritten (layout_of K V E) KA VA s (planned_alone E (map borrowed xs)) place t → (m : Miscounted K V E KA VA borrowed steps iter claim claim (claim + more) s t) × (m.all.0 ≡ end)
   miscounted_of iter claim more s t xs rest ys end place y d is many n written =
       let all = length-append xs ys in
       let taken : take claim (xs ++ ys) ≡ xs = take_at xs ys claim n in (
@@ -65,15 +64,15 @@ module _ {M N R S P : Type 0} (K V : Kind) (E : ℕ) (KA : Archival M R) (VA : A
           counted = omega (arith, all);
           none = λ empty. absurd (many (omega (arith, all, ap length empty)));
           few = λ some less. absurd (omega (arith, all));
-          many = λ more. (place, subst (λ (zs : List (Bor M × Bor N)). ChildWritten (layout_of K V E) KA VA s (planned_alone E (map now_of zs)) place t) (sym taken) written);
+          many = λ more. (place, subst (λ (zs : List I). ChildWritten (layout_of K V E) KA VA s (planned_alone E (map borrowed zs)) place t) (sym taken) written);
         },
         refl,
       )
 
 module _ {M N R S : Type 0} (K V : Kind) (E : ℕ) (k : IsLawful K) (v : IsLawful V) (fits : IsTrue (are_fitting K V E)) (KA : Archival M R) (VA : Archival N S) (key : Matches KA.kind K) (value : Matches VA.kind V) (ka : IsArchived KA) (va : IsArchived VA) where
-  pub meaning_is : (xs : List (Bor M × Bor N)) → map (meant K V E k v fits KA VA key value ka va) (map now_of xs) ≡ map (meaning_of K V KA VA key value) xs
-  meaning_is [] = refl
-  meaning_is (x ∷ xs) = ap (λ (ys : List (K.Value × V.Value)). meaning_of K V KA VA key value x ∷ ys) (meaning_is xs)
+  pub meaning_is : {I : Type 0} (borrowed : I → M × N) (xs : List I) → map (meant K V E k v fits KA VA key value ka va) (map borrowed xs) ≡ map (meaning_of K V KA VA borrowed key value) xs
+  meaning_is borrowed [] = refl
+  meaning_is borrowed (x ∷ xs) = ap (λ (ys : List (K.Value × V.Value)). meaning_of K V KA VA borrowed key value x ∷ ys) (meaning_is borrowed xs)
 
   -- every buffer that holds the writes of a built tree spells it
   pub spelled_of : (s : Writing) (xs : List (M × N)) (m : List (K.Value × V.Value)) (root : ℕ) (t : Writing) → map (meant K V E k v fits KA VA key value ka va) xs ≡ m → 0 < length xs → length xs ≤ last_end → Built (layout_of K V E) KA VA s xs root t → Spelled K V E s m root t

@@ -1,5 +1,5 @@
 -- Values resolved one after another.
-use Rattle.std.proofs.Common.{◌≡◌, ℕ, suc, Bor, ◌+◌, ◌<◌, ◌≤◌, List, [], ◌∷◌, ◌++◌, length, map, take, drop, get_or, inl, inr, refl, sym, ap, subst, ◌∙◌}
+use Rattle.std.proofs.Common.{◌≡◌, ℕ, suc, ◌+◌, ◌<◌, ◌≤◌, List, [], ◌∷◌, ◌++◌, length, map, take, drop, get_or, inl, inr, refl, sym, ap, subst, ◌∙◌}
 use Rattle.std.proofs.lemmas.List.{append_assoc, append-nil, drop_more, drop_all, nil_from_length, take_at, length-append, length-map}
 use Rattle.std.proofs.lemmas.Grind.{flat_map-append}
 use Rattle.std.proofs.lemmas.List.Folds.{flat_map-map}
@@ -10,7 +10,7 @@ use Rattle.rkyv_btree_portable.specs.Bytes.{filled}
 use Rattle.rkyv_btree_writing_laws.specs.Image.{entry_bytes, leaf_bytes}
 use Rattle.rkyv_btree_portable.specs.InPlace.{OwnBytes}
 use Rattle.rkyv_btree_format.specs.Layout.{NodeLayout, keys_at, values_at, key_at, value_at, len_at, leaf_size}
-use Rattle.rkyv_btree_writing_laws.specs.Entries.{AreResolved, AreUnresolved, EntriesResolved, EntriesUnresolved, now_of}
+use Rattle.rkyv_btree_writing_laws.specs.Entries.{AreResolved, AreUnresolved, EntriesResolved, EntriesUnresolved}
 use Rattle.rkyv_btree_writer.specs.declared.fault.ResolveFault.{ResolveFault}
 
 -- a part that was written after the old bytes
@@ -79,29 +79,29 @@ paired_values [] (v ∷ vs) h = absurd (cc h)
 paired_values (k ∷ ks) [] h = absurd (cc h)
 paired_values (k ∷ ks) (v ∷ vs) h = ap (λ z. v ∷ z) (paired_values ks vs (cc h))
 
-pub keys_now : {M N : Type 0} (xs : List (Bor M × Bor N)) → map (λ x. x.0) (map now_of xs) ≡ map (λ x. x.0.now) xs
-keys_now [] = refl
-keys_now (x ∷ xs) = ap (λ z. x.0.now ∷ z) (keys_now xs)
+pub keys_borrowed : {I M N : Type 0} (borrowed : I → M × N) (xs : List I) → map (λ x. x.0) (map borrowed xs) ≡ map (λ x. (borrowed x).0) xs
+keys_borrowed borrowed [] = refl
+keys_borrowed borrowed (x ∷ xs) = ap (λ z. (borrowed x).0 ∷ z) (keys_borrowed borrowed xs)
 
-pub values_now : {M N : Type 0} (xs : List (Bor M × Bor N)) → map (λ x. x.1) (map now_of xs) ≡ map (λ x. x.1.now) xs
-values_now [] = refl
-values_now (x ∷ xs) = ap (λ z. x.1.now ∷ z) (values_now xs)
+pub values_borrowed : {I M N : Type 0} (borrowed : I → M × N) (xs : List I) → map (λ x. x.1) (map borrowed xs) ≡ map (λ x. (borrowed x).1) xs
+values_borrowed borrowed [] = refl
+values_borrowed borrowed (x ∷ xs) = ap (λ z. (borrowed x).1 ∷ z) (values_borrowed borrowed xs)
 
-module _ {M N R S : Type 0} (s : NodeLayout) (K : Archival M R) (V : Archival N S) where
+module _ {I M N R S : Type 0} (s : NodeLayout) (K : Archival M R) (V : Archival N S) (borrowed : I → M × N) where
   -- both columns of a node's entries
-  pub both_resolved : (pos k v : ℕ) (xs : List (Bor M × Bor N)) (keys : List R) (values : List S) (kowns vowns : List (List ℕ)) → k ≡ pos + key_at s 0 → v ≡ pos + value_at s 0 → AreResolved K k (map (λ x. x.0.now) xs) keys kowns → AreResolved V v (map (λ x. x.1.now) xs) values vowns → EntriesResolved s K V pos (map now_of xs) keys values (paired kowns vowns)
+  pub both_resolved : (pos k v : ℕ) (xs : List I) (keys : List R) (values : List S) (kowns vowns : List (List ℕ)) → k ≡ pos + key_at s 0 → v ≡ pos + value_at s 0 → AreResolved K k (map (λ x. (borrowed x).0) xs) keys kowns → AreResolved V v (map (λ x. (borrowed x).1) xs) values vowns → EntriesResolved s K V pos (map borrowed xs) keys values (paired kowns vowns)
   both_resolved pos k v xs keys values kowns vowns ek ev hk hv =
-      let same : length kowns ≡ length vowns = resolved_length K k (map (λ x. x.0.now) xs) keys kowns hk ∙ (length-map xs (λ x. x.0.now) ∙ sym (resolved_length V v (map (λ x. x.1.now) xs) values vowns hv ∙ length-map xs (λ x. x.1.now))) in
+      let same : length kowns ≡ length vowns = resolved_length K k (map (λ x. (borrowed x).0) xs) keys kowns hk ∙ (length-map xs (λ x. (borrowed x).0) ∙ sym (resolved_length V v (map (λ x. (borrowed x).1) xs) values vowns hv ∙ length-map xs (λ x. (borrowed x).1))) in
       record {
-        own_keys = subst (λ os. AreResolved K (pos + key_at s 0) (map (λ x. x.0) (map now_of xs)) keys os) (sym (paired_keys kowns vowns same)) (subst (λ ys. AreResolved K (pos + key_at s 0) ys keys kowns) (sym (keys_now xs)) (subst (λ n. AreResolved K n (map (λ x. x.0.now) xs) keys kowns) ek hk));
-        own_values = subst (λ os. AreResolved V (pos + value_at s 0) (map (λ x. x.1) (map now_of xs)) values os) (sym (paired_values kowns vowns same)) (subst (λ ys. AreResolved V (pos + value_at s 0) ys values vowns) (sym (values_now xs)) (subst (λ n. AreResolved V n (map (λ x. x.1.now) xs) values vowns) ev hv));
+        own_keys = subst (λ os. AreResolved K (pos + key_at s 0) (map (λ x. x.0) (map borrowed xs)) keys os) (sym (paired_keys kowns vowns same)) (subst (λ ys. AreResolved K (pos + key_at s 0) ys keys kowns) (sym (keys_borrowed borrowed xs)) (subst (λ n. AreResolved K n (map (λ x. (borrowed x).0) xs) keys kowns) ek hk));
+        own_values = subst (λ os. AreResolved V (pos + value_at s 0) (map (λ x. x.1) (map borrowed xs)) values os) (sym (paired_values kowns vowns same)) (subst (λ ys. AreResolved V (pos + value_at s 0) ys values vowns) (sym (values_borrowed borrowed xs)) (subst (λ n. AreResolved V n (map (λ x. (borrowed x).1) xs) values vowns) ev hv));
       }
 
-  pub key_unresolved : (pos k : ℕ) (xs : List (Bor M × Bor N)) (keys : List R) (values : List S) (fault : ResolveFault) → k ≡ pos + key_at s 0 → AreUnresolved K k (map (λ x. x.0.now) xs) keys fault → EntriesUnresolved s K V pos (map now_of xs) keys values fault
-  key_unresolved pos k xs keys values fault ek h = inl (subst (λ ys. AreUnresolved K (pos + key_at s 0) ys keys fault) (sym (keys_now xs)) (subst (λ n. AreUnresolved K n (map (λ x. x.0.now) xs) keys fault) ek h))
+  pub key_unresolved : (pos k : ℕ) (xs : List I) (keys : List R) (values : List S) (fault : ResolveFault) → k ≡ pos + key_at s 0 → AreUnresolved K k (map (λ x. (borrowed x).0) xs) keys fault → EntriesUnresolved s K V pos (map borrowed xs) keys values fault
+  key_unresolved pos k xs keys values fault ek h = inl (subst (λ ys. AreUnresolved K (pos + key_at s 0) ys keys fault) (sym (keys_borrowed borrowed xs)) (subst (λ n. AreUnresolved K n (map (λ x. (borrowed x).0) xs) keys fault) ek h))
 
-  pub value_unresolved : (pos v : ℕ) (xs : List (Bor M × Bor N)) (keys : List R) (values : List S) (fault : ResolveFault) → v ≡ pos + value_at s 0 → AreUnresolved V v (map (λ x. x.1.now) xs) values fault → EntriesUnresolved s K V pos (map now_of xs) keys values fault
-  value_unresolved pos v xs keys values fault ev h = inr (subst (λ ys. AreUnresolved V (pos + value_at s 0) ys values fault) (sym (values_now xs)) (subst (λ n. AreUnresolved V n (map (λ x. x.1.now) xs) values fault) ev h))
+  pub value_unresolved : (pos v : ℕ) (xs : List I) (keys : List R) (values : List S) (fault : ResolveFault) → v ≡ pos + value_at s 0 → AreUnresolved V v (map (λ x. (borrowed x).1) xs) values fault → EntriesUnresolved s K V pos (map borrowed xs) keys values fault
+  value_unresolved pos v xs keys values fault ev h = inr (subst (λ ys. AreUnresolved V (pos + value_at s 0) ys values fault) (sym (values_borrowed borrowed xs)) (subst (λ n. AreUnresolved V n (map (λ x. (borrowed x).1) xs) values fault) ev h))
 
 -- the bytes of a node's kind and entries, part by part
 pub filled_columns : (s : NodeLayout) (kind k v : ℕ) (kowns vowns : List (List ℕ)) (b0 b1 b2 b3 b4 b5 : List ℕ) → length kowns ≡ length vowns → k ≡ keys_at s → v ≡ values_at s → b0 ≡ [] → b1 ≡ b0 ++ kind ∷ [] → b2 ≡ filled b1 k → b3 ≡ b2 ++ flat_map (λ b. b) kowns → b4 ≡ filled b3 v → b5 ≡ b4 ++ flat_map (λ b. b) vowns → b5 ≡ entry_bytes s kind (paired kowns vowns)

@@ -1,6 +1,6 @@
 -- What was written of entries is a smallest map of them: every accepted map's tree has the shape, of which the planned tree is
 -- the smallest.
-use Rattle.std.proofs.Common.{◌≡◌, ℕ, ◌+◌, ◌-◌, ◌<◌, ◌≤◌, ◌∙◌, IsTrue, List, [], ◌∷◌, ◌++◌, length, map, Bor, Option, None, refl, sym, ap, subst, arith, inl, inr}
+use Rattle.std.proofs.Common.{◌≡◌, ℕ, ◌+◌, ◌-◌, ◌<◌, ◌≤◌, ◌∙◌, IsTrue, List, [], ◌∷◌, ◌++◌, length, map, Option, None, refl, sym, ap, subst, arith, inl, inr}
 use Rattle.std.proofs.lemmas.List.{append_cancel_left, length-map}
 use Rattle.std.specs.Int.{div_ceil}
 use Rattle.std.specs.Iterator.{Drains}
@@ -29,13 +29,13 @@ use Rattle.rkyv_btree_writer.specs.Archiving.{Archival, IsArchived}
 use Rattle.rkyv_btree_writer.specs.declared.fault.Fault.{Fault}
 use Rattle.rkyv_btree_writer.specs.Writing.{Writing, position, last_end}
 use Rattle.rkyv_btree_writing_laws.specs.Archives.{HoldsArchive}
-use Rattle.rkyv_btree_writing_laws.specs.Entries.{now_of}
 use Rattle.rkyv_btree_writing_laws.specs.Serialising.{Built, BuildsTree, Spelled}
 use Rattle.rkyv_btree_writing_laws.specs.Sets.{unit_archival, unit_entries, with_units, BuildsSet}
 use Rattle.rkyv_btree_writing_laws.specs.SmallestMaps.{AcceptedMap, of_tree, IsSmallestMap, map_at, entry_value, IsSmallestArchive, BuildsSmallest, BuildsSmallestSet, ArchivesItems, ArchivesKeys}
 use Rattle.rkyv_btree_writing_laws.proofs.Accepting.{root_held, accepted_empty, spelled_inside}
 use Rattle.rkyv_btree_writing_laws.proofs.Building.{spelled_of}
 use Rattle.rkyv_btree_writing_laws.proofs.TreeSerialised.{keys_shown}
+use Rattle.rkyv_btree_writing_laws.specs.Entries.{now_of_key}
 
 module _ (K V : Kind) (E : ℕ) where
   -- the tree of an accepted map with entries is one of the shape
@@ -149,40 +149,40 @@ module _ (K V : Kind) (E : ℕ) where
           smallest_spelled from to m root spelled (omega (arith, count)) (omega (arith, count)) b at (subst (λ n. HoldsArchive b from to root at n) (sym count) h)
 
       -- of no items nothing is written
-      pub builds_none : {P Q : Type 0} (steps : P → Option (Bor M × Bor N) → P → Type 0) (iter : P) (claim : ℕ) (state : Q → Writing) (before : Q) (items : List (Bor M × Bor N)) → Drains steps iter items → claim ≡ 0 → length items ≡ 0 → BuildsTree K V E KA VA steps iter claim state before before 0
-      builds_none steps iter claim state before [] all none count = record {
+      pub builds_none : {I P Q : Type 0} (borrowed : I → M × N) (steps : P → Option I → P → Type 0) (iter : P) (claim : ℕ) (state : Q → Writing) (before : Q) (items : List I) → Drains steps iter items → claim ≡ 0 → length items ≡ 0 → BuildsTree K V E KA VA borrowed steps iter claim state before before 0
+      builds_none borrowed steps iter claim state before [] all none count = record {
         items = [];
         all = all;
         count = sym none;
         built = record { place = None; written = (refl, refl); root_is = refl; ends = λ some. absurd (omega arith) };
         spelled = λ some. absurd (omega (arith, none));
       }
-      builds_none steps iter claim state before (x ∷ items) all none count = absurd (omega (arith, count))
+      builds_none borrowed steps iter claim state before (x ∷ items) all none count = absurd (omega (arith, count))
 
       -- and so of the items of an iterator
-      pub builds_smallest : {P Q : Type 0} (steps : P → Option (Bor M × Bor N) → P → Type 0) (iter : P) (claim : ℕ) (state : Q → Writing) (before after : Q) (root : ℕ) → claim ≤ last_end → BuildsTree K V E KA VA steps iter claim state before after root → BuildsSmallest K V E KA VA steps iter claim state before after root
-      builds_smallest steps iter claim state before after root few built =
-          (built, smallest_built (state before) (map now_of built.items) root (state after) (omega (arith, built.count, length-map built.items now_of)) built.built)
+      pub builds_smallest : {I P Q : Type 0} (borrowed : I → M × N) (steps : P → Option I → P → Type 0) (iter : P) (claim : ℕ) (state : Q → Writing) (before after : Q) (root : ℕ) → claim ≤ last_end → BuildsTree K V E KA VA borrowed steps iter claim state before after root → BuildsSmallest K V E KA VA borrowed steps iter claim state before after root
+      builds_smallest borrowed steps iter claim state before after root few built =
+          (built, smallest_built (state before) (map borrowed built.items) root (state after) (omega (arith, built.count, length-map built.items borrowed)) built.built)
 
 -- and of a set's keys
-pub builds_smallest_set : {M R P Q : Type 0} (K : Kind) (E : ℕ) → IsLawful K → IsTrue (are_fitting K unit_kind E) → (KA : Archival M R) → IsArchived KA → (steps : P → Option (Bor M) → P → Type 0) (iter : P) (claim : ℕ) (state : Q → Writing) (before after : Q) (root : ℕ) → claim ≤ last_end →
-    BuildsSet K E KA steps iter claim state before after root → BuildsSmallestSet K E KA steps iter claim state before after root
-builds_smallest_set {M = M} K E k fits KA ka steps iter claim state before after root few built =
-    (built, smallest_built K unit_kind E k unit_laws fits KA unit_archival ka (native_archived unit_form unit_faithful) (state before) (unit_entries built.keys) root (state after) (omega (arith, built.count, length-map {B = M × Unit {0}} built.keys (λ k. (k.now, tt)))) built.built)
+pub builds_smallest_set : {I M R P Q : Type 0} (K : Kind) (E : ℕ) → IsLawful K → IsTrue (are_fitting K unit_kind E) → (KA : Archival M R) → IsArchived KA → (borrowed : I → M) (steps : P → Option I → P → Type 0) (iter : P) (claim : ℕ) (state : Q → Writing) (before after : Q) (root : ℕ) → claim ≤ last_end →
+    BuildsSet K E KA borrowed steps iter claim state before after root → BuildsSmallestSet K E KA borrowed steps iter claim state before after root
+builds_smallest_set {M = M} K E k fits KA ka borrowed steps iter claim state before after root few built =
+    (built, smallest_built K unit_kind E k unit_laws fits KA unit_archival ka (native_archived unit_form unit_faithful) (state before) (unit_entries borrowed built.keys) root (state after) (omega (arith, built.count, length-map {B = M × Unit {0}} built.keys (λ k. (borrowed k, tt)))) built.built)
 
 -- a smallest archive is an archive
-pub items_archived : {M N R S P Q : Type 0} (K V : Kind) (E : ℕ) (KA : Archival M R) (VA : Archival N S) (steps : P → Option (Bor M × Bor N) → P → Type 0) (iter : P) (claim : ℕ) (state : Q → Writing) (before after : Q) (root : ℕ)
-    → BuildsSmallest K V E KA VA steps iter claim state before after root → ArchivesItems K V E KA VA steps iter claim state before after root
-items_archived K V E KA VA steps iter claim state before after root (built, smallest) = record {
+pub items_archived : {I M N R S P Q : Type 0} (K V : Kind) (E : ℕ) (KA : Archival M R) (VA : Archival N S) (borrowed : I → M × N) (steps : P → Option I → P → Type 0) (iter : P) (claim : ℕ) (state : Q → Writing) (before after : Q) (root : ℕ)
+    → BuildsSmallest K V E KA VA borrowed steps iter claim state before after root → ArchivesItems K V E KA VA borrowed steps iter claim state before after root
+items_archived K V E KA VA borrowed steps iter claim state before after root (built, smallest) = record {
   items = built.items;
   all = built.all;
   count = built.count;
   archive = λ key value b at holds. let a = smallest key value b at holds in (a.0, a.1);
 }
 
-pub keys_archived : {M R P Q : Type 0} (K : Kind) (E : ℕ) (KA : Archival M R) (steps : P → Option (Bor M) → P → Type 0) (iter : P) (claim : ℕ) (state : Q → Writing) (before after : Q) (root : ℕ)
-    → BuildsSmallestSet K E KA steps iter claim state before after root → ArchivesKeys K E KA steps iter claim state before after root
-keys_archived K E KA steps iter claim state before after root (built, smallest) = record {
+pub keys_archived : {I M R P Q : Type 0} (K : Kind) (E : ℕ) (KA : Archival M R) (borrowed : I → M) (steps : P → Option I → P → Type 0) (iter : P) (claim : ℕ) (state : Q → Writing) (before after : Q) (root : ℕ)
+    → BuildsSmallestSet K E KA borrowed steps iter claim state before after root → ArchivesKeys K E KA borrowed steps iter claim state before after root
+keys_archived K E KA borrowed steps iter claim state before after root (built, smallest) = record {
   keys = built.keys;
   all = built.all;
   count = built.count;
@@ -190,15 +190,15 @@ keys_archived K E KA steps iter claim state before after root (built, smallest) 
 }
 
 -- an iterator over a list gives no other items, so its list has a smallest archive
-pub list_smallest : {M N R S P Q F : Type 0} (A B : Kind) (E : ℕ) (K : Archival M R) (V : Archival N S) (entries : List (M × N)) (steps : P → Option (Bor M × Bor N) → P → Type 0) (iter : P) (claim : ℕ) (state : Q → Writing) (before after : Q) → ((items : List (Bor M × Bor N)) → Drains steps iter items → map now_of items ≡ entries) →
-    (result : Result ℕ (Fault F)) → IfOk result (BuildsSmallest A B E K V steps iter claim state before after) → IfOk result (λ root. IsSmallestArchive A B E K V (state before) entries root (state after))
-list_smallest A B E K V entries steps iter claim state before after drains (Err fault) h = tt
-list_smallest {M = M} {N = N} A B E K V entries steps iter claim state before after drains (Ok root) h =
+pub list_smallest : {I M N R S P Q F : Type 0} (A B : Kind) (E : ℕ) (K : Archival M R) (V : Archival N S) (entries : List (M × N)) (borrowed : I → M × N) (steps : P → Option I → P → Type 0) (iter : P) (claim : ℕ) (state : Q → Writing) (before after : Q) → ((items : List I) → Drains steps iter items → map borrowed items ≡ entries) →
+    (result : Result ℕ (Fault F)) → IfOk result (BuildsSmallest A B E K V borrowed steps iter claim state before after) → IfOk result (λ root. IsSmallestArchive A B E K V (state before) entries root (state after))
+list_smallest A B E K V entries borrowed steps iter claim state before after drains (Err fault) h = tt
+list_smallest {M = M} {N = N} A B E K V entries borrowed steps iter claim state before after drains (Ok root) h =
     subst (λ (xs : List (M × N)). IsSmallestArchive A B E K V (state before) xs root (state after)) (drains h.0.items h.0.all) h.1
 
 -- and so have a set's keys
 pub keys_smallest : {M R Q F : Type 0} (A : Kind) (E : ℕ) (K : Archival M R) (keys : List M) (claim : ℕ) (state : Q → Writing) (before after : Q) →
-    (result : Result ℕ (Fault F)) → IfOk result (BuildsSmallestSet A E K (TakesFirst deref) keys claim state before after) → IfOk result (λ root. IsSmallestArchive A unit_kind E K unit_archival (state before) (with_units keys) root (state after))
+    (result : Result ℕ (Fault F)) → IfOk result (BuildsSmallestSet A E K now_of_key (TakesFirst deref) keys claim state before after) → IfOk result (λ root. IsSmallestArchive A unit_kind E K unit_archival (state before) (with_units keys) root (state after))
 keys_smallest A E K keys claim state before after (Err fault) h = tt
 keys_smallest {M = M} A E K keys claim state before after (Ok root) h =
     subst (λ (xs : List (M × Unit {0})). IsSmallestArchive A unit_kind E K unit_archival (state before) xs root (state after)) (keys_shown keys h.0.keys h.0.all) h.1

@@ -17,11 +17,11 @@ use Rattle.rkyv_btree_writing_laws.proofs.TreeShort.{alone_list}
 use Rattle.rkyv_btree_writing_laws.proofs.TreesImaged.{child_imaged}
 use Rattle.rkyv_btree_writing_laws.proofs.TreesStopped.{child_stops, child_refuses}
 use Rattle.rkyv_btree_writing_laws.proofs.Untold.{uncounted, unordered}
-use Rattle.rkyv_btree_writing_laws.specs.Entries.{now_of}
+use Rattle.rkyv_btree_writing_laws.specs.Entries.{now_of, now_of_key}
 use Rattle.rkyv_btree_writing_laws.specs.Imaged.{EntryIn, ChildImage}
 use Rattle.rkyv_btree_writing_laws.specs.Miscounts.{IsMiscount}
 use Rattle.rkyv_btree_writing_laws.specs.Serialising.{Built, Serialised, StoppedBuilding, BuildFault}
-use Rattle.rkyv_btree_writing_laws.specs.Sets.{BuildsSet, entries_by, unit_archival, unit_entries, with_units}
+use Rattle.rkyv_btree_writing_laws.specs.Sets.{BuildsSet, entries_by, entry_borrowed, unit_archival, unit_entries, with_units}
 use Rattle.rkyv_btree_writing_laws.specs.TreeArchival.{nodes, tree_archival, entry_lengths}
 use Rattle.rkyv_btree_writing_laws.specs.Written.{ChildStopped}
 use Rattle.rkyv_btree_portable.specs.Kind.{Kind, IsLawful}
@@ -49,23 +49,23 @@ pub entries_drained : {M N : Type 0} (xs : List (M × N)) (items : List (Bor M �
 entries_drained xs items h = sym (append-nil (map now_of items)) ∙ (ap (λ rest. map now_of items ++ rest) (sym h.1.2.0) ∙ sym (given xs items h.1.0 h.1.1))
 
 -- and so of an iterator over keys, each with a ()
-keys_given : {M : Type 0} (xs : List M) (items : List (Bor M × Bor (Unit {0}))) (rest : List M) → Yields (entries_by (TakesFirst deref)) xs items rest → with_units xs ≡ map now_of items ++ with_units rest
+keys_given : {M : Type 0} (xs : List M) (items : List (Bor M × Unit {0})) (rest : List M) → Yields (entries_by (TakesFirst deref)) xs items rest → with_units xs ≡ map (entry_borrowed now_of_key) items ++ with_units rest
 keys_given xs [] rest h = ap with_units h
-keys_given xs (x ∷ items) rest h = ap with_units h.1 ∙ ap (λ (zs : List _). now_of x ∷ zs) (keys_given h.0 items rest h.2)
+keys_given xs (x ∷ items) rest h = ap with_units h.1 ∙ ap (λ (zs : List _). entry_borrowed now_of_key x ∷ zs) (keys_given h.0 items rest h.2)
 
-pub keys_begun : {M : Type 0} (xs : List M) (items : List (Bor M × Bor (Unit {0}))) (rest : List M) → Yields (entries_by (TakesFirst deref)) xs items rest → (later : List (M × Unit {0})) × (with_units xs ≡ map now_of items ++ later)
+pub keys_begun : {M : Type 0} (xs : List M) (items : List (Bor M × Unit {0})) (rest : List M) → Yields (entries_by (TakesFirst deref)) xs items rest → (later : List (M × Unit {0})) × (with_units xs ≡ map (entry_borrowed now_of_key) items ++ later)
 keys_begun xs items rest h = (with_units rest, keys_given xs items rest h)
 
-pub keys_drained : {M : Type 0} (xs : List M) (items : List (Bor M × Bor (Unit {0}))) → Drains (entries_by (TakesFirst deref)) xs items → map now_of items ≡ with_units xs
-keys_drained xs items h = sym (append-nil (map now_of items)) ∙ (ap (λ rest. map now_of items ++ with_units rest) (sym h.1.2.0) ∙ sym (keys_given xs items h.1.0 h.1.1))
+pub keys_drained : {M : Type 0} (xs : List M) (items : List (Bor M × Unit {0})) → Drains (entries_by (TakesFirst deref)) xs items → map (entry_borrowed now_of_key) items ≡ with_units xs
+keys_drained xs items h = sym (append-nil (map (entry_borrowed now_of_key) items)) ∙ (ap (λ rest. map (entry_borrowed now_of_key) items ++ with_units rest) (sym h.1.2.0) ∙ sym (keys_given xs items h.1.0 h.1.1))
 
 -- and of one over keys alone
-keys_seen : {M : Type 0} (xs : List M) (keys : List (Bor M)) (rest : List M) → Yields (TakesFirst deref) xs keys rest → with_units xs ≡ unit_entries keys ++ with_units rest
+keys_seen : {M : Type 0} (xs : List M) (keys : List (Bor M)) (rest : List M) → Yields (TakesFirst deref) xs keys rest → with_units xs ≡ unit_entries now_of_key keys ++ with_units rest
 keys_seen xs [] rest h = ap with_units h
 keys_seen xs (x ∷ keys) rest h = ap with_units h.1 ∙ ap (λ (zs : List _). (x.now, tt) ∷ zs) (keys_seen h.0 keys rest h.2)
 
-pub keys_shown : {M : Type 0} (xs : List M) (keys : List (Bor M)) → Drains (TakesFirst deref) xs keys → unit_entries keys ≡ with_units xs
-keys_shown xs keys h = sym (append-nil (unit_entries keys)) ∙ (ap (λ rest. unit_entries keys ++ with_units rest) (sym h.1.2.0) ∙ sym (keys_seen xs keys h.1.0 h.1.1))
+pub keys_shown : {M : Type 0} (xs : List M) (keys : List (Bor M)) → Drains (TakesFirst deref) xs keys → unit_entries now_of_key keys ≡ with_units xs
+keys_shown xs keys h = sym (append-nil (unit_entries now_of_key keys)) ∙ (ap (λ rest. unit_entries now_of_key keys ++ with_units rest) (sym h.1.2.0) ∙ sym (keys_seen xs keys h.1.0 h.1.1))
 
 pub units_count : {M : Type 0} (xs : List M) → length (with_units xs) ≡ length xs
 units_count [] = refl
@@ -118,17 +118,17 @@ module _ {M N R S : Type 0} (E : ℕ) (K : Archival M R) (V : Archival N S) (k :
     tree_stopped some (OutOfOrder index) h = absurd (unordered F (nodes E K V) K V s (planned_alone E (entries x)) t index h)
 
     -- building that fails for an iterator that gives the entries and no others, and a claim of as many
-    module _ {P : Type 0} (A B : Kind) (same : layout_of A B E ≡ nodes E K V) (steps : P → Option (Bor M × Bor N) → P → Type 0) (iter : P) (claim : ℕ) (count : claim ≡ length (entries x)) (drains : (items : List (Bor M × Bor N)) → Drains steps iter items → map now_of items ≡ entries x)
-        (begins : (items : List (Bor M × Bor N)) (rest : P) → Yields steps iter items rest → (later : List (M × N)) × (entries x ≡ map now_of items ++ later)) where
+    module _ {I P : Type 0} (A B : Kind) (same : layout_of A B E ≡ nodes E K V) (borrowed : I → M × N) (steps : P → Option I → P → Type 0) (iter : P) (claim : ℕ) (count : claim ≡ length (entries x)) (drains : (items : List I) → Drains steps iter items → map borrowed items ≡ entries x)
+        (begins : (items : List I) (rest : P) → Yields steps iter items rest → (later : List (M × N)) × (entries x ≡ map borrowed items ++ later)) where
       abbrev Stops : Fault F → Type 0
-      Stops fault = StoppedBuilding A B E K V steps {X = F} iter claim s fault t
+      Stops fault = StoppedBuilding A B E K V borrowed steps {X = F} iter claim s fault t
 
       stopped : (fault : Fault F) → Stops fault → ChildStopped (nodes E K V) K V s (planned_alone E (entries x)) fault t
       stopped fault h = let later = begins h.items h.rest h.taken in
           subst (λ (l : NodeLayout). ChildStopped l K V {E = F} s (planned_alone E (entries x)) fault t) same (h.stopped (entries x) (record { later = later.0; parts = later.1; count = sym count }))
 
-      pub tree_unserialised : (fault : Fault F) → (claim ≡ 0 → IsMiscount fault) → BuildFault A B E K V steps iter claim s fault t → IsUnserialised (tree_archival E K V entries) x s fault t
-      tree_unserialised (Length m) none h = absurd (h.differs (sym (length-map h.items now_of) ∙ (ap length (drains h.items h.all) ∙ sym count)))
+      pub tree_unserialised : (fault : Fault F) → (claim ≡ 0 → IsMiscount fault) → BuildFault A B E K V borrowed steps iter claim s fault t → IsUnserialised (tree_archival E K V entries) x s fault t
+      tree_unserialised (Length m) none h = absurd (h.differs (sym (length-map h.items borrowed) ∙ (ap length (drains h.items h.all) ∙ sym count)))
       tree_unserialised LengthOverflow none (inl h) = (inl (omega (arith, count, h.0)), same_begins s t h.1)
       tree_unserialised LengthOverflow none (inr h) = tree_stopped (positive claim (length (entries x)) count none) LengthOverflow (stopped LengthOverflow h)
       tree_unserialised PositionOverflow none h = tree_stopped (positive claim (length (entries x)) count none) PositionOverflow (stopped PositionOverflow h)
@@ -150,19 +150,19 @@ module _ {M N R S : Type 0} (E : ℕ) (A B : Kind) (K : Archival M R) (V : Archi
         let here = subst (λ (l : NodeLayout). Built l K V s xs root t) (sym (same_layout K.kind V.kind A B E match match2)) built in
         tree_serialised E K V k v own_fits entries x s t root (subst (λ (ys : List (M × N)). Built (nodes E K V) K V s ys root t) same here)
 
-    module _ {F P : Type 0} (steps : P → Option (Bor M × Bor N) → P → Type 0) (iter : P) (claim : ℕ) (drains : (items : List (Bor M × Bor N)) → Drains steps iter items → map now_of items ≡ entries x) where
-      pub list_serialised : (result : Result ℕ (Fault F)) → IfOk result (λ root. Serialised A B E K V steps iter claim s root t) → IfOk result (λ root. Serialises (tree_archival E K V entries) x s t root)
+    module _ {F I P : Type 0} (borrowed : I → M × N) (steps : P → Option I → P → Type 0) (iter : P) (claim : ℕ) (drains : (items : List I) → Drains steps iter items → map borrowed items ≡ entries x) where
+      pub list_serialised : (result : Result ℕ (Fault F)) → IfOk result (λ root. Serialised A B E K V borrowed steps iter claim s root t) → IfOk result (λ root. Serialises (tree_archival E K V entries) x s t root)
       list_serialised (Err fault) h = tt
-      list_serialised (Ok root) h = own_built (map now_of h.items) root h.built (drains h.items h.all)
+      list_serialised (Ok root) h = own_built (map borrowed h.items) root h.built (drains h.items h.all)
 
-      pub list_unserialised : IsArchived K → IsArchived V → HasCauses K → HasCauses V → ((items : List (Bor M × Bor N)) (rest : P) → Yields steps iter items rest → (later : List (M × N)) × (entries x ≡ map now_of items ++ later)) → claim ≡ length (entries x) →
-          (result : Result ℕ (Fault F)) → (claim ≡ 0 → IfErr result IsMiscount) → IfErr result (λ fault. BuildFault A B E K V steps iter claim s fault t) → IfErr result (λ fault. IsUnserialised (tree_archival E K V entries) x s fault t)
+      pub list_unserialised : IsArchived K → IsArchived V → HasCauses K → HasCauses V → ((items : List I) (rest : P) → Yields steps iter items rest → (later : List (M × N)) × (entries x ≡ map borrowed items ++ later)) → claim ≡ length (entries x) →
+          (result : Result ℕ (Fault F)) → (claim ≡ 0 → IfErr result IsMiscount) → IfErr result (λ fault. BuildFault A B E K V borrowed steps iter claim s fault t) → IfErr result (λ fault. IsUnserialised (tree_archival E K V entries) x s fault t)
       list_unserialised key value kc vc begins count (Ok root) none h = tt
       list_unserialised key value kc vc begins count (Err fault) none h =
-          tree_unserialised E K V k v own_fits key value kc vc entries x s t A B (sym (same_layout K.kind V.kind A B E match match2)) steps iter claim count drains begins fault none h
+          tree_unserialised E K V k v own_fits key value kc vc entries x s t A B (sym (same_layout K.kind V.kind A B E match match2)) borrowed steps iter claim count drains begins fault none h
 
 -- and for a set's keys
 pub set_serialised : {M R F X Q : Type 0} (E : ℕ) (A : Kind) (K : Archival M R) → Matches K.kind A → IsLawful K.kind → IsTrue (are_fitting A unit_kind E) → (keys : X → List M) (x : X) (state : Q → Writing) (before after : Q) (claim : ℕ) (result : Result ℕ (Fault F)) →
-    IfOk result (λ root. BuildsSet A E K (TakesFirst deref) (keys x) claim state before after root) → IfOk result (λ root. Serialises (tree_archival E K unit_archival (λ z. with_units (keys z))) x (state before) (state after) root)
+    IfOk result (λ root. BuildsSet A E K now_of_key (TakesFirst deref) (keys x) claim state before after root) → IfOk result (λ root. Serialises (tree_archival E K unit_archival (λ z. with_units (keys z))) x (state before) (state after) root)
 set_serialised E A K match k fits keys x state before after claim (Err fault) h = tt
-set_serialised E A K match k fits keys x state before after claim (Ok root) h = own_built E A unit_kind K unit_archival match (itself unit_kind) k unit_laws fits (λ z. with_units (keys z)) x (state before) (state after) (unit_entries h.keys) root h.built (keys_shown (keys x) h.keys h.all)
+set_serialised E A K match k fits keys x state before after claim (Ok root) h = own_built E A unit_kind K unit_archival match (itself unit_kind) k unit_laws fits (λ z. with_units (keys z)) x (state before) (state after) (unit_entries now_of_key h.keys) root h.built (keys_shown (keys x) h.keys h.all)

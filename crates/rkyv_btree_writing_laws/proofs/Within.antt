@@ -1,5 +1,5 @@
 -- What is built of an iterator whose calls are those of another one in it is built of that one.
-use Rattle.std.proofs.Common.{ℕ, List, [], ◌∷◌, Bor, Option, inl, inr, ap}
+use Rattle.std.proofs.Common.{ℕ, List, [], ◌∷◌, Option, inl, inr, ap}
 use Rattle.std.specs.Iterator.{Yields, Drains}
 use Rattle.std.specs.declared.cmp.Ordering.{Ordering}
 use Rattle.rkyv_btree_portable.specs.Kind.{Kind}
@@ -18,18 +18,18 @@ module _ {S P A : Type 0} (outer : S → Option A → S → Type 0) (inner : P �
   pub drains_within : (s : S) (items : List A) → Drains outer s items → Drains inner (within s) items
   drains_within s items d = (within d.0, (within d.1.0, yields_within s items d.1.0 d.1.1, each _ _ _ d.1.2))
 
-module _ {M N R S P Q : Type 0} (K V : Kind) (E : ℕ) (KA : Archival M R) (VA : Archival N S) (outer : Q → Option (Bor M × Bor N) → Q → Type 0) (inner : P → Option (Bor M × Bor N) → P → Type 0) (within : Q → P)
-    (each : (s : Q) (item : Option (Bor M × Bor N)) (t : Q) → outer s item t → inner (within s) item (within t)) (iter : Q) (claim : ℕ) where
-  pub serialised_within : (from : Writing) (root : ℕ) (t : Writing) → Serialised K V E KA VA outer iter claim from root t → Serialised K V E KA VA inner (within iter) claim from root t
+module _ {I M N R S P Q : Type 0} (K V : Kind) (E : ℕ) (KA : Archival M R) (VA : Archival N S) (borrowed : I → M × N) (outer : Q → Option I → Q → Type 0) (inner : P → Option I → P → Type 0) (within : Q → P)
+    (each : (s : Q) (item : Option I) (t : Q) → outer s item t → inner (within s) item (within t)) (iter : Q) (claim : ℕ) where
+  pub serialised_within : (from : Writing) (root : ℕ) (t : Writing) → Serialised K V E KA VA borrowed outer iter claim from root t → Serialised K V E KA VA borrowed inner (within iter) claim from root t
   serialised_within from root t h = record { items = h.items; all = drains_within outer inner within each iter h.items h.all; count = h.count; built = h.built; spelled = h.spelled }
 
-  pub stopped_within : {X : Type 0} (from : Writing) (fault : Fault X) (t : Writing) → StoppedBuilding K V E KA VA outer iter claim from fault t → StoppedBuilding K V E KA VA inner (within iter) claim from fault t
+  pub stopped_within : {X : Type 0} (from : Writing) (fault : Fault X) (t : Writing) → StoppedBuilding K V E KA VA borrowed outer iter claim from fault t → StoppedBuilding K V E KA VA borrowed inner (within iter) claim from fault t
   stopped_within from fault t h = record { items = h.items; rest = within h.rest; taken = yields_within outer inner within each iter h.items h.rest h.taken; entries = h.entries; claimed = h.claimed; stopped = h.stopped }
 
-  pub miscounted_within : (expected actual : ℕ) (from t : Writing) → Miscounted K V E KA VA outer iter claim expected actual from t → Miscounted K V E KA VA inner (within iter) claim expected actual from t
+  pub miscounted_within : (expected actual : ℕ) (from t : Writing) → Miscounted K V E KA VA borrowed outer iter claim expected actual from t → Miscounted K V E KA VA borrowed inner (within iter) claim expected actual from t
   miscounted_within expected actual from t h = record { items = h.items; all = drains_within outer inner within each iter h.items h.all; differs = h.differs; claimed = h.claimed; counted = h.counted; none = h.none; few = h.few; many = h.many }
 
-  pub fault_within : {X : Type 0} (from : Writing) (fault : Fault X) (t : Writing) → BuildFault K V E KA VA outer iter claim from fault t → BuildFault K V E KA VA inner (within iter) claim from fault t
+  pub fault_within : {X : Type 0} (from : Writing) (fault : Fault X) (t : Writing) → BuildFault K V E KA VA borrowed outer iter claim from fault t → BuildFault K V E KA VA borrowed inner (within iter) claim from fault t
   fault_within from (Length m) t h = miscounted_within m.expected m.actual from t h
   fault_within {X} from LengthOverflow t h = elim h [ inl past ↦ inl past | inr stopped ↦ inr (stopped_within {X = X} from LengthOverflow t stopped) ]
   fault_within {X} from PositionOverflow t h = stopped_within {X = X} from PositionOverflow t h
@@ -41,11 +41,11 @@ module _ {M N R S P Q : Type 0} (K V : Kind) (E : ℕ) (KA : Archival M R) (VA :
 
   -- and where keys must increase
   module _ (order : M → M → Ordering) where
-    stopped_in_order_within : {X : Type 0} (from : Writing) (fault : Fault X) (t : Writing) → StoppedInOrder order K V E KA VA outer iter claim from fault t → StoppedInOrder order K V E KA VA inner (within iter) claim from fault t
+    stopped_in_order_within : {X : Type 0} (from : Writing) (fault : Fault X) (t : Writing) → StoppedInOrder order K V E KA VA borrowed outer iter claim from fault t → StoppedInOrder order K V E KA VA borrowed inner (within iter) claim from fault t
     unfolding stopped_within
     stopped_in_order_within from fault t h = (stopped_within from fault t h.0, h.1)
 
-    pub strict_within : {X : Type 0} (from : Writing) (fault : Fault X) (t : Writing) → StrictFault order K V E KA VA outer iter claim from fault t → StrictFault order K V E KA VA inner (within iter) claim from fault t
+    pub strict_within : {X : Type 0} (from : Writing) (fault : Fault X) (t : Writing) → StrictFault order K V E KA VA borrowed outer iter claim from fault t → StrictFault order K V E KA VA borrowed inner (within iter) claim from fault t
     unfolding miscounted_within
     strict_within from (Length m) t h = (miscounted_within m.expected m.actual from t h.0, h.1)
     strict_within {X} from LengthOverflow t h = elim h [ inl past ↦ inl past | inr stopped ↦ inr (stopped_in_order_within {X = X} from LengthOverflow t stopped) ]

@@ -44,6 +44,14 @@ as_fault resolving.OffsetOverflow = OffsetOverflow
 abbrev pub now_of : {M N : Type 0} → Bor M × Bor N → M × N
 now_of x = (x.0.now, x.1.now)
 
+-- what a reference to a key leads to
+abbrev pub now_of_key : {M : Type 0} → Bor M → M
+now_of_key k = k.now
+
+-- what a pair lends, by what its halves lend
+abbrev pub both_borrowed : {A B M N : Type 0} → (A → M) → (B → N) → A × B → M × N
+both_borrowed key value x = (key x.0, value x.1)
+
 module _ {M N R S : Type 0} (K : Archival M R) (V : Archival N S) where
   -- the writes of entries, each with its key's first
   abbrev pub AreSerialised : Writing → List (M × N) → List R → List S → Writing → Type 0

@@ -1,6 +1,5 @@
 -- The one left-complete tree of a list, and that building appends its image.
 use Rattle.std.specs.Prelude.{◌≡◌, ℕ, ◌<◌, List, map, Option}
-use Rattle.std.specs.Borrow.{Bor}
 use Rattle.rkyv_btree_portable.specs.Kind.{Kind}
 use Rattle.rkyv_btree_portable.specs.Scalars.{unit_kind}
 use Rattle.rkyv_btree_format.specs.Layout.{NodeLayout, layout_of}
@@ -8,7 +7,6 @@ use Rattle.rkyv_btree_shape.specs.Tree.{Tree, list}
 use Rattle.rkyv_btree_shape.specs.LeftComplete.{LeftComplete}
 use Rattle.rkyv_btree_writer.specs.Archiving.{Archival}
 use Rattle.rkyv_btree_writer.specs.Writing.{Writing, Write, position, Wrote}
-use Rattle.rkyv_btree_writing_laws.specs.Entries.{now_of}
 use Rattle.rkyv_btree_writing_laws.specs.Imaged.{TreeImage}
 use Rattle.rkyv_btree_writing_laws.specs.Serialising.{BuildsTree}
 use Rattle.rkyv_btree_writing_laws.specs.Sets.{unit_archival, unit_entries, BuildsSet}
@@ -28,18 +26,18 @@ pub record OneTreeWritten {M N R S : Type 0} (s : NodeLayout) (K : Archival M R)
   pub is_image : TreeImage s K V (position from) tree image root
   pub wrote : Wrote from image to
 
-module _ {M N R S P Q : Type 0} (K V : Kind) (E : ℕ) (KA : Archival M R) (VA : Archival N S)
-    (steps : P → Option (Bor M × Bor N) → P → Type 0) (iter : P) (claim : ℕ) (state : Q → Writing) (before after : Q) where
+module _ {I M N R S P Q : Type 0} (K V : Kind) (E : ℕ) (KA : Archival M R) (VA : Archival N S)
+    (borrowed : I → M × N) (steps : P → Option I → P → Type 0) (iter : P) (claim : ℕ) (state : Q → Writing) (before after : Q) where
   -- the tree of an iterator's items was built: the one left-complete tree
   abbrev pub BuildsOneTree : ℕ → Type 0
   BuildsOneTree root =
-      (built : BuildsTree K V E KA VA steps iter claim state before after root)
-      × (0 < claim → OneTreeWritten (layout_of K V E) KA VA (state before) (map now_of built.items) root (state after))
+      (built : BuildsTree K V E KA VA borrowed steps iter claim state before after root)
+      × (0 < claim → OneTreeWritten (layout_of K V E) KA VA (state before) (map borrowed built.items) root (state after))
 
-module _ {M R P Q : Type 0} (K : Kind) (E : ℕ) (KA : Archival M R) (steps : P → Option (Bor M) → P → Type 0)
+module _ {I M R P Q : Type 0} (K : Kind) (E : ℕ) (KA : Archival M R) (borrowed : I → M) (steps : P → Option I → P → Type 0)
     (iter : P) (claim : ℕ) (state : Q → Writing) (before after : Q) where
   -- and so of an iterator's items as the keys of a set
   abbrev pub BuildsOneTreeSet : ℕ → Type 0
   BuildsOneTreeSet root =
-      (built : BuildsSet K E KA steps iter claim state before after root)
-      × (0 < claim → OneTreeWritten (layout_of K unit_kind E) KA unit_archival (state before) (unit_entries built.keys) root (state after))
+      (built : BuildsSet K E KA borrowed steps iter claim state before after root)
+      × (0 < claim → OneTreeWritten (layout_of K unit_kind E) KA unit_archival (state before) (unit_entries borrowed built.keys) root (state after))

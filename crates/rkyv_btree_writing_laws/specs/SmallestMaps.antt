@@ -1,7 +1,6 @@
 -- Which maps are the smallest, among all that are accepted anywhere and have as many entries; and that what was written of
 -- entries is one of these.
 use Rattle.std.specs.Prelude.{◌≡◌, ℕ, ◌+◌, ◌-◌, ◌<◌, ◌≤◌, List, length, map, Option}
-use Rattle.std.specs.Borrow.{Bor}
 use Rattle.std.specs.Int.{div_ceil}
 use Rattle.std.specs.Iterator.{Drains}
 use Rattle.std.proofs.Common.{inl, inr}
@@ -15,7 +14,6 @@ use Rattle.rkyv_btree_format.specs.Spells.{Accepted, accepted_nodes}
 use Rattle.rkyv_btree_writer.specs.Archiving.{Archival, Matches}
 use Rattle.rkyv_btree_writer.specs.Writing.{Writing}
 use Rattle.rkyv_btree_writing_laws.specs.Archives.{HoldsArchive}
-use Rattle.rkyv_btree_writing_laws.specs.Entries.{now_of}
 use Rattle.rkyv_btree_writing_laws.specs.Serialising.{BuildsTree}
 use Rattle.rkyv_btree_writing_laws.specs.Sets.{unit_archival, unit_entries, BuildsSet}
 
@@ -84,32 +82,32 @@ module _ {M N R S : Type 0} (K V : Kind) (E : ℕ) (KA : Archival M R) (VA : Arc
       (key : Matches KA.kind K) (value : Matches VA.kind V) (b : List ℕ) (at : ℕ) → HoldsArchive b from to root at (length entries) →
       (left : ℕ) × (a : Accepted K V E b 0 at at left (map (entry_value key value) entries)) × IsSmallestMap (map_at a)
 
-module _ {M N R S P Q : Type 0} (K V : Kind) (E : ℕ) (KA : Archival M R) (VA : Archival N S)
-    (steps : P → Option (Bor M × Bor N) → P → Type 0) (iter : P) (claim : ℕ) (state : Q → Writing) (before after : Q) where
+module _ {I M N R S P Q : Type 0} (K V : Kind) (E : ℕ) (KA : Archival M R) (VA : Archival N S)
+    (borrowed : I → M × N) (steps : P → Option I → P → Type 0) (iter : P) (claim : ℕ) (state : Q → Writing) (before after : Q) where
   -- the iterator gave as many items as declared and then no more, and what was written is an archive of them
   pub record ArchivesItems (root : ℕ) : Type 0 where
-    pub items : List (Bor M × Bor N)
+    pub items : List I
     pub all : Drains steps iter items
     pub count : length items ≡ claim
-    pub archive : IsArchive K V E KA VA (state before) (map now_of items) root (state after)
+    pub archive : IsArchive K V E KA VA (state before) (map borrowed items) root (state after)
 
   -- the tree of an iterator's items was built, and their archive is a smallest one
   abbrev pub BuildsSmallest : ℕ → Type 0
   BuildsSmallest root =
-      (built : BuildsTree K V E KA VA steps iter claim state before after root)
-      × IsSmallestArchive K V E KA VA (state before) (map now_of built.items) root (state after)
+      (built : BuildsTree K V E KA VA borrowed steps iter claim state before after root)
+      × IsSmallestArchive K V E KA VA (state before) (map borrowed built.items) root (state after)
 
-module _ {M R P Q : Type 0} (K : Kind) (E : ℕ) (KA : Archival M R) (steps : P → Option (Bor M) → P → Type 0) (iter : P)
+module _ {I M R P Q : Type 0} (K : Kind) (E : ℕ) (KA : Archival M R) (borrowed : I → M) (steps : P → Option I → P → Type 0) (iter : P)
     (claim : ℕ) (state : Q → Writing) (before after : Q) where
   -- the iterator gave as many keys as declared and then no more, and what was written is an archive of them
   pub record ArchivesKeys (root : ℕ) : Type 0 where
-    pub keys : List (Bor M)
+    pub keys : List I
     pub all : Drains steps iter keys
     pub count : length keys ≡ claim
-    pub archive : IsArchive K unit_kind E KA unit_archival (state before) (unit_entries keys) root (state after)
+    pub archive : IsArchive K unit_kind E KA unit_archival (state before) (unit_entries borrowed keys) root (state after)
 
   -- and so of an iterator's items as the keys of a set
   abbrev pub BuildsSmallestSet : ℕ → Type 0
   BuildsSmallestSet root =
-      (built : BuildsSet K E KA steps iter claim state before after root)
-      × IsSmallestArchive K unit_kind E KA unit_archival (state before) (unit_entries built.keys) root (state after)
+      (built : BuildsSet K E KA borrowed steps iter claim state before after root)
+      × IsSmallestArchive K unit_kind E KA unit_archival (state before) (unit_entries borrowed built.keys) root (state after)

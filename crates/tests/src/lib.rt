@@ -24,6 +24,8 @@ mod heap;
 #[cfg(test)]
 mod in_place;
 #[cfg(test)]
+mod large;
+#[cfg(test)]
 mod lookups;
 #[cfg(test)]
 mod lookups_counted;
@@ -47,6 +49,8 @@ mod read;
 mod same;
 #[cfg(test)]
 mod seals;
+#[cfg(test)]
+mod seek_sources;
 #[cfg(test)]
 mod sets;
 #[cfg(test)]

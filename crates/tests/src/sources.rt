@@ -2,11 +2,13 @@
 ghost use Rattle.std.specs.Prelude.{◌≤◌, length};
 
 use crate::convert::archive;
+use crate::same::same;
 use rkyv_btree::source::{SourceFault, UnverifiedSource};
 use rkyv_btree_base::layout;
 use rkyv_btree_base::map::ArchivedBTreeMap;
 use rkyv_btree_base::numbers::ArchivedU32;
 use rkyv_btree_base::place::VecWriter;
+use rkyv_btree_base::refusal::Refusal;
 use rkyv_btree_base::text::ArchivedText;
 use rkyv_btree_base::util::{Entry, EntryAdapter};
 use std::process::Abort;
@@ -92,5 +94,29 @@ fn what_a_lookup_reads_is_enough(rt: HostRuntime) -> Result<(), Fail> {
     let mut enough = [0u8; 52];
     let (_, found) = looked_up(&rt, bytes, pos, read, &mut enough);
     assert_eq!(rt; found, Ok(Some(20)));
+    Ok(())
+}
+
+// The faults of a lookup in a source as a user reads them.
+#[test]
+fn faults_of_a_source_name_what_is_needed(rt: HostRuntime) -> Result<(), Fail> {
+    let faults = [
+        (
+            SourceFault::NoRoom { needed: 52 },
+            "the lookup needs a buffer of 52 bytes",
+        ),
+        (
+            SourceFault::OverBudget,
+            "the lookup would read more bytes than it may",
+        ),
+        (SourceFault::Read("no disk"), "no disk"),
+        (
+            SourceFault::Refused(Refusal::TooLong),
+            "buffer is longer than 4294967295 bytes",
+        ),
+    ];
+    for (fault, text) in faults {
+        same(&rt, format!(in rt.alloc(); "{fault}")?.as_str(), text);
+    }
     Ok(())
 }

@@ -202,3 +202,49 @@ fn no_position_passes_64_bits(rt: HostRuntime) {
     same(&rt, kind(writer.write(&[1])), None);
     same(&rt, writer.pos(), u64::MAX);
 }
+
+/// A writer that takes one byte a call, after an interruption, and counts its calls.
+#[derive(Drop)]
+struct OneByte {
+    taken: u64,
+    calls: u64,
+}
+
+impl io::Write for OneByte {
+    fn write(&mut self, bytes: &[u8]) -> io::Result<usize> {
+        self.calls = self.calls.wrapping_add(1);
+        if self.calls % 2 == 1 {
+            return Err(ErrorKind::Interrupted.into());
+        }
+        self.taken = self.taken.wrapping_add(1);
+        Ok(bytes.len().min(1))
+    }
+
+    fn flush(&mut self) -> io::Result<()> {
+        Ok(())
+    }
+}
+
+#[test]
+fn a_long_write_is_handed_over_byte_by_byte(rt: HostRuntime) {
+    let mut writer = IoWriter::new(OneByte { taken: 0, calls: 0 });
+    same(&rt, kind(writer.write(&[7; 10000])), None);
+    same(&rt, writer.pos(), 10000);
+    let inner = writer.into_inner();
+    same(&rt, (inner.taken, inner.calls), (10000, 20000));
+}
+
+#[test]
+fn positions_about_31_and_32_bits_are_written(rt: HostRuntime) {
+    for base in [
+        2147483646u64,
+        2147483648,
+        3221225472,
+        4294967294,
+        4294967296,
+    ] {
+        let mut writer = IoWriter::with_base(io::sink(), base);
+        same(&rt, kind(writer.write(&[1, 2, 3, 4])), None);
+        same(&rt, writer.pos(), base.wrapping_add(4));
+    }
+}

@@ -1,5 +1,5 @@
 -- Where the search of a node stops. This mirrors the code, which compares from the left.
-use Rattle.std.specs.Prelude.{◌≡◌, ℕ, ◌+◌, ◌<◌, ◌≤◌, min, List, length, Option, Some, slice_get}
+use Rattle.std.specs.Prelude.{◌≡◌, ℕ, ◌+◌, ◌<◌, ◌≤◌, min, List, length, Option, Some, slice_get, Bool, true, false}
 use Rattle.std.specs.Borrow.{Bor}
 use Rattle.std.specs.declared.cmp.Ordering.{Ordering}
 use Rattle.std.specs.declared.cmp.Ordering.TheVariants.{Less, Equal, Greater}
@@ -24,6 +24,15 @@ StopsAt comparison count (Before i) = (i ≤ count) × ((k : ℕ) → k < i → 
 abbrev pub StopsWithin : ℕ → Stop → Type 0
 StopsWithin count (At i) = i < count
 StopsWithin count (Before i) = i ≤ count
+
+-- where it stops whose keys are all compared: at number `next`, or before it
+abbrev pub stop_of : Bool → ℕ → Stop
+stop_of true next = At next
+stop_of false next = Before next
+
+-- the first `count` entries stop it so, or all give Greater, where it is past them
+abbrev pub StopsSoFar : (ℕ → Ordering) → ℕ → Bool → Bool → ℕ → Type 0
+StopsSoFar comparison count past equal next = StopsAt comparison count (stop_of equal next) × (past ≡ true → equal ≡ false)
 
 -- how many of them were asked by then
 abbrev pub comparisons_by : ℕ → Stop → ℕ

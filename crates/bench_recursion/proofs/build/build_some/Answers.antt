@@ -25,7 +25,7 @@ returns-in_default-clause-err g c = inl refl
 pub returns-then-not-take_items-clause-err : goal.returns-then-not-take_items-clause-err
 returns-then-not-take_items-clause-err g c =
     let short = c.if-not-take_items.true in
-    miscounted_within g.K.Portable.kind g.V.Portable.kind g.row.E g.KU.Archive.archival g.VU.Archive.archival _ g.I.Iterator.next_gives (λ s. s.items) (any_within g.I.Iterator.next_gives) _ c.args.len c.args.len c.len.result (g.W.Writer.state c.args.writer.now) (g.W.Writer.state c.args.writer.now)
+    miscounted_within g.K.Portable.kind g.V.Portable.kind g.row.E g.KU.Archive.archival g.VU.Archive.archival now_of _ g.I.Iterator.next_gives (λ s. s.items) (any_within g.I.Iterator.next_gives) _ c.args.len c.args.len c.len.result (g.W.Writer.state c.args.writer.now) (g.W.Writer.state c.args.writer.now)
     (short_of g.K.Portable.kind g.V.Portable.kind g.row.E g.KU.Archive.archival g.VU.Archive.archival _ _ c.args.len c.len.result (g.W.Writer.state c.args.writer.now) c.take_items.new.items.items c.take_items.new.source
     (c.take_items.ensures.few short) (omega arith) (c.take_items.ensures.short short))
 
@@ -33,7 +33,7 @@ pub returns-in_err-root-clause-err : goal.returns-in_err-root-clause-err
 returns-in_err-root-clause-err g c =
     let took = c.if-not-take_items.false in
     let p = err_from_is_err_and c.from_residual.result c.from_residual.ensures.1 in
-    rw (p.1, p.2) (fault_within g.K.Portable.kind g.V.Portable.kind g.row.E g.KU.Archive.archival g.VU.Archive.archival _ g.I.Iterator.next_gives (λ s. s.items) (any_within g.I.Iterator.next_gives) _ c.args.len _ c.in_err-root.field-0.0 _
+    rw (p.1, p.2) (fault_within g.K.Portable.kind g.V.Portable.kind g.row.E g.KU.Archive.archival g.VU.Archive.archival now_of _ g.I.Iterator.next_gives (λ s. s.items) (any_within g.I.Iterator.next_gives) _ c.args.len _ c.in_err-root.field-0.0 _
     (refused_of g.K.Portable.kind g.V.Portable.kind g.row.E g.KU.Archive.archival g.VU.Archive.archival _ _ c.args.len _ c.in_err-root.field-0.0 _ c.take_items.new.items.items c.take_items.new.source
     (c.take_items.ensures.all took)
     (c.take_items.ensures.len took)
@@ -43,8 +43,8 @@ pub returns-in-Err-clause-err : goal.returns-in-Err-clause-err
 returns-in-Err-clause-err g c =
     let took = c.if-not-take_items.false in
     let left = c.in-Err.ensures.actual in
-    rw (c.in-Err.ensures.expected, left.2) (miscounted_within g.K.Portable.kind g.V.Portable.kind g.row.E g.KU.Archive.archival g.VU.Archive.archival _ g.I.Iterator.next_gives (λ s. s.items) (any_within g.I.Iterator.next_gives) _ c.args.len _ _ _ _
-    (miscounted_of g.K.Portable.kind g.V.Portable.kind g.row.E g.KU.Archive.archival g.VU.Archive.archival _ _ c.args.len (length left.0) _ _ c.take_items.new.items.items c.take_items.new.source left.0 c.none_left.new.source c.in_ok-root.root
+    rw (c.in-Err.ensures.expected, left.2) (miscounted_within g.K.Portable.kind g.V.Portable.kind g.row.E g.KU.Archive.archival g.VU.Archive.archival now_of _ g.I.Iterator.next_gives (λ s. s.items) (any_within g.I.Iterator.next_gives) _ c.args.len _ _ _ _
+    (miscounted_of g.K.Portable.kind g.V.Portable.kind g.row.E g.KU.Archive.archival g.VU.Archive.archival now_of _ _ c.args.len (length left.0) _ _ c.take_items.new.items.items c.take_items.new.source left.0 c.none_left.new.source c.in_ok-root.root
     (c.take_items.ensures.all took)
     left.1 refl (omega (arith, left.2, c.in-Err.ensures.more))
     (c.take_items.ensures.len took)
@@ -69,13 +69,13 @@ returns-clause-ok g c =
       root_is = c.unwrap_or.ensures;
       ends = λ some. wrote.last (omega (arith, n, some));
     } in
-    serialised_within K V E g.KU.Archive.archival g.VU.Archive.archival steps g.I.Iterator.next_gives (λ s. s.items) (any_within g.I.Iterator.next_gives) _ c.args.len from c.unwrap_or.result to (record {
+    serialised_within K V E g.KU.Archive.archival g.VU.Archive.archival now_of steps g.I.Iterator.next_gives (λ s. s.items) (any_within g.I.Iterator.next_gives) _ c.args.len from c.unwrap_or.result to (record {
       items = items;
       all = drained steps _ items c.take_items.new.source [] 0 (c.take_items.ensures.all took) (c.none_left.new.source, c.in_default-none_left.ensures.ok) refl refl;
       count = count;
       built = built;
-      spelled = λ some key value. spelled_of K V E g.met.K.Portable.laws g.met.V.Portable.laws c.requires.fitting g.KU.Archive.archival g.VU.Archive.archival key value g.met.KU.Archive.archived g.met.VU.Archive.archived from (map now_of items) (map (meaning_of K V g.KU.Archive.archival g.VU.Archive.archival key value) items) c.unwrap_or.result to
-          (meaning_is K V E g.met.K.Portable.laws g.met.V.Portable.laws c.requires.fitting g.KU.Archive.archival g.VU.Archive.archival key value g.met.KU.Archive.archived g.met.VU.Archive.archived items)
+      spelled = λ some key value. spelled_of K V E g.met.K.Portable.laws g.met.V.Portable.laws c.requires.fitting g.KU.Archive.archival g.VU.Archive.archival key value g.met.KU.Archive.archived g.met.VU.Archive.archived from (map now_of items) (map (meaning_of K V g.KU.Archive.archival g.VU.Archive.archival now_of key value) items) c.unwrap_or.result to
+          (meaning_is K V E g.met.K.Portable.laws g.met.V.Portable.laws c.requires.fitting g.KU.Archive.archival g.VU.Archive.archival key value g.met.KU.Archive.archived g.met.VU.Archive.archived now_of items)
           (omega (arith, n, count, some)) (omega (arith, n, count, c.requires.small)) built;
     })
 

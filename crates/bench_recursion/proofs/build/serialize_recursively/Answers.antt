@@ -1,4 +1,5 @@
 -- What was built of a list is the smallest of its maps.
+use Rattle.rkyv_btree_writing_laws.specs.Entries.{now_of}
 use Rattle.std.proofs.Common.{ℕ, ◌<◌, ◌≤◌, [], Bor, inl, refl, arith}
 use Rattle.std.specs.Prelude.{⊤}
 use Rattle.std.proofs.lemmas.Result.{IfOk-weaker, on_ok_weaker}
@@ -26,18 +27,18 @@ pub returns-then-len-eq0-clause-ok : goal.returns-then-len-eq0-clause-ok
 returns-then-len-eq0-clause-ok g c =
     builds_none g.K.Portable.kind g.V.Portable.kind g.row.E g.met.K.Portable.laws g.met.V.Portable.laws c.requires.fitting
     g.KU.Archive.archival g.VU.Archive.archival g.met.KU.Archive.archived g.met.VU.Archive.archived
-    g.I.Iterator.next_gives c.args.iter c.args.len g.W.Writer.state c.args.writer.now [] (drains_within (Gives g.I.Iterator.next_gives (λ (s : AnyOrder) (key : Bor g.row.KU.Denot) (t : AnyOrder). ⊤) (λ (s : AnyOrder) (key : Bor g.row.KU.Denot) (t : AnyOrder). ⊥)) g.I.Iterator.next_gives (λ s. s.items) (any_within g.I.Iterator.next_gives) _ [] (c.none_left.new.source, c.in_default.ensures.ok)) (omega arith) refl
+    now_of g.I.Iterator.next_gives c.args.iter c.args.len g.W.Writer.state c.args.writer.now [] (drains_within (Gives g.I.Iterator.next_gives (λ (s : AnyOrder) (key : Bor g.row.KU.Denot) (t : AnyOrder). ⊤) (λ (s : AnyOrder) (key : Bor g.row.KU.Denot) (t : AnyOrder). ⊥)) g.I.Iterator.next_gives (λ s. s.items) (any_within g.I.Iterator.next_gives) _ [] (c.none_left.new.source, c.in_default.ensures.ok)) (omega arith) refl
 
 pub returns-then-len-eq0-clause-smallest : goal.returns-then-len-eq0-clause-smallest
 returns-then-len-eq0-clause-smallest g c =
-    builds_smallest g.K.Portable.kind g.V.Portable.kind g.row.E g.met.K.Portable.laws g.met.V.Portable.laws c.requires.fitting g.KU.Archive.archival g.VU.Archive.archival g.met.KU.Archive.archived g.met.VU.Archive.archived g.I.Iterator.next_gives c.args.iter c.args.len g.W.Writer.state c.args.writer.now c.args.writer.now 0
+    builds_smallest g.K.Portable.kind g.V.Portable.kind g.row.E g.met.K.Portable.laws g.met.V.Portable.laws c.requires.fitting g.KU.Archive.archival g.VU.Archive.archival g.met.KU.Archive.archived g.met.VU.Archive.archived now_of g.I.Iterator.next_gives c.args.iter c.args.len g.W.Writer.state c.args.writer.now c.args.writer.now 0
     (omega arith)
     (returns-then-len-eq0-clause-ok g c)
 
 pub returns-clause-smallest : goal.returns-clause-smallest
 returns-clause-smallest g c =
     IfOk-weaker c.build_some.result _ _ (λ root built.
-    builds_smallest g.K.Portable.kind g.V.Portable.kind g.row.E g.met.K.Portable.laws g.met.V.Portable.laws c.requires.fitting g.KU.Archive.archival g.VU.Archive.archival g.met.KU.Archive.archived g.met.VU.Archive.archived g.I.Iterator.next_gives c.args.iter c.args.len g.W.Writer.state c.args.writer.now c.build_some.new.writer root
+    builds_smallest g.K.Portable.kind g.V.Portable.kind g.row.E g.met.K.Portable.laws g.met.V.Portable.laws c.requires.fitting g.KU.Archive.archival g.VU.Archive.archival g.met.KU.Archive.archived g.met.VU.Archive.archived now_of g.I.Iterator.next_gives c.args.iter c.args.len g.W.Writer.state c.args.writer.now c.build_some.new.writer root
     (omega arith) built) c.build_some.ensures.ok
 
 pub returns-clause-ok : goal.returns-clause-ok
@@ -114,7 +115,7 @@ pub returns-then-len-eq0-clause-none_kept : goal.returns-then-len-eq0-clause-non
 returns-then-len-eq0-clause-none_kept g c = λ none. refl
 
 pub returns-then-len-eq0-clause-one_tree : goal.returns-then-len-eq0-clause-one_tree
-returns-then-len-eq0-clause-one_tree g c = builds_one_tree g.K.Portable.kind g.V.Portable.kind g.row.E g.KU.Archive.archival g.VU.Archive.archival g.I.Iterator.next_gives c.args.iter c.args.len g.W.Writer.state c.args.writer.now c.args.writer.now 0 (room_of g.K.Portable.kind g.V.Portable.kind g.row.E g.met.K.Portable.laws g.met.V.Portable.laws c.requires.fitting).some (returns-then-len-eq0-clause-ok g c)
+returns-then-len-eq0-clause-one_tree g c = builds_one_tree g.K.Portable.kind g.V.Portable.kind g.row.E g.KU.Archive.archival g.VU.Archive.archival now_of g.I.Iterator.next_gives c.args.iter c.args.len g.W.Writer.state c.args.writer.now c.args.writer.now 0 (room_of g.K.Portable.kind g.V.Portable.kind g.row.E g.met.K.Portable.laws g.met.V.Portable.laws c.requires.fitting).some (returns-then-len-eq0-clause-ok g c)
 
 pub returns-clause-one_tree : goal.returns-clause-one_tree
-returns-clause-one_tree g c = IfOk-weaker c.build_some.result _ _ (λ root built. builds_one_tree g.K.Portable.kind g.V.Portable.kind g.row.E g.KU.Archive.archival g.VU.Archive.archival g.I.Iterator.next_gives c.args.iter c.args.len g.W.Writer.state c.args.writer.now c.build_some.new.writer root (room_of g.K.Portable.kind g.V.Portable.kind g.row.E g.met.K.Portable.laws g.met.V.Portable.laws c.requires.fitting).some built) c.build_some.ensures.ok
+returns-clause-one_tree g c = IfOk-weaker c.build_some.result _ _ (λ root built. builds_one_tree g.K.Portable.kind g.V.Portable.kind g.row.E g.KU.Archive.archival g.VU.Archive.archival now_of g.I.Iterator.next_gives c.args.iter c.args.len g.W.Writer.state c.args.writer.now c.build_some.new.writer root (room_of g.K.Portable.kind g.V.Portable.kind g.row.E g.met.K.Portable.laws g.met.V.Portable.laws c.requires.fitting).some built) c.build_some.ensures.ok

@@ -4,7 +4,7 @@ use Rattle.std.specs.Ordering.{nat_cmp}
 use Rattle.rkyv_btree_base.specs.Scalars.{u32_kind}
 use Rattle.rkyv_btree_base.specs.laws.Scalars.{u32_laws}
 use Rattle.rkyv_btree_base.proofs.Readings.{map_is_read}
-use Rattle.rkyv_btree.specs.Search.{IsHit}
+use Rattle.rkyv_btree_walk.specs.Search.{IsHit}
 use Rattle.btreearc_commands.specs.Opening.{root_of, found_in_archive, entries_read, IsArchive}
 use Rattle.btreearc_commands.specs.Sessions.{KeysIncrease}
 use Rattle.btreearc_commands.proofs.Ends.{known, number_cuts, entry_hit, listed, counted, absent, got, ranged}

@@ -5,7 +5,7 @@ use Rattle.std.specs.Ordering.{nat_cmp}
 use Rattle.rkyv_btree_base.specs.Increasing.{IsOutOfOrder}
 use Rattle.rkyv_btree_base.specs.Refusal.{Refusal}
 use Rattle.rkyv_btree_base.specs.Refusal.TheVariants.{OutOfOrder}
-use Rattle.rkyv_btree.specs.Strict.{no_map, out_of_order}
+use Rattle.rkyv_btree_strict.specs.Strict.{no_map, out_of_order}
 use Rattle.btreearc_lines.specs.declared.fault.ProgramFault.{ProgramFault}
 use Rattle.btreearc_lines.specs.declared.fault.ProgramFault.TheVariants.{Usage, Line, Refused, NotBuilt, InputFailed, OutputFailed, Memory}
 use Rattle.btreearc_commands.specs.Opening.{IsArchive, IsOpenFault, IsStrictOpenFault, RefusesStrictArchive, entries_read}

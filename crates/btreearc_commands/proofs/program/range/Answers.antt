@@ -1,7 +1,7 @@
 -- What is written are the lines of the entries that the range gives.
 use Rattle.std.proofs.Common.{refl, ap, subst, ◌∙◌}
 use Rattle.std.specs.Ordering.{nat_cmp}
-use Rattle.rkyv_btree.specs.Range.{range_left}
+use Rattle.rkyv_btree_view.specs.Range.{range_left}
 use Rattle.btreearc_lines.specs.Grammar.{text_of}
 use Rattle.btreearc_commands.specs.Opening.{IsArchive, entries_read}
 use Rattle.btreearc_commands.proofs.Between.{between, output_between}

@@ -2,7 +2,7 @@
 use Rattle.std.proofs.Common.{◌∙◌, rules}
 use Rattle.std.proofs.lemmas.List.Elements.{filter_agree}
 use Rattle.rkyv_btree_base.specs.Text.{text_kind}
-use Rattle.rkyv_btree.specs.View.{entries_of}
+use Rattle.rkyv_btree_view.specs.View.{entries_of}
 use Rattle.btreekv_commands.specs.Prefixes.{prefix_cmp}
 use Rattle.btreekv_commands.proofs.PrefixOrder.{equal_begins, ordered}
 use Rattle.btreekv_commands.proofs.prefixes.with_prefix.Goals as goal

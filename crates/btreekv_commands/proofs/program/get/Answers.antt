@@ -3,7 +3,7 @@ use Rattle.std.proofs.Common.{◌≡◌, [], ◌∷◌, ◌++◌, string_bytes, 
 use Rattle.std.specs.Cmp.Lexicographic.{slice_cmp}
 use Rattle.std.specs.Ordering.{nat_cmp}
 use Rattle.rkyv_btree_base.specs.Text.{text_kind}
-use Rattle.rkyv_btree.specs.View.{entries_of}
+use Rattle.rkyv_btree_view.specs.View.{entries_of}
 use Rattle.btreekv_commands.proofs.Found.{found_none, found_some}
 use Rattle.btreekv_commands.proofs.program.get.Goals as goal
 

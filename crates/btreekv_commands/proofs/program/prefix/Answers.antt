@@ -1,8 +1,8 @@
 -- The entries with the prefix are the output.
 use Rattle.std.proofs.Common.{refl, ap, ◌∙◌}
 use Rattle.rkyv_btree_base.specs.Text.{text_kind}
-use Rattle.rkyv_btree.specs.Range.{range_left}
-use Rattle.rkyv_btree.specs.View.{entries_of}
+use Rattle.rkyv_btree_view.specs.Range.{range_left}
+use Rattle.rkyv_btree_view.specs.View.{entries_of}
 use Rattle.btreekv_commands.specs.Lines.{text_of}
 use Rattle.btreekv_commands.proofs.Listed.{from_nothing}
 use Rattle.btreekv_commands.proofs.program.prefix.Goals as goal

@@ -3,8 +3,8 @@ use Rattle.std.proofs.Common.{refl, ap, ◌∙◌}
 use Rattle.std.specs.Cmp.Lexicographic.{slice_cmp}
 use Rattle.std.specs.Ordering.{nat_cmp}
 use Rattle.rkyv_btree_base.specs.Text.{text_kind}
-use Rattle.rkyv_btree.specs.Range.{range_left}
-use Rattle.rkyv_btree.specs.View.{entries_of}
+use Rattle.rkyv_btree_view.specs.Range.{range_left}
+use Rattle.rkyv_btree_view.specs.View.{entries_of}
 use Rattle.btreekv_commands.specs.Lines.{text_of}
 use Rattle.btreekv_commands.proofs.Listed.{from_nothing}
 use Rattle.btreekv_commands.proofs.program.range.Goals as goal

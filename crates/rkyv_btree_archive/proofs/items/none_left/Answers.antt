@@ -5,8 +5,8 @@ use Rattle.std.specs.Iterator.{Yields, YieldsThen}
 use Rattle.rkyv_btree_archive.specs.mirror.Source.{Gives}
 use Rattle.rkyv_btree_archive.proofs.items.none_left.Goals as goal
 
-pub loop-more-preserved : goal.loop-more-preserved
-loop-more-preserved g c =
+pub loop-more-preserved-in-Some : goal.loop-more-preserved-in-Some
+loop-more-preserved-in-Some g c =
     let steps = (Gives g.I.Iterator.next_gives g.L.Look.passes g.L.Look.stops) in
     let before = c.loop-more.invariant in
     let taken = before.given.0 in

@@ -1,11 +1,11 @@
-use Rattle.std.proofs.Common.{◌≡◌, ◌+◌, ◌≤◌, List, length, Bor}
+use Rattle.std.proofs.Common.{◌≡◌, ◌+◌, ◌≤◌, List, length}
 use Rattle.std.specs.Iterator.{Yields, IsFinite, size}
 use Rattle.rkyv_btree_archive.specs.mirror.Source.{Gives}
 use Rattle.rkyv_btree_archive.proofs.items.none_left.Given as goal
 
 abbrev pub invariant-loop-more : goal.invariant-loop-more
 invariant-loop-more g l = record {
-  given : (taken : List (Bor g.row.M.Denot × Bor g.row.N.Denot)) × Yields (Gives g.I.Iterator.next_gives g.L.Look.passes g.L.Look.stops) l.fn.source taken l.source × (l.more ≡ length taken);
+  given : (taken : List (g.row.B.Denot × g.row.C.Denot)) × Yields (Gives g.I.Iterator.next_gives g.L.Look.passes g.L.Look.stops) l.fn.source taken l.source × (l.more ≡ length taken);
   can : g.I.Iterator.can_next l.source.items;
   ends : IsFinite (g.I.Iterator.remaining l.source.items);
   left : size (g.I.Iterator.remaining l.source.items) + l.more ≤ size (g.I.Iterator.remaining l.fn.source.items);

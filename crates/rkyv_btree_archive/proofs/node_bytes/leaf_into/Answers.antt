@@ -2,7 +2,7 @@ use Rattle.std.proofs.Common.{◌≡◌, ◌∙◌, length, map, sym, arith}
 use Rattle.std.proofs.lemmas.List.{length-map}
 use Rattle.std.proofs.lemmas.Result.{err_from_is_err_and}
 use Rattle.rkyv_btree_format.specs.Layout.{layout_of}
-use Rattle.rkyv_btree_writing_laws.specs.Entries.{now_of}
+use Rattle.rkyv_btree_writing_laws.specs.Entries.{both_borrowed}
 use Rattle.rkyv_btree_format.proofs.Sizes.{room_of}
 use Rattle.rkyv_btree_writing_laws.proofs.Resolving.{entries_length}
 use Rattle.rkyv_btree_archive.proofs.Pieces.{leaf_put}
@@ -19,7 +19,7 @@ returns-clause-ok g c =
     let made = c.in_ok-place_entries.ensures.ok in
     let room = room_of _ _ g.row.E g.met.K.Portable.laws g.met.V.Portable.laws c.requires.fitting in
     let size = c.requires.size in
-    let count : length made.0 ≡ length c.args.entries.now = entries_length nodes g.KU.Archive.archival g.VU.Archive.archival c.args.pos (map now_of c.args.entries.now) c.args.keys.now.items c.args.values.now.items made.0 made.1 ∙ length-map c.args.entries.now now_of in (
+    let count : length made.0 ≡ length c.args.entries.now = entries_length nodes g.KU.Archive.archival g.VU.Archive.archival c.args.pos (map (both_borrowed g.BKU.Borrow.borrowed g.BVU.Borrow.borrowed) c.args.entries.now) c.args.keys.now.items c.args.values.now.items made.0 made.1 ∙ length-map c.args.entries.now (both_borrowed g.BKU.Borrow.borrowed g.BVU.Borrow.borrowed) in (
       made.0,
       made.1,
       leaf_put nodes made.0 (length c.args.entries.now) c.len_at-start.result (length c.args.node.now) c.to_le_bytes.result c.place_entries.new.node c.place_bytes.new.node (sym count) (omega arith) size c.to_le_bytes.ensures made.3 (omega (arith, room.parts, size, c.len_at-start.ensures)) made.2 c.place_bytes.ensures,

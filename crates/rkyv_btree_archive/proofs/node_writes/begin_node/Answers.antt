@@ -4,7 +4,7 @@ use Rattle.rkyv_btree_writer.specs.Padding.{padding}
 use Rattle.rkyv_btree_format.proofs.Sizes.{room_of}
 use Rattle.rkyv_btree_format.specs.Layout.{layout_of}
 use Rattle.rkyv_btree_portable.specs.Rounding.{round_up}
-use Rattle.rkyv_btree_writing_laws.specs.Entries.{now_of}
+use Rattle.rkyv_btree_writing_laws.specs.Entries.{both_borrowed}
 use Rattle.rkyv_btree_writing_laws.specs.Written.{IsPadded, in_entries, in_padding, past_end}
 use Rattle.rkyv_btree_writer.specs.Writing.{Wrote, Stopped, position, last_end}
 use Rattle.rkyv_btree_archive.proofs.node_writes.begin_node.Goals as goal
@@ -22,7 +22,7 @@ returns-then-pos-gt-LAST_END-clause-err g c image =
     let to = g.W.Writer.state c.pad.new.writer in
     let keys = c.serialize_entries.new.keys.items in
     let values = c.serialize_entries.new.values.items in
-    let padded : IsPadded (layout_of g.K.Portable.kind g.V.Portable.kind g.row.E) g.KU.Archive.archival g.VU.Archive.archival (g.W.Writer.state c.args.writer.now) (map now_of c.args.entries.now) keys values to = record {
+    let padded : IsPadded (layout_of g.K.Portable.kind g.V.Portable.kind g.row.E) g.KU.Archive.archival g.VU.Archive.archival (g.W.Writer.state c.args.writer.now) (map (both_borrowed g.BKU.Borrow.borrowed g.BVU.Borrow.borrowed) c.args.entries.now) keys values to = record {
       mid = mid;
       serialised = c.in_ok-serialize_entries.ensures.ok;
       padded = subst (λ (n : ℕ). Wrote mid (padding n (position mid)) to) c.align.ensures.value c.in_ok-pos.ensures.ok;

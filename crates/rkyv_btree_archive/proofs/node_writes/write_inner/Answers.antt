@@ -4,7 +4,7 @@ use Rattle.rkyv_btree_writer.specs.Padding.{padding}
 use Rattle.rkyv_btree_writing_laws.specs.Image.{inner_bytes, inner_write, inner_image}
 use Rattle.rkyv_btree_portable.specs.InPlace.{OwnBytes}
 use Rattle.rkyv_btree_format.specs.Layout.{layout_of, align, inner_size}
-use Rattle.rkyv_btree_writing_laws.specs.Entries.{EntriesUnresolved, as_fault, now_of}
+use Rattle.rkyv_btree_writing_laws.specs.Entries.{EntriesUnresolved, as_fault, both_borrowed}
 use Rattle.rkyv_btree_writing_laws.specs.Written.{NodeStopped, in_own_bytes}
 use Rattle.rkyv_btree_writer.specs.Writing.{Write, Appended, Refused, position}
 use Rattle.rkyv_btree_writer.specs.declared.fault.Fault.{Fault}
@@ -17,7 +17,7 @@ use Rattle.rkyv_btree_archive.proofs.node_writes.write_inner.Goals as goal
 pub returns-in_err-root-clause-err : goal.returns-in_err-root-clause-err
 returns-in_err-root-clause-err g c =
     let nodes = layout_of g.K.Portable.kind g.V.Portable.kind g.row.E in
-    let xs = map now_of c.args.entries.now in
+    let xs = map (both_borrowed g.BKU.Borrow.borrowed g.BVU.Borrow.borrowed) c.args.entries.now in
     let image : ℕ → List OwnBytes → List Write = λ at owns. inner_image nodes at owns (c.args.children.now ++ c.args.last ∷ []) in
     let p = err_from_is_err_and c.from_residual.result c.from_residual.ensures.1 in
     rw (p.1, p.2) (subst (λ (n : ℕ). NodeStopped nodes g.KU.Archive.archival g.VU.Archive.archival image n (g.W.Writer.state c.args.writer.now) xs c.in_err-root.field-0.0 (g.W.Writer.state c.begin_node.new.writer)) c.inner_size-size.ensures.value (c.in_err-root.ensures.err image))
@@ -29,7 +29,7 @@ returns-in-Err-clause-err g c =
     let to = g.W.Writer.state c.begin_node.new.writer in
     let keys = c.begin_node.new.keys.items in
     let values = c.begin_node.new.values.items in
-    let xs = map now_of c.args.entries.now in
+    let xs = map (both_borrowed g.BKU.Borrow.borrowed g.BVU.Borrow.borrowed) c.args.entries.now in
     let roots = c.args.children.now ++ c.args.last ∷ [] in
     let root = c.in_ok-root.root in
     let padded = c.in_ok-root.ensures.ok in
@@ -57,7 +57,7 @@ returns-clause-ok g c =
     let place = c.in_ok-root.ensures.place in
     let made = c.in-Ok.ensures.ok in
     let is = ap (λ (n : ℕ). padding (align nodes) (position padded.mid) ++ inner_write nodes n made.0 roots ∷ []) (sym (place ∙ padded.place)) in
-    node_written nodes g.KU.Archive.archival g.VU.Archive.archival from to (map now_of c.args.entries.now) c.begin_node.new.keys.items c.begin_node.new.values.items padded root made.0 place made.1 (λ at owns. inner_image nodes at owns roots) (inner_size nodes) (inner_write nodes root made.0 roots) is
+    node_written nodes g.KU.Archive.archival g.VU.Archive.archival from to (map (both_borrowed g.BKU.Borrow.borrowed g.BVU.Borrow.borrowed) c.args.entries.now) c.begin_node.new.keys.items c.begin_node.new.values.items padded root made.0 place made.1 (λ at owns. inner_image nodes at owns roots) (inner_size nodes) (inner_write nodes root made.0 roots) is
     t made.3 (own_long (inner_bytes nodes root made.0 roots) c.put_inner.new.node.items c.args.scratch.now.node.items (inner_size nodes) (inner_size nodes) (no_more _ _ refl) c.requires.free.node_room made.2 c.put_inner.ensures.len) (subst (λ (bytes : List ℕ). Appended to bytes t) (front_is c.inner_size-size.result (inner_size nodes) (inner_size nodes) (inner_bytes nodes root made.0 roots) c.as_slice.result.now c.put_inner.new.node.items c.args.scratch.now.node.items c.inner_size-size.ensures.value (no_more _ _ refl) c.requires.free.node_room c.as_slice.ensures.value made.2 c.put_inner.ensures.len) c.in_ok-put.ensures.ok)
 
 pub returns-in_err-put-clause-err : goal.returns-in_err-put-clause-err
@@ -75,7 +75,7 @@ returns-in_err-put-clause-err g c =
     let is = ap (λ (n : ℕ). padding (align nodes) (position padded.mid) ++ inner_write nodes n made.0 roots ∷ []) (sym (place ∙ padded.place)) in
     let fault = c.in_err-put.field-0.0 in
     let p = err_from_is_err_and c.from_residual-in_err-put.result c.from_residual-in_err-put.ensures.1 in
-    rw (p.1, p.2) (node_refused nodes g.KU.Archive.archival g.VU.Archive.archival from to (map now_of c.args.entries.now) c.begin_node.new.keys.items c.begin_node.new.values.items padded root made.0 place made.1 (λ at owns. inner_image nodes at owns roots) (inner_size nodes) write is
+    rw (p.1, p.2) (node_refused nodes g.KU.Archive.archival g.VU.Archive.archival from to (map (both_borrowed g.BKU.Borrow.borrowed g.BVU.Borrow.borrowed) c.args.entries.now) c.begin_node.new.keys.items c.begin_node.new.values.items padded root made.0 place made.1 (λ at owns. inner_image nodes at owns roots) (inner_size nodes) write is
     fault t (subst (λ (bytes : List ℕ). Refused fault to (record { bytes = bytes; reaches = write.reaches }) t) (front_is c.inner_size-size.result (inner_size nodes) (inner_size nodes) (inner_bytes nodes root made.0 roots) c.as_slice.result.now c.put_inner.new.node.items c.args.scratch.now.node.items c.inner_size-size.ensures.value (no_more _ _ refl) c.requires.free.node_room c.as_slice.ensures.value made.2 c.put_inner.ensures.len) (c.in_err-put.ensures.err write.reaches)))
 
 pub returns-clause-free : goal.returns-clause-free

@@ -2,7 +2,7 @@ use Rattle.std.proofs.Common.{◌≡◌, ◌+◌, ◌-◌, ◌≤◌, ◌<◌, �
 use Rattle.std.proofs.lemmas.Result.{err_from_is_err_and}
 use Rattle.rkyv_btree_format.specs.Layout.{layout_of, leaf_size}
 use Rattle.rkyv_btree_format.proofs.Sizes.{room_of}
-use Rattle.rkyv_btree_writing_laws.specs.Entries.{now_of}
+use Rattle.rkyv_btree_writing_laws.specs.Entries.{both_borrowed}
 use Rattle.rkyv_btree_writing_laws.specs.Image.{leaf_image}
 use Rattle.rkyv_btree_writing_laws.specs.Written.{NodeWritten, NodeStopped}
 use Rattle.rkyv_btree_archive.specs.mirror.Source.{Gives}
@@ -16,7 +16,7 @@ overflow_sub-len g c =
     let front = c.in-Some.ensures.some.0 in
     let eq = c.in-Some.ensures.some.1 in
     let inv = c.loop-first.invariant in
-    let sz = sizes (layout_of g.K.Portable.kind g.V.Portable.kind g.row.E) g.KU.Archive.archival g.VU.Archive.archival (Gives g.I.Iterator.next_gives g.L.Look.passes g.L.Look.stops) c.args.above c.args.on_last c.args.source.now (g.W.Writer.state c.args.writer.now) some c.loop-first.levels c.loop-first.left c.loop-first.taken c.loop-first.waiting.items c.loop-first.children.items c.loop-first.starts.items front c.in-Some.first c.loop-first.child c.loop-first.source (g.W.Writer.state c.loop-first.writer) inv.stands eq in
+    let sz = sizes (layout_of g.K.Portable.kind g.V.Portable.kind g.row.E) g.KU.Archive.archival g.VU.Archive.archival (both_borrowed g.BKU.Borrow.borrowed g.BVU.Borrow.borrowed) (Gives g.I.Iterator.next_gives g.L.Look.passes g.L.Look.stops) c.args.above c.args.on_last c.args.source.now (g.W.Writer.state c.args.writer.now) some c.loop-first.levels c.loop-first.left c.loop-first.taken c.loop-first.waiting.items c.loop-first.children.items c.loop-first.starts.items front c.in-Some.first c.loop-first.child c.loop-first.source (g.W.Writer.state c.loop-first.writer) inv.stands eq in
     omega (arith, sz.first_low, c.len-in-Some.ensures, c.loop-first.waiting.ok.0)
 
 pub write_above-requires-clause-children : goal.write_above-requires-clause-children
@@ -25,7 +25,7 @@ write_above-requires-clause-children g c =
     let front = c.in-Some.ensures.some.0 in
     let eq = c.in-Some.ensures.some.1 in
     let inv = c.loop-first.invariant in
-    let sz = sizes (layout_of g.K.Portable.kind g.V.Portable.kind g.row.E) g.KU.Archive.archival g.VU.Archive.archival (Gives g.I.Iterator.next_gives g.L.Look.passes g.L.Look.stops) c.args.above c.args.on_last c.args.source.now (g.W.Writer.state c.args.writer.now) some c.loop-first.levels c.loop-first.left c.loop-first.taken c.loop-first.waiting.items c.loop-first.children.items c.loop-first.starts.items front c.in-Some.first c.loop-first.child c.loop-first.source (g.W.Writer.state c.loop-first.writer) inv.stands eq in
+    let sz = sizes (layout_of g.K.Portable.kind g.V.Portable.kind g.row.E) g.KU.Archive.archival g.VU.Archive.archival (both_borrowed g.BKU.Borrow.borrowed g.BVU.Borrow.borrowed) (Gives g.I.Iterator.next_gives g.L.Look.passes g.L.Look.stops) c.args.above c.args.on_last c.args.source.now (g.W.Writer.state c.args.writer.now) some c.loop-first.levels c.loop-first.left c.loop-first.taken c.loop-first.waiting.items c.loop-first.children.items c.loop-first.starts.items front c.in-Some.first c.loop-first.child c.loop-first.source (g.W.Writer.state c.loop-first.writer) inv.stands eq in
     let z : length c.loop-first.children.items ≡ c.in-Some.first + g.row.E = omega (arith, sz.children_count, sz.first_low, c.if-len-first.true, c.len-in-Some.ensures, c.loop-first.waiting.ok.0) in
     z
 
@@ -41,7 +41,7 @@ returns-in_err-root-clause-err g c =
     let inv = c.loop-first.invariant in
     let all : length c.loop-first.waiting.items - c.in-Some.first ≡ g.row.E = omega (arith, c.if-len-first.true, c.len-in-Some.ensures, c.loop-first.waiting.ok.0) in
     let p = err_from_is_err_and c.from_residual-in_err-root.result c.from_residual-in_err-root.ensures.1 in
-    rw (p.1, p.2) (inl (closed_fault (layout_of g.K.Portable.kind g.V.Portable.kind g.row.E) g.KU.Archive.archival g.VU.Archive.archival (Gives g.I.Iterator.next_gives g.L.Look.passes g.L.Look.stops) c.args.above c.args.on_last c.args.source.now (g.W.Writer.state c.args.writer.now) some c.loop-first.levels c.loop-first.left c.loop-first.taken c.loop-first.waiting.items c.loop-first.children.items c.loop-first.starts.items front c.in-Some.first c.loop-first.child c.loop-first.source (g.W.Writer.state c.loop-first.writer) c.in_err-root.field-0.0 (g.W.Writer.state c.write_above.new.writer) inv.stands eq all c.in_err-root.ensures.err))
+    rw (p.1, p.2) (inl (closed_fault (layout_of g.K.Portable.kind g.V.Portable.kind g.row.E) g.KU.Archive.archival g.VU.Archive.archival (both_borrowed g.BKU.Borrow.borrowed g.BVU.Borrow.borrowed) (Gives g.I.Iterator.next_gives g.L.Look.passes g.L.Look.stops) c.args.above c.args.on_last c.args.source.now (g.W.Writer.state c.args.writer.now) some c.loop-first.levels c.loop-first.left c.loop-first.taken c.loop-first.waiting.items c.loop-first.children.items c.loop-first.starts.items front c.in-Some.first c.loop-first.child c.loop-first.source (g.W.Writer.state c.loop-first.writer) c.in_err-root.field-0.0 (g.W.Writer.state c.write_above.new.writer) inv.stands eq all c.in_err-root.ensures.err))
 
 pub overflow_add-levels : goal.overflow_add-levels
 overflow_add-levels g c =
@@ -49,7 +49,7 @@ overflow_add-levels g c =
     let front = c.in-Some.ensures.some.0 in
     let eq = c.in-Some.ensures.some.1 in
     let inv = c.loop-first.invariant in
-    let sz = sizes (layout_of g.K.Portable.kind g.V.Portable.kind g.row.E) g.KU.Archive.archival g.VU.Archive.archival (Gives g.I.Iterator.next_gives g.L.Look.passes g.L.Look.stops) c.args.above c.args.on_last c.args.source.now (g.W.Writer.state c.args.writer.now) some c.loop-first.levels c.loop-first.left c.loop-first.taken c.loop-first.waiting.items c.loop-first.children.items c.loop-first.starts.items front c.in-Some.first c.loop-first.child c.loop-first.source (g.W.Writer.state c.loop-first.writer) inv.stands eq in
+    let sz = sizes (layout_of g.K.Portable.kind g.V.Portable.kind g.row.E) g.KU.Archive.archival g.VU.Archive.archival (both_borrowed g.BKU.Borrow.borrowed g.BVU.Borrow.borrowed) (Gives g.I.Iterator.next_gives g.L.Look.passes g.L.Look.stops) c.args.above c.args.on_last c.args.source.now (g.W.Writer.state c.args.writer.now) some c.loop-first.levels c.loop-first.left c.loop-first.taken c.loop-first.waiting.items c.loop-first.children.items c.loop-first.starts.items front c.in-Some.first c.loop-first.child c.loop-first.source (g.W.Writer.state c.loop-first.writer) inv.stands eq in
     record { fits = level_fits c.loop-first.levels c.args.above sz.below c.ranges.above.fits }
 
 pub loop-first-smaller-then-len-first : goal.loop-first-smaller-then-len-first
@@ -69,7 +69,7 @@ loop-first-preserved-then-len-first g c =
     let all : length c.loop-first.waiting.items - c.in-Some.first ≡ g.row.E = omega (arith, c.if-len-first.true, c.len-in-Some.ensures, c.loop-first.waiting.ok.0) in
     let fewer = fewer_open c.loop-first.starts.items c.truncate.new.self.items front c.in-Some.first (c.len-then-len-first.result - 1) eq (ap (λ k. k - 1) (c.len-then-len-first.ensures ∙ c.loop-first.starts.ok.0)) c.truncate.ensures.items in
     record {
-      stands = stands_closed (layout_of g.K.Portable.kind g.V.Portable.kind g.row.E) g.KU.Archive.archival g.VU.Archive.archival (Gives g.I.Iterator.next_gives g.L.Look.passes g.L.Look.stops) c.args.above c.args.on_last c.args.source.now (g.W.Writer.state c.args.writer.now) some c.loop-first.levels c.loop-first.left c.loop-first.taken c.loop-first.waiting.items c.loop-first.children.items c.loop-first.starts.items front c.in-Some.first c.loop-first.child c.loop-first.source (g.W.Writer.state c.loop-first.writer) c.in_ok-root.root (g.W.Writer.state c.write_above.new.writer) c.write_above.new.waiting.items c.write_above.new.children.items c.truncate.new.self.items (c.loop-first.levels + 1) inv.stands eq all c.in_ok-root.ensures.ok c.in_ok-root.ensures.kept.0 c.in_ok-root.ensures.kept.1 fewer.0 refl;
+      stands = stands_closed (layout_of g.K.Portable.kind g.V.Portable.kind g.row.E) g.KU.Archive.archival g.VU.Archive.archival (both_borrowed g.BKU.Borrow.borrowed g.BVU.Borrow.borrowed) (Gives g.I.Iterator.next_gives g.L.Look.passes g.L.Look.stops) c.args.above c.args.on_last c.args.source.now (g.W.Writer.state c.args.writer.now) some c.loop-first.levels c.loop-first.left c.loop-first.taken c.loop-first.waiting.items c.loop-first.children.items c.loop-first.starts.items front c.in-Some.first c.loop-first.child c.loop-first.source (g.W.Writer.state c.loop-first.writer) c.in_ok-root.root (g.W.Writer.state c.write_above.new.writer) c.write_above.new.waiting.items c.write_above.new.children.items c.truncate.new.self.items (c.loop-first.levels + 1) inv.stands eq all c.in_ok-root.ensures.ok c.in_ok-root.ensures.kept.0 c.in_ok-root.ensures.kept.1 fewer.0 refl;
       free = c.in_ok-root.ensures.free;
       waiting_room = omega (arith, inv.waiting_room, c.in_ok-root.ensures.room.0);
       child_room = omega (arith, inv.child_room, c.in_ok-root.ensures.room.1);
@@ -82,8 +82,7 @@ loop-first-preserved-then-len-first g c =
     }
 
 pub next-requires : goal.next-requires
-next-requires g c =
-    λ lifetimes. ((refl, tt), c.loop-first.invariant.can)
+next-requires g c = c.loop-first.invariant.can
 
 pub returns-in_default-next-clause-err : goal.returns-in_default-next-clause-err
 returns-in_default-next-clause-err g c =
@@ -91,9 +90,9 @@ returns-in_default-next-clause-err g c =
     let front = c.in-Some.ensures.some.0 in
     let eq = c.in-Some.ensures.some.1 in
     let inv = c.loop-first.invariant in
-    let sz = sizes (layout_of g.K.Portable.kind g.V.Portable.kind g.row.E) g.KU.Archive.archival g.VU.Archive.archival (Gives g.I.Iterator.next_gives g.L.Look.passes g.L.Look.stops) c.args.above c.args.on_last c.args.source.now (g.W.Writer.state c.args.writer.now) some c.loop-first.levels c.loop-first.left c.loop-first.taken c.loop-first.waiting.items c.loop-first.children.items c.loop-first.starts.items front c.in-Some.first c.loop-first.child c.loop-first.source (g.W.Writer.state c.loop-first.writer) inv.stands eq in
+    let sz = sizes (layout_of g.K.Portable.kind g.V.Portable.kind g.row.E) g.KU.Archive.archival g.VU.Archive.archival (both_borrowed g.BKU.Borrow.borrowed g.BVU.Borrow.borrowed) (Gives g.I.Iterator.next_gives g.L.Look.passes g.L.Look.stops) c.args.above c.args.on_last c.args.source.now (g.W.Writer.state c.args.writer.now) some c.loop-first.levels c.loop-first.left c.loop-first.taken c.loop-first.waiting.items c.loop-first.children.items c.loop-first.starts.items front c.in-Some.first c.loop-first.child c.loop-first.source (g.W.Writer.state c.loop-first.writer) inv.stands eq in
     let less : length c.loop-first.waiting.items < c.in-Some.first + g.row.E = omega (arith, c.if-len-first.false, c.len-in-Some.ensures, c.loop-first.waiting.ok.0, sz.waiting_few, sz.first_low) in
-    inr (_, c.loop-first.taken, refl, refl, omega arith, entry_short (layout_of g.K.Portable.kind g.V.Portable.kind g.row.E) g.KU.Archive.archival g.VU.Archive.archival (Gives g.I.Iterator.next_gives g.L.Look.passes g.L.Look.stops) c.args.above c.args.on_last c.args.source.now (g.W.Writer.state c.args.writer.now) some c.loop-first.levels c.loop-first.left c.loop-first.taken c.loop-first.waiting.items c.loop-first.children.items c.loop-first.starts.items front c.in-Some.first c.loop-first.child c.loop-first.source c.next.new.self (g.W.Writer.state c.loop-first.writer) inv.stands eq less c.in_default-next.ensures.steps)
+    inr (_, c.loop-first.taken, refl, refl, omega arith, entry_short (layout_of g.K.Portable.kind g.V.Portable.kind g.row.E) g.KU.Archive.archival g.VU.Archive.archival (both_borrowed g.BKU.Borrow.borrowed g.BVU.Borrow.borrowed) (Gives g.I.Iterator.next_gives g.L.Look.passes g.L.Look.stops) c.args.above c.args.on_last c.args.source.now (g.W.Writer.state c.args.writer.now) some c.loop-first.levels c.loop-first.left c.loop-first.taken c.loop-first.waiting.items c.loop-first.children.items c.loop-first.starts.items front c.in-Some.first c.loop-first.child c.loop-first.source c.next.new.self (g.W.Writer.state c.loop-first.writer) inv.stands eq less c.in_default-next.ensures.steps)
 
 pub overflow_add-taken : goal.overflow_add-taken
 overflow_add-taken g c =
@@ -101,7 +100,7 @@ overflow_add-taken g c =
     let front = c.in-Some.ensures.some.0 in
     let eq = c.in-Some.ensures.some.1 in
     let inv = c.loop-first.invariant in
-    let sz = sizes (layout_of g.K.Portable.kind g.V.Portable.kind g.row.E) g.KU.Archive.archival g.VU.Archive.archival (Gives g.I.Iterator.next_gives g.L.Look.passes g.L.Look.stops) c.args.above c.args.on_last c.args.source.now (g.W.Writer.state c.args.writer.now) some c.loop-first.levels c.loop-first.left c.loop-first.taken c.loop-first.waiting.items c.loop-first.children.items c.loop-first.starts.items front c.in-Some.first c.loop-first.child c.loop-first.source (g.W.Writer.state c.loop-first.writer) inv.stands eq in
+    let sz = sizes (layout_of g.K.Portable.kind g.V.Portable.kind g.row.E) g.KU.Archive.archival g.VU.Archive.archival (both_borrowed g.BKU.Borrow.borrowed g.BVU.Borrow.borrowed) (Gives g.I.Iterator.next_gives g.L.Look.passes g.L.Look.stops) c.args.above c.args.on_last c.args.source.now (g.W.Writer.state c.args.writer.now) some c.loop-first.levels c.loop-first.left c.loop-first.taken c.loop-first.waiting.items c.loop-first.children.items c.loop-first.starts.items front c.in-Some.first c.loop-first.child c.loop-first.source (g.W.Writer.state c.loop-first.writer) inv.stands eq in
     let less : length c.loop-first.waiting.items < c.in-Some.first + g.row.E = omega (arith, c.if-len-first.false, c.len-in-Some.ensures, c.loop-first.waiting.ok.0, sz.waiting_few, sz.first_low) in
     let claimed = all_claimed g.row.E c.args.above c.args.on_last c.args.claim c.requires.claim c.requires.most in
     record { fits = taken_fits c.loop-first.taken c.args.claim (omega (arith, sz.more_comes less, claimed)) c.requires.small }
@@ -112,7 +111,7 @@ wait-requires-clause-waiting_room g c =
     let front = c.in-Some.ensures.some.0 in
     let eq = c.in-Some.ensures.some.1 in
     let inv = c.loop-first.invariant in
-    let sz = sizes (layout_of g.K.Portable.kind g.V.Portable.kind g.row.E) g.KU.Archive.archival g.VU.Archive.archival (Gives g.I.Iterator.next_gives g.L.Look.passes g.L.Look.stops) c.args.above c.args.on_last c.args.source.now (g.W.Writer.state c.args.writer.now) some c.loop-first.levels c.loop-first.left c.loop-first.taken c.loop-first.waiting.items c.loop-first.children.items c.loop-first.starts.items front c.in-Some.first c.loop-first.child c.loop-first.source (g.W.Writer.state c.loop-first.writer) inv.stands eq in
+    let sz = sizes (layout_of g.K.Portable.kind g.V.Portable.kind g.row.E) g.KU.Archive.archival g.VU.Archive.archival (both_borrowed g.BKU.Borrow.borrowed g.BVU.Borrow.borrowed) (Gives g.I.Iterator.next_gives g.L.Look.passes g.L.Look.stops) c.args.above c.args.on_last c.args.source.now (g.W.Writer.state c.args.writer.now) some c.loop-first.levels c.loop-first.left c.loop-first.taken c.loop-first.waiting.items c.loop-first.children.items c.loop-first.starts.items front c.in-Some.first c.loop-first.child c.loop-first.source (g.W.Writer.state c.loop-first.writer) inv.stands eq in
     let less : length c.loop-first.waiting.items < c.in-Some.first + g.row.E = omega (arith, c.if-len-first.false, c.len-in-Some.ensures, c.loop-first.waiting.ok.0, sz.waiting_few, sz.first_low) in
     omega (arith, sz.more_waits less, inv.waiting_room, c.loop-first.waiting.ok.0)
 
@@ -122,7 +121,7 @@ wait-requires-clause-child_room g c =
     let front = c.in-Some.ensures.some.0 in
     let eq = c.in-Some.ensures.some.1 in
     let inv = c.loop-first.invariant in
-    let sz = sizes (layout_of g.K.Portable.kind g.V.Portable.kind g.row.E) g.KU.Archive.archival g.VU.Archive.archival (Gives g.I.Iterator.next_gives g.L.Look.passes g.L.Look.stops) c.args.above c.args.on_last c.args.source.now (g.W.Writer.state c.args.writer.now) some c.loop-first.levels c.loop-first.left c.loop-first.taken c.loop-first.waiting.items c.loop-first.children.items c.loop-first.starts.items front c.in-Some.first c.loop-first.child c.loop-first.source (g.W.Writer.state c.loop-first.writer) inv.stands eq in
+    let sz = sizes (layout_of g.K.Portable.kind g.V.Portable.kind g.row.E) g.KU.Archive.archival g.VU.Archive.archival (both_borrowed g.BKU.Borrow.borrowed g.BVU.Borrow.borrowed) (Gives g.I.Iterator.next_gives g.L.Look.passes g.L.Look.stops) c.args.above c.args.on_last c.args.source.now (g.W.Writer.state c.args.writer.now) some c.loop-first.levels c.loop-first.left c.loop-first.taken c.loop-first.waiting.items c.loop-first.children.items c.loop-first.starts.items front c.in-Some.first c.loop-first.child c.loop-first.source (g.W.Writer.state c.loop-first.writer) inv.stands eq in
     let less : length c.loop-first.waiting.items < c.in-Some.first + g.row.E = omega (arith, c.if-len-first.false, c.len-in-Some.ensures, c.loop-first.waiting.ok.0, sz.waiting_few, sz.first_low) in
     omega (arith, sz.more_waits less, sz.children_count, inv.child_room, c.loop-first.children.ok.0)
 
@@ -132,13 +131,13 @@ open_nodes-levels-requires-else-len-first g c =
     let front = c.in-Some.ensures.some.0 in
     let eq = c.in-Some.ensures.some.1 in
     let inv = c.loop-first.invariant in
-    let sz = sizes (layout_of g.K.Portable.kind g.V.Portable.kind g.row.E) g.KU.Archive.archival g.VU.Archive.archival (Gives g.I.Iterator.next_gives g.L.Look.passes g.L.Look.stops) c.args.above c.args.on_last c.args.source.now (g.W.Writer.state c.args.writer.now) some c.loop-first.levels c.loop-first.left c.loop-first.taken c.loop-first.waiting.items c.loop-first.children.items c.loop-first.starts.items front c.in-Some.first c.loop-first.child c.loop-first.source (g.W.Writer.state c.loop-first.writer) inv.stands eq in
+    let sz = sizes (layout_of g.K.Portable.kind g.V.Portable.kind g.row.E) g.KU.Archive.archival g.VU.Archive.archival (both_borrowed g.BKU.Borrow.borrowed g.BVU.Borrow.borrowed) (Gives g.I.Iterator.next_gives g.L.Look.passes g.L.Look.stops) c.args.above c.args.on_last c.args.source.now (g.W.Writer.state c.args.writer.now) some c.loop-first.levels c.loop-first.left c.loop-first.taken c.loop-first.waiting.items c.loop-first.children.items c.loop-first.starts.items front c.in-Some.first c.loop-first.child c.loop-first.source (g.W.Writer.state c.loop-first.writer) inv.stands eq in
     record { room = omega (arith, sz.starts_count, inv.start_room) }
 
 pub returns-clause-ok : goal.returns-clause-ok
 returns-clause-ok g c =
     let some = (room_of g.K.Portable.kind g.V.Portable.kind g.row.E g.met.K.Portable.laws g.met.V.Portable.laws c.requires.fitting).some in
-    stands_whole (layout_of g.K.Portable.kind g.V.Portable.kind g.row.E) g.KU.Archive.archival g.VU.Archive.archival (Gives g.I.Iterator.next_gives g.L.Look.passes g.L.Look.stops) c.args.above c.args.on_last c.args.source.now (g.W.Writer.state c.args.writer.now) some c.loop-first.levels c.loop-first.left c.loop-first.taken c.loop-first.waiting.items c.loop-first.children.items c.loop-first.starts.items c.loop-first.child c.loop-first.source (g.W.Writer.state c.loop-first.writer) c.loop-first.invariant.stands c.in_default.ensures.none
+    stands_whole (layout_of g.K.Portable.kind g.V.Portable.kind g.row.E) g.KU.Archive.archival g.VU.Archive.archival (both_borrowed g.BKU.Borrow.borrowed g.BVU.Borrow.borrowed) (Gives g.I.Iterator.next_gives g.L.Look.passes g.L.Look.stops) c.args.above c.args.on_last c.args.source.now (g.W.Writer.state c.args.writer.now) some c.loop-first.levels c.loop-first.left c.loop-first.taken c.loop-first.waiting.items c.loop-first.children.items c.loop-first.starts.items c.loop-first.child c.loop-first.source (g.W.Writer.state c.loop-first.writer) c.loop-first.invariant.stands c.in_default.ensures.none
 
 pub returns-clause-last : goal.returns-clause-last
 returns-clause-last g c =
@@ -158,39 +157,39 @@ write_above-requires-clause-waiting g c =
     let front = c.in-Some.ensures.some.0 in
     let eq = c.in-Some.ensures.some.1 in
     let inv = c.loop-first.invariant in
-    let sz = sizes (layout_of g.K.Portable.kind g.V.Portable.kind g.row.E) g.KU.Archive.archival g.VU.Archive.archival (Gives g.I.Iterator.next_gives g.L.Look.passes g.L.Look.stops) c.args.above c.args.on_last c.args.source.now (g.W.Writer.state c.args.writer.now) some c.loop-first.levels c.loop-first.left c.loop-first.taken c.loop-first.waiting.items c.loop-first.children.items c.loop-first.starts.items front c.in-Some.first c.loop-first.child c.loop-first.source (g.W.Writer.state c.loop-first.writer) inv.stands eq in
+    let sz = sizes (layout_of g.K.Portable.kind g.V.Portable.kind g.row.E) g.KU.Archive.archival g.VU.Archive.archival (both_borrowed g.BKU.Borrow.borrowed g.BVU.Borrow.borrowed) (Gives g.I.Iterator.next_gives g.L.Look.passes g.L.Look.stops) c.args.above c.args.on_last c.args.source.now (g.W.Writer.state c.args.writer.now) some c.loop-first.levels c.loop-first.left c.loop-first.taken c.loop-first.waiting.items c.loop-first.children.items c.loop-first.starts.items front c.in-Some.first c.loop-first.child c.loop-first.source (g.W.Writer.state c.loop-first.writer) inv.stands eq in
     let z : length c.loop-first.waiting.items ≡ c.in-Some.first + g.row.E = omega (arith, sz.first_low, c.if-len-first.true, c.len-in-Some.ensures, c.loop-first.waiting.ok.0) in
     z
 
 pub returns-then-not-take_items-clause-err : goal.returns-then-not-take_items-clause-err
 returns-then-not-take_items-clause-err g c =
     let some = (room_of g.K.Portable.kind g.V.Portable.kind g.row.E g.met.K.Portable.laws g.met.V.Portable.laws c.requires.fitting).some in
-    let short = next_leaf_short (layout_of g.K.Portable.kind g.V.Portable.kind g.row.E) g.KU.Archive.archival g.VU.Archive.archival (Gives g.I.Iterator.next_gives g.L.Look.passes g.L.Look.stops) c.open_nodes-levels.result c.args.on_last c.leaf_len-first_len.result c.args.source.now (g.W.Writer.state c.args.writer.now) c.take_items.new.items.items c.take_items.new.source c.leaf_len-first_len.ensures.leaf (c.take_items.ensures.few c.if-not-take_items.true) (c.take_items.ensures.short c.if-not-take_items.true) in
-    first_fault (layout_of g.K.Portable.kind g.V.Portable.kind g.row.E) g.KU.Archive.archival g.VU.Archive.archival (Gives g.I.Iterator.next_gives g.L.Look.passes g.L.Look.stops) c.args.above c.args.on_last c.args.source.now (g.W.Writer.state c.args.writer.now) some {X = g.row.W-Error.Denot} c.args.claim c.open_nodes-levels.result _ c.take_items.new.source (g.W.Writer.state c.args.writer.now) c.open_nodes-levels.ensures.below c.open_nodes-levels.ensures.inner (inr (_, length c.take_items.new.items.items, refl, refl, omega arith, short))
+    let short = next_leaf_short (layout_of g.K.Portable.kind g.V.Portable.kind g.row.E) g.KU.Archive.archival g.VU.Archive.archival (both_borrowed g.BKU.Borrow.borrowed g.BVU.Borrow.borrowed) (Gives g.I.Iterator.next_gives g.L.Look.passes g.L.Look.stops) c.open_nodes-levels.result c.args.on_last c.leaf_len-first_len.result c.args.source.now (g.W.Writer.state c.args.writer.now) c.take_items.new.items.items c.take_items.new.source c.leaf_len-first_len.ensures.leaf (c.take_items.ensures.few c.if-not-take_items.true) (c.take_items.ensures.short c.if-not-take_items.true) in
+    first_fault (layout_of g.K.Portable.kind g.V.Portable.kind g.row.E) g.KU.Archive.archival g.VU.Archive.archival (both_borrowed g.BKU.Borrow.borrowed g.BVU.Borrow.borrowed) (Gives g.I.Iterator.next_gives g.L.Look.passes g.L.Look.stops) c.args.above c.args.on_last c.args.source.now (g.W.Writer.state c.args.writer.now) some {X = g.row.W-Error.Denot} c.args.claim c.open_nodes-levels.result _ c.take_items.new.source (g.W.Writer.state c.args.writer.now) c.open_nodes-levels.ensures.below c.open_nodes-levels.ensures.inner (inr (_, length c.take_items.new.items.items, refl, refl, omega arith, short))
 
 pub returns-in_err-place-clause-err : goal.returns-in_err-place-clause-err
 returns-in_err-place-clause-err g c =
     let some = (room_of g.K.Portable.kind g.V.Portable.kind g.row.E g.met.K.Portable.laws g.met.V.Portable.laws c.requires.fitting).some in
     let many : 0 < c.leaf_len-first_len.result = some_count c.leaf_len-first_len.result (some_leaf g.row.E c.open_nodes-levels.result c.args.on_last c.leaf_len-first_len.result some c.requires.some c.leaf_len-first_len.ensures.leaf) in
     let nodes = layout_of g.K.Portable.kind g.V.Portable.kind g.row.E in
-    let own = now_of {M = g.row.KU.Denot} {N = g.row.VU.Denot} in
+    let own = (both_borrowed g.BKU.Borrow.borrowed g.BVU.Borrow.borrowed) in
     let p = err_from_is_err_and c.from_residual.result c.from_residual.ensures.1 in
     let took = c.if-not-take_items.false in
     let stopped = subst (λ xs. NodeStopped nodes g.KU.Archive.archival g.VU.Archive.archival {E = g.row.W-Error.Denot} (leaf_image nodes) (leaf_size nodes) (g.W.Writer.state c.args.writer.now) (map own xs) c.in_err-place.field-0.0 (g.W.Writer.state c.write_leaf.new.writer)) c.deref.ensures.value c.in_err-place.ensures.err in
-    let next = next_leaf_stopped (layout_of g.K.Portable.kind g.V.Portable.kind g.row.E) g.KU.Archive.archival g.VU.Archive.archival (Gives g.I.Iterator.next_gives g.L.Look.passes g.L.Look.stops) c.open_nodes-levels.result c.args.on_last c.leaf_len-first_len.result c.args.source.now (g.W.Writer.state c.args.writer.now) c.take_items.new.items.items c.take_items.new.source c.in_err-place.field-0.0 (g.W.Writer.state c.write_leaf.new.writer) c.leaf_len-first_len.ensures.leaf many c.leaf_len-first_len.ensures.few (c.take_items.ensures.all took) (c.take_items.ensures.len took) stopped in
-    rw (p.1, p.2) (first_fault (layout_of g.K.Portable.kind g.V.Portable.kind g.row.E) g.KU.Archive.archival g.VU.Archive.archival (Gives g.I.Iterator.next_gives g.L.Look.passes g.L.Look.stops) c.args.above c.args.on_last c.args.source.now (g.W.Writer.state c.args.writer.now) some c.args.claim c.open_nodes-levels.result c.in_err-place.field-0.0 c.take_items.new.source (g.W.Writer.state c.write_leaf.new.writer) c.open_nodes-levels.ensures.below c.open_nodes-levels.ensures.inner (inl next))
+    let next = next_leaf_stopped (layout_of g.K.Portable.kind g.V.Portable.kind g.row.E) g.KU.Archive.archival g.VU.Archive.archival (both_borrowed g.BKU.Borrow.borrowed g.BVU.Borrow.borrowed) (Gives g.I.Iterator.next_gives g.L.Look.passes g.L.Look.stops) c.open_nodes-levels.result c.args.on_last c.leaf_len-first_len.result c.args.source.now (g.W.Writer.state c.args.writer.now) c.take_items.new.items.items c.take_items.new.source c.in_err-place.field-0.0 (g.W.Writer.state c.write_leaf.new.writer) c.leaf_len-first_len.ensures.leaf many c.leaf_len-first_len.ensures.few (c.take_items.ensures.all took) (c.take_items.ensures.len took) stopped in
+    rw (p.1, p.2) (first_fault (layout_of g.K.Portable.kind g.V.Portable.kind g.row.E) g.KU.Archive.archival g.VU.Archive.archival (both_borrowed g.BKU.Borrow.borrowed g.BVU.Borrow.borrowed) (Gives g.I.Iterator.next_gives g.L.Look.passes g.L.Look.stops) c.args.above c.args.on_last c.args.source.now (g.W.Writer.state c.args.writer.now) some c.args.claim c.open_nodes-levels.result c.in_err-place.field-0.0 c.take_items.new.source (g.W.Writer.state c.write_leaf.new.writer) c.open_nodes-levels.ensures.below c.open_nodes-levels.ensures.inner (inl next))
 
 pub loop-first-init : goal.loop-first-init
 loop-first-init g c =
     let some = (room_of g.K.Portable.kind g.V.Portable.kind g.row.E g.met.K.Portable.laws g.met.V.Portable.laws c.requires.fitting).some in
     let many : 0 < c.leaf_len-first_len.result = some_count c.leaf_len-first_len.result (some_leaf g.row.E c.open_nodes-levels.result c.args.on_last c.leaf_len-first_len.result some c.requires.some c.leaf_len-first_len.ensures.leaf) in
     let nodes = layout_of g.K.Portable.kind g.V.Portable.kind g.row.E in
-    let own = now_of {M = g.row.KU.Denot} {N = g.row.VU.Denot} in
+    let own = (both_borrowed g.BKU.Borrow.borrowed g.BVU.Borrow.borrowed) in
     let took = c.if-not-take_items.false in
     let written = subst (λ xs. NodeWritten nodes g.KU.Archive.archival g.VU.Archive.archival (leaf_image nodes) (leaf_size nodes) (g.W.Writer.state c.args.writer.now) (map own xs) c.in_ok-place.place (g.W.Writer.state c.write_leaf.new.writer)) c.deref.ensures.value c.in_ok-place.ensures.ok in
-    let next = next_leaf (layout_of g.K.Portable.kind g.V.Portable.kind g.row.E) g.KU.Archive.archival g.VU.Archive.archival (Gives g.I.Iterator.next_gives g.L.Look.passes g.L.Look.stops) c.open_nodes-levels.result c.args.on_last c.leaf_len-first_len.result c.args.source.now (g.W.Writer.state c.args.writer.now) c.take_items.new.items.items c.take_items.new.source c.in_ok-place.place (g.W.Writer.state c.write_leaf.new.writer) c.leaf_len-first_len.ensures.leaf many c.leaf_len-first_len.ensures.few (c.take_items.ensures.all took) (c.take_items.ensures.len took) written in
+    let next = next_leaf (layout_of g.K.Portable.kind g.V.Portable.kind g.row.E) g.KU.Archive.archival g.VU.Archive.archival (both_borrowed g.BKU.Borrow.borrowed g.BVU.Borrow.borrowed) (Gives g.I.Iterator.next_gives g.L.Look.passes g.L.Look.stops) c.open_nodes-levels.result c.args.on_last c.leaf_len-first_len.result c.args.source.now (g.W.Writer.state c.args.writer.now) c.take_items.new.items.items c.take_items.new.source c.in_ok-place.place (g.W.Writer.state c.write_leaf.new.writer) c.leaf_len-first_len.ensures.leaf many c.leaf_len-first_len.ensures.few (c.take_items.ensures.all took) (c.take_items.ensures.len took) written in
     record {
-      stands = stands_first (layout_of g.K.Portable.kind g.V.Portable.kind g.row.E) g.KU.Archive.archival g.VU.Archive.archival (Gives g.I.Iterator.next_gives g.L.Look.passes g.L.Look.stops) c.args.above c.args.on_last c.args.source.now (g.W.Writer.state c.args.writer.now) some c.open_nodes-levels.result c.saturating_sub-left.result c.leaf_len-first_len.result c.leaf_len-first_len.result c.args.lists.waiting.items c.args.lists.children.items c.open_nodes-levels.new.starts.items c.args.lists.starts.items (Some c.in_ok-place.place) c.take_items.new.source (g.W.Writer.state c.write_leaf.new.writer) c.open_nodes-levels.ensures.below c.open_nodes-levels.ensures.inner c.requires.waiting.empty c.requires.children.empty c.requires.starts.empty c.open_nodes-levels.ensures.opened c.leaf_len-first_len.ensures.leaf next c.saturating_sub-left.ensures (omega arith);
+      stands = stands_first (layout_of g.K.Portable.kind g.V.Portable.kind g.row.E) g.KU.Archive.archival g.VU.Archive.archival (both_borrowed g.BKU.Borrow.borrowed g.BVU.Borrow.borrowed) (Gives g.I.Iterator.next_gives g.L.Look.passes g.L.Look.stops) c.args.above c.args.on_last c.args.source.now (g.W.Writer.state c.args.writer.now) some c.open_nodes-levels.result c.saturating_sub-left.result c.leaf_len-first_len.result c.leaf_len-first_len.result c.args.lists.waiting.items c.args.lists.children.items c.open_nodes-levels.new.starts.items c.args.lists.starts.items (Some c.in_ok-place.place) c.take_items.new.source (g.W.Writer.state c.write_leaf.new.writer) c.open_nodes-levels.ensures.below c.open_nodes-levels.ensures.inner c.requires.waiting.empty c.requires.children.empty c.requires.starts.empty c.open_nodes-levels.ensures.opened c.leaf_len-first_len.ensures.leaf next c.saturating_sub-left.ensures (omega arith);
       free = c.in_ok-place.ensures.free;
       waiting_room = c.requires.waiting.room;
       child_room = c.requires.children.room;
@@ -208,12 +207,12 @@ returns-then-not-take_items-2-clause-err g c =
     let front = c.in-Some.ensures.some.0 in
     let eq = c.in-Some.ensures.some.1 in
     let inv = c.loop-first.invariant in
-    let sz = sizes (layout_of g.K.Portable.kind g.V.Portable.kind g.row.E) g.KU.Archive.archival g.VU.Archive.archival (Gives g.I.Iterator.next_gives g.L.Look.passes g.L.Look.stops) c.args.above c.args.on_last c.args.source.now (g.W.Writer.state c.args.writer.now) some c.loop-first.levels c.loop-first.left c.loop-first.taken c.loop-first.waiting.items c.loop-first.children.items c.loop-first.starts.items front c.in-Some.first c.loop-first.child c.loop-first.source (g.W.Writer.state c.loop-first.writer) inv.stands eq in
+    let sz = sizes (layout_of g.K.Portable.kind g.V.Portable.kind g.row.E) g.KU.Archive.archival g.VU.Archive.archival (both_borrowed g.BKU.Borrow.borrowed g.BVU.Borrow.borrowed) (Gives g.I.Iterator.next_gives g.L.Look.passes g.L.Look.stops) c.args.above c.args.on_last c.args.source.now (g.W.Writer.state c.args.writer.now) some c.loop-first.levels c.loop-first.left c.loop-first.taken c.loop-first.waiting.items c.loop-first.children.items c.loop-first.starts.items front c.in-Some.first c.loop-first.child c.loop-first.source (g.W.Writer.state c.loop-first.writer) inv.stands eq in
     let less : length c.loop-first.waiting.items < c.in-Some.first + g.row.E = omega (arith, c.if-len-first.false, c.len-in-Some.ensures, c.loop-first.waiting.ok.0, sz.waiting_few, sz.first_low) in
-    let goes = goes_on (layout_of g.K.Portable.kind g.V.Portable.kind g.row.E) g.KU.Archive.archival g.VU.Archive.archival (Gives g.I.Iterator.next_gives g.L.Look.passes g.L.Look.stops) c.args.above c.args.on_last c.args.source.now (g.W.Writer.state c.args.writer.now) some c.loop-first.levels c.loop-first.left c.loop-first.taken c.loop-first.waiting.items c.loop-first.children.items c.loop-first.starts.items front c.in-Some.first c.loop-first.child c.loop-first.source (g.W.Writer.state c.loop-first.writer) c.in-Some-next.entry c.next.new.self c.open_nodes-levels-else-len-first.result (c.loop-first.taken + 1) c.wait.new.waiting.items c.wait.new.children.items c.open_nodes-levels-else-len-first.new.starts.items inv.stands eq less c.in-Some-next.ensures.steps c.wait.ensures.waiting c.wait.ensures.children refl c.open_nodes-levels-else-len-first.ensures.below c.open_nodes-levels-else-len-first.ensures.inner
+    let goes = goes_on (layout_of g.K.Portable.kind g.V.Portable.kind g.row.E) g.KU.Archive.archival g.VU.Archive.archival (both_borrowed g.BKU.Borrow.borrowed g.BVU.Borrow.borrowed) (Gives g.I.Iterator.next_gives g.L.Look.passes g.L.Look.stops) c.args.above c.args.on_last c.args.source.now (g.W.Writer.state c.args.writer.now) some c.loop-first.levels c.loop-first.left c.loop-first.taken c.loop-first.waiting.items c.loop-first.children.items c.loop-first.starts.items front c.in-Some.first c.loop-first.child c.loop-first.source (g.W.Writer.state c.loop-first.writer) c.in-Some-next.entry c.next.new.self c.open_nodes-levels-else-len-first.result (c.loop-first.taken + 1) c.wait.new.waiting.items c.wait.new.children.items c.open_nodes-levels-else-len-first.new.starts.items inv.stands eq less c.in-Some-next.ensures.steps c.wait.ensures.waiting c.wait.ensures.children refl c.open_nodes-levels-else-len-first.ensures.below c.open_nodes-levels-else-len-first.ensures.inner
     (c.open_nodes-levels-else-len-first.ensures.opened ∙ ap (λ k. c.loop-first.starts.items ++ replicate (c.loop-first.levels - c.open_nodes-levels-else-len-first.result) k) (c.len-else-len-first.ensures ∙ c.wait.new.waiting.ok.0)) in
-    let short = next_leaf_short (layout_of g.K.Portable.kind g.V.Portable.kind g.row.E) g.KU.Archive.archival g.VU.Archive.archival (Gives g.I.Iterator.next_gives g.L.Look.passes g.L.Look.stops) c.open_nodes-levels-else-len-first.result c.loop-first.left c.leaf_len-len.result c.next.new.self (g.W.Writer.state c.loop-first.writer) c.take_items-else-len-eq0.new.items.items c.take_items-else-len-eq0.new.source c.leaf_len-len.ensures.leaf (c.take_items-else-len-eq0.ensures.few c.if-not-take_items-2.true) (c.take_items-else-len-eq0.ensures.short c.if-not-take_items-2.true) in
-    next_fault (layout_of g.K.Portable.kind g.V.Portable.kind g.row.E) g.KU.Archive.archival g.VU.Archive.archival (Gives g.I.Iterator.next_gives g.L.Look.passes g.L.Look.stops) c.args.above c.args.on_last c.args.source.now (g.W.Writer.state c.args.writer.now) some {X = g.row.W-Error.Denot} c.args.claim c.open_nodes-levels-else-len-first.result c.loop-first.left (c.loop-first.taken + 1) c.wait.new.waiting.items c.wait.new.children.items c.open_nodes-levels-else-len-first.new.starts.items c.next.new.self (g.W.Writer.state c.loop-first.writer) _ c.take_items-else-len-eq0.new.source (g.W.Writer.state c.loop-first.writer) goes (inr (_, length c.take_items-else-len-eq0.new.items.items, refl, refl, omega arith, short))
+    let short = next_leaf_short (layout_of g.K.Portable.kind g.V.Portable.kind g.row.E) g.KU.Archive.archival g.VU.Archive.archival (both_borrowed g.BKU.Borrow.borrowed g.BVU.Borrow.borrowed) (Gives g.I.Iterator.next_gives g.L.Look.passes g.L.Look.stops) c.open_nodes-levels-else-len-first.result c.loop-first.left c.leaf_len-len.result c.next.new.self (g.W.Writer.state c.loop-first.writer) c.take_items-else-len-eq0.new.items.items c.take_items-else-len-eq0.new.source c.leaf_len-len.ensures.leaf (c.take_items-else-len-eq0.ensures.few c.if-not-take_items-2.true) (c.take_items-else-len-eq0.ensures.short c.if-not-take_items-2.true) in
+    next_fault (layout_of g.K.Portable.kind g.V.Portable.kind g.row.E) g.KU.Archive.archival g.VU.Archive.archival (both_borrowed g.BKU.Borrow.borrowed g.BVU.Borrow.borrowed) (Gives g.I.Iterator.next_gives g.L.Look.passes g.L.Look.stops) c.args.above c.args.on_last c.args.source.now (g.W.Writer.state c.args.writer.now) some {X = g.row.W-Error.Denot} c.args.claim c.open_nodes-levels-else-len-first.result c.loop-first.left (c.loop-first.taken + 1) c.wait.new.waiting.items c.wait.new.children.items c.open_nodes-levels-else-len-first.new.starts.items c.next.new.self (g.W.Writer.state c.loop-first.writer) _ c.take_items-else-len-eq0.new.source (g.W.Writer.state c.loop-first.writer) goes (inr (_, length c.take_items-else-len-eq0.new.items.items, refl, refl, omega arith, short))
 
 pub returns-in_err-next_place-clause-err : goal.returns-in_err-next_place-clause-err
 returns-in_err-next_place-clause-err g c =
@@ -221,17 +220,17 @@ returns-in_err-next_place-clause-err g c =
     let front = c.in-Some.ensures.some.0 in
     let eq = c.in-Some.ensures.some.1 in
     let inv = c.loop-first.invariant in
-    let sz = sizes (layout_of g.K.Portable.kind g.V.Portable.kind g.row.E) g.KU.Archive.archival g.VU.Archive.archival (Gives g.I.Iterator.next_gives g.L.Look.passes g.L.Look.stops) c.args.above c.args.on_last c.args.source.now (g.W.Writer.state c.args.writer.now) some c.loop-first.levels c.loop-first.left c.loop-first.taken c.loop-first.waiting.items c.loop-first.children.items c.loop-first.starts.items front c.in-Some.first c.loop-first.child c.loop-first.source (g.W.Writer.state c.loop-first.writer) inv.stands eq in
+    let sz = sizes (layout_of g.K.Portable.kind g.V.Portable.kind g.row.E) g.KU.Archive.archival g.VU.Archive.archival (both_borrowed g.BKU.Borrow.borrowed g.BVU.Borrow.borrowed) (Gives g.I.Iterator.next_gives g.L.Look.passes g.L.Look.stops) c.args.above c.args.on_last c.args.source.now (g.W.Writer.state c.args.writer.now) some c.loop-first.levels c.loop-first.left c.loop-first.taken c.loop-first.waiting.items c.loop-first.children.items c.loop-first.starts.items front c.in-Some.first c.loop-first.child c.loop-first.source (g.W.Writer.state c.loop-first.writer) inv.stands eq in
     let less : length c.loop-first.waiting.items < c.in-Some.first + g.row.E = omega (arith, c.if-len-first.false, c.len-in-Some.ensures, c.loop-first.waiting.ok.0, sz.waiting_few, sz.first_low) in
-    let goes = goes_on (layout_of g.K.Portable.kind g.V.Portable.kind g.row.E) g.KU.Archive.archival g.VU.Archive.archival (Gives g.I.Iterator.next_gives g.L.Look.passes g.L.Look.stops) c.args.above c.args.on_last c.args.source.now (g.W.Writer.state c.args.writer.now) some c.loop-first.levels c.loop-first.left c.loop-first.taken c.loop-first.waiting.items c.loop-first.children.items c.loop-first.starts.items front c.in-Some.first c.loop-first.child c.loop-first.source (g.W.Writer.state c.loop-first.writer) c.in-Some-next.entry c.next.new.self c.open_nodes-levels-else-len-first.result (c.loop-first.taken + 1) c.wait.new.waiting.items c.wait.new.children.items c.open_nodes-levels-else-len-first.new.starts.items inv.stands eq less c.in-Some-next.ensures.steps c.wait.ensures.waiting c.wait.ensures.children refl c.open_nodes-levels-else-len-first.ensures.below c.open_nodes-levels-else-len-first.ensures.inner
+    let goes = goes_on (layout_of g.K.Portable.kind g.V.Portable.kind g.row.E) g.KU.Archive.archival g.VU.Archive.archival (both_borrowed g.BKU.Borrow.borrowed g.BVU.Borrow.borrowed) (Gives g.I.Iterator.next_gives g.L.Look.passes g.L.Look.stops) c.args.above c.args.on_last c.args.source.now (g.W.Writer.state c.args.writer.now) some c.loop-first.levels c.loop-first.left c.loop-first.taken c.loop-first.waiting.items c.loop-first.children.items c.loop-first.starts.items front c.in-Some.first c.loop-first.child c.loop-first.source (g.W.Writer.state c.loop-first.writer) c.in-Some-next.entry c.next.new.self c.open_nodes-levels-else-len-first.result (c.loop-first.taken + 1) c.wait.new.waiting.items c.wait.new.children.items c.open_nodes-levels-else-len-first.new.starts.items inv.stands eq less c.in-Some-next.ensures.steps c.wait.ensures.waiting c.wait.ensures.children refl c.open_nodes-levels-else-len-first.ensures.below c.open_nodes-levels-else-len-first.ensures.inner
     (c.open_nodes-levels-else-len-first.ensures.opened ∙ ap (λ k. c.loop-first.starts.items ++ replicate (c.loop-first.levels - c.open_nodes-levels-else-len-first.result) k) (c.len-else-len-first.ensures ∙ c.wait.new.waiting.ok.0)) in
     let nodes = layout_of g.K.Portable.kind g.V.Portable.kind g.row.E in
-    let own = now_of {M = g.row.KU.Denot} {N = g.row.VU.Denot} in
+    let own = (both_borrowed g.BKU.Borrow.borrowed g.BVU.Borrow.borrowed) in
     let p = err_from_is_err_and c.from_residual-in_err-next_place.result c.from_residual-in_err-next_place.ensures.1 in
     let took = c.if-not-take_items-2.false in
     let stopped = subst (λ xs. NodeStopped nodes g.KU.Archive.archival g.VU.Archive.archival {E = g.row.W-Error.Denot} (leaf_image nodes) (leaf_size nodes) (g.W.Writer.state c.loop-first.writer) (map own xs) c.in_err-next_place.field-0.0 (g.W.Writer.state c.write_leaf-else-len-eq0.new.writer)) c.deref-else-len-eq0.ensures.value c.in_err-next_place.ensures.err in
-    let next = next_leaf_stopped (layout_of g.K.Portable.kind g.V.Portable.kind g.row.E) g.KU.Archive.archival g.VU.Archive.archival (Gives g.I.Iterator.next_gives g.L.Look.passes g.L.Look.stops) c.open_nodes-levels-else-len-first.result c.loop-first.left c.leaf_len-len.result c.next.new.self (g.W.Writer.state c.loop-first.writer) c.take_items-else-len-eq0.new.items.items c.take_items-else-len-eq0.new.source c.in_err-next_place.field-0.0 (g.W.Writer.state c.write_leaf-else-len-eq0.new.writer) c.leaf_len-len.ensures.leaf (omega (arith, c.if-len-eq0.false)) c.leaf_len-len.ensures.few (c.take_items-else-len-eq0.ensures.all took) (c.take_items-else-len-eq0.ensures.len took) stopped in
-    rw (p.1, p.2) (next_fault (layout_of g.K.Portable.kind g.V.Portable.kind g.row.E) g.KU.Archive.archival g.VU.Archive.archival (Gives g.I.Iterator.next_gives g.L.Look.passes g.L.Look.stops) c.args.above c.args.on_last c.args.source.now (g.W.Writer.state c.args.writer.now) some c.args.claim c.open_nodes-levels-else-len-first.result c.loop-first.left (c.loop-first.taken + 1) c.wait.new.waiting.items c.wait.new.children.items c.open_nodes-levels-else-len-first.new.starts.items c.next.new.self (g.W.Writer.state c.loop-first.writer) c.in_err-next_place.field-0.0 c.take_items-else-len-eq0.new.source (g.W.Writer.state c.write_leaf-else-len-eq0.new.writer) goes (inl next))
+    let next = next_leaf_stopped (layout_of g.K.Portable.kind g.V.Portable.kind g.row.E) g.KU.Archive.archival g.VU.Archive.archival (both_borrowed g.BKU.Borrow.borrowed g.BVU.Borrow.borrowed) (Gives g.I.Iterator.next_gives g.L.Look.passes g.L.Look.stops) c.open_nodes-levels-else-len-first.result c.loop-first.left c.leaf_len-len.result c.next.new.self (g.W.Writer.state c.loop-first.writer) c.take_items-else-len-eq0.new.items.items c.take_items-else-len-eq0.new.source c.in_err-next_place.field-0.0 (g.W.Writer.state c.write_leaf-else-len-eq0.new.writer) c.leaf_len-len.ensures.leaf (omega (arith, c.if-len-eq0.false)) c.leaf_len-len.ensures.few (c.take_items-else-len-eq0.ensures.all took) (c.take_items-else-len-eq0.ensures.len took) stopped in
+    rw (p.1, p.2) (next_fault (layout_of g.K.Portable.kind g.V.Portable.kind g.row.E) g.KU.Archive.archival g.VU.Archive.archival (both_borrowed g.BKU.Borrow.borrowed g.BVU.Borrow.borrowed) (Gives g.I.Iterator.next_gives g.L.Look.passes g.L.Look.stops) c.args.above c.args.on_last c.args.source.now (g.W.Writer.state c.args.writer.now) some c.args.claim c.open_nodes-levels-else-len-first.result c.loop-first.left (c.loop-first.taken + 1) c.wait.new.waiting.items c.wait.new.children.items c.open_nodes-levels-else-len-first.new.starts.items c.next.new.self (g.W.Writer.state c.loop-first.writer) c.in_err-next_place.field-0.0 c.take_items-else-len-eq0.new.source (g.W.Writer.state c.write_leaf-else-len-eq0.new.writer) goes (inl next))
 
 pub loop-first-smaller : goal.loop-first-smaller
 loop-first-smaller g c =
@@ -239,13 +238,13 @@ loop-first-smaller g c =
     let front = c.in-Some.ensures.some.0 in
     let eq = c.in-Some.ensures.some.1 in
     let inv = c.loop-first.invariant in
-    let sz = sizes (layout_of g.K.Portable.kind g.V.Portable.kind g.row.E) g.KU.Archive.archival g.VU.Archive.archival (Gives g.I.Iterator.next_gives g.L.Look.passes g.L.Look.stops) c.args.above c.args.on_last c.args.source.now (g.W.Writer.state c.args.writer.now) some c.loop-first.levels c.loop-first.left c.loop-first.taken c.loop-first.waiting.items c.loop-first.children.items c.loop-first.starts.items front c.in-Some.first c.loop-first.child c.loop-first.source (g.W.Writer.state c.loop-first.writer) inv.stands eq in
+    let sz = sizes (layout_of g.K.Portable.kind g.V.Portable.kind g.row.E) g.KU.Archive.archival g.VU.Archive.archival (both_borrowed g.BKU.Borrow.borrowed g.BVU.Borrow.borrowed) (Gives g.I.Iterator.next_gives g.L.Look.passes g.L.Look.stops) c.args.above c.args.on_last c.args.source.now (g.W.Writer.state c.args.writer.now) some c.loop-first.levels c.loop-first.left c.loop-first.taken c.loop-first.waiting.items c.loop-first.children.items c.loop-first.starts.items front c.in-Some.first c.loop-first.child c.loop-first.source (g.W.Writer.state c.loop-first.writer) inv.stands eq in
     let less : length c.loop-first.waiting.items < c.in-Some.first + g.row.E = omega (arith, c.if-len-first.false, c.len-in-Some.ensures, c.loop-first.waiting.ok.0, sz.waiting_few, sz.first_low) in
     let claimed = all_claimed g.row.E c.args.above c.args.on_last c.args.claim c.requires.claim c.requires.most in
-    let goes = goes_on (layout_of g.K.Portable.kind g.V.Portable.kind g.row.E) g.KU.Archive.archival g.VU.Archive.archival (Gives g.I.Iterator.next_gives g.L.Look.passes g.L.Look.stops) c.args.above c.args.on_last c.args.source.now (g.W.Writer.state c.args.writer.now) some c.loop-first.levels c.loop-first.left c.loop-first.taken c.loop-first.waiting.items c.loop-first.children.items c.loop-first.starts.items front c.in-Some.first c.loop-first.child c.loop-first.source (g.W.Writer.state c.loop-first.writer) c.in-Some-next.entry c.next.new.self c.open_nodes-levels-else-len-first.result (c.loop-first.taken + 1) c.wait.new.waiting.items c.wait.new.children.items c.open_nodes-levels-else-len-first.new.starts.items inv.stands eq less c.in-Some-next.ensures.steps c.wait.ensures.waiting c.wait.ensures.children refl c.open_nodes-levels-else-len-first.ensures.below c.open_nodes-levels-else-len-first.ensures.inner
+    let goes = goes_on (layout_of g.K.Portable.kind g.V.Portable.kind g.row.E) g.KU.Archive.archival g.VU.Archive.archival (both_borrowed g.BKU.Borrow.borrowed g.BVU.Borrow.borrowed) (Gives g.I.Iterator.next_gives g.L.Look.passes g.L.Look.stops) c.args.above c.args.on_last c.args.source.now (g.W.Writer.state c.args.writer.now) some c.loop-first.levels c.loop-first.left c.loop-first.taken c.loop-first.waiting.items c.loop-first.children.items c.loop-first.starts.items front c.in-Some.first c.loop-first.child c.loop-first.source (g.W.Writer.state c.loop-first.writer) c.in-Some-next.entry c.next.new.self c.open_nodes-levels-else-len-first.result (c.loop-first.taken + 1) c.wait.new.waiting.items c.wait.new.children.items c.open_nodes-levels-else-len-first.new.starts.items inv.stands eq less c.in-Some-next.ensures.steps c.wait.ensures.waiting c.wait.ensures.children refl c.open_nodes-levels-else-len-first.ensures.below c.open_nodes-levels-else-len-first.ensures.inner
     (c.open_nodes-levels-else-len-first.ensures.opened ∙ ap (λ k. c.loop-first.starts.items ++ replicate (c.loop-first.levels - c.open_nodes-levels-else-len-first.result) k) (c.len-else-len-first.ensures ∙ c.wait.new.waiting.ok.0)) in
-    let room = goes_room (layout_of g.K.Portable.kind g.V.Portable.kind g.row.E) g.KU.Archive.archival g.VU.Archive.archival (Gives g.I.Iterator.next_gives g.L.Look.passes g.L.Look.stops) c.args.above c.args.on_last c.args.source.now (g.W.Writer.state c.args.writer.now) some c.open_nodes-levels-else-len-first.result c.loop-first.left (c.loop-first.taken + 1) c.leaf_len-len.result c.wait.new.waiting.items c.wait.new.children.items c.open_nodes-levels-else-len-first.new.starts.items c.next.new.self (g.W.Writer.state c.loop-first.writer) goes c.leaf_len-len.ensures.leaf in
-    let room2 = goes_counts (layout_of g.K.Portable.kind g.V.Portable.kind g.row.E) g.KU.Archive.archival g.VU.Archive.archival (Gives g.I.Iterator.next_gives g.L.Look.passes g.L.Look.stops) c.args.above c.args.on_last c.args.source.now (g.W.Writer.state c.args.writer.now) some c.open_nodes-levels-else-len-first.result c.loop-first.left (c.loop-first.taken + 1) c.wait.new.waiting.items c.wait.new.children.items c.open_nodes-levels-else-len-first.new.starts.items c.next.new.self (g.W.Writer.state c.loop-first.writer) goes in
+    let room = goes_room (layout_of g.K.Portable.kind g.V.Portable.kind g.row.E) g.KU.Archive.archival g.VU.Archive.archival (both_borrowed g.BKU.Borrow.borrowed g.BVU.Borrow.borrowed) (Gives g.I.Iterator.next_gives g.L.Look.passes g.L.Look.stops) c.args.above c.args.on_last c.args.source.now (g.W.Writer.state c.args.writer.now) some c.open_nodes-levels-else-len-first.result c.loop-first.left (c.loop-first.taken + 1) c.leaf_len-len.result c.wait.new.waiting.items c.wait.new.children.items c.open_nodes-levels-else-len-first.new.starts.items c.next.new.self (g.W.Writer.state c.loop-first.writer) goes c.leaf_len-len.ensures.leaf in
+    let room2 = goes_counts (layout_of g.K.Portable.kind g.V.Portable.kind g.row.E) g.KU.Archive.archival g.VU.Archive.archival (both_borrowed g.BKU.Borrow.borrowed g.BVU.Borrow.borrowed) (Gives g.I.Iterator.next_gives g.L.Look.passes g.L.Look.stops) c.args.above c.args.on_last c.args.source.now (g.W.Writer.state c.args.writer.now) some c.open_nodes-levels-else-len-first.result c.loop-first.left (c.loop-first.taken + 1) c.wait.new.waiting.items c.wait.new.children.items c.open_nodes-levels-else-len-first.new.starts.items c.next.new.self (g.W.Writer.state c.loop-first.writer) goes in
     turn_taken c.args.claim c.loop-first.taken c.leaf_len-len.result c.args.above (length c.loop-first.starts.items) (length c.open_nodes-levels-else-len-first.new.starts.items) (omega (arith, room, claimed)) (omega (arith, room2))
 
 pub loop-first-smaller-then-len-eq0 : goal.loop-first-smaller-then-len-eq0
@@ -254,13 +253,13 @@ loop-first-smaller-then-len-eq0 g c =
     let front = c.in-Some.ensures.some.0 in
     let eq = c.in-Some.ensures.some.1 in
     let inv = c.loop-first.invariant in
-    let sz = sizes (layout_of g.K.Portable.kind g.V.Portable.kind g.row.E) g.KU.Archive.archival g.VU.Archive.archival (Gives g.I.Iterator.next_gives g.L.Look.passes g.L.Look.stops) c.args.above c.args.on_last c.args.source.now (g.W.Writer.state c.args.writer.now) some c.loop-first.levels c.loop-first.left c.loop-first.taken c.loop-first.waiting.items c.loop-first.children.items c.loop-first.starts.items front c.in-Some.first c.loop-first.child c.loop-first.source (g.W.Writer.state c.loop-first.writer) inv.stands eq in
+    let sz = sizes (layout_of g.K.Portable.kind g.V.Portable.kind g.row.E) g.KU.Archive.archival g.VU.Archive.archival (both_borrowed g.BKU.Borrow.borrowed g.BVU.Borrow.borrowed) (Gives g.I.Iterator.next_gives g.L.Look.passes g.L.Look.stops) c.args.above c.args.on_last c.args.source.now (g.W.Writer.state c.args.writer.now) some c.loop-first.levels c.loop-first.left c.loop-first.taken c.loop-first.waiting.items c.loop-first.children.items c.loop-first.starts.items front c.in-Some.first c.loop-first.child c.loop-first.source (g.W.Writer.state c.loop-first.writer) inv.stands eq in
     let less : length c.loop-first.waiting.items < c.in-Some.first + g.row.E = omega (arith, c.if-len-first.false, c.len-in-Some.ensures, c.loop-first.waiting.ok.0, sz.waiting_few, sz.first_low) in
     let claimed = all_claimed g.row.E c.args.above c.args.on_last c.args.claim c.requires.claim c.requires.most in
-    let goes = goes_on (layout_of g.K.Portable.kind g.V.Portable.kind g.row.E) g.KU.Archive.archival g.VU.Archive.archival (Gives g.I.Iterator.next_gives g.L.Look.passes g.L.Look.stops) c.args.above c.args.on_last c.args.source.now (g.W.Writer.state c.args.writer.now) some c.loop-first.levels c.loop-first.left c.loop-first.taken c.loop-first.waiting.items c.loop-first.children.items c.loop-first.starts.items front c.in-Some.first c.loop-first.child c.loop-first.source (g.W.Writer.state c.loop-first.writer) c.in-Some-next.entry c.next.new.self c.open_nodes-levels-else-len-first.result (c.loop-first.taken + 1) c.wait.new.waiting.items c.wait.new.children.items c.open_nodes-levels-else-len-first.new.starts.items inv.stands eq less c.in-Some-next.ensures.steps c.wait.ensures.waiting c.wait.ensures.children refl c.open_nodes-levels-else-len-first.ensures.below c.open_nodes-levels-else-len-first.ensures.inner
+    let goes = goes_on (layout_of g.K.Portable.kind g.V.Portable.kind g.row.E) g.KU.Archive.archival g.VU.Archive.archival (both_borrowed g.BKU.Borrow.borrowed g.BVU.Borrow.borrowed) (Gives g.I.Iterator.next_gives g.L.Look.passes g.L.Look.stops) c.args.above c.args.on_last c.args.source.now (g.W.Writer.state c.args.writer.now) some c.loop-first.levels c.loop-first.left c.loop-first.taken c.loop-first.waiting.items c.loop-first.children.items c.loop-first.starts.items front c.in-Some.first c.loop-first.child c.loop-first.source (g.W.Writer.state c.loop-first.writer) c.in-Some-next.entry c.next.new.self c.open_nodes-levels-else-len-first.result (c.loop-first.taken + 1) c.wait.new.waiting.items c.wait.new.children.items c.open_nodes-levels-else-len-first.new.starts.items inv.stands eq less c.in-Some-next.ensures.steps c.wait.ensures.waiting c.wait.ensures.children refl c.open_nodes-levels-else-len-first.ensures.below c.open_nodes-levels-else-len-first.ensures.inner
     (c.open_nodes-levels-else-len-first.ensures.opened ∙ ap (λ k. c.loop-first.starts.items ++ replicate (c.loop-first.levels - c.open_nodes-levels-else-len-first.result) k) (c.len-else-len-first.ensures ∙ c.wait.new.waiting.ok.0)) in
-    let room = goes_room (layout_of g.K.Portable.kind g.V.Portable.kind g.row.E) g.KU.Archive.archival g.VU.Archive.archival (Gives g.I.Iterator.next_gives g.L.Look.passes g.L.Look.stops) c.args.above c.args.on_last c.args.source.now (g.W.Writer.state c.args.writer.now) some c.open_nodes-levels-else-len-first.result c.loop-first.left (c.loop-first.taken + 1) c.leaf_len-len.result c.wait.new.waiting.items c.wait.new.children.items c.open_nodes-levels-else-len-first.new.starts.items c.next.new.self (g.W.Writer.state c.loop-first.writer) goes c.leaf_len-len.ensures.leaf in
-    let room2 = goes_counts (layout_of g.K.Portable.kind g.V.Portable.kind g.row.E) g.KU.Archive.archival g.VU.Archive.archival (Gives g.I.Iterator.next_gives g.L.Look.passes g.L.Look.stops) c.args.above c.args.on_last c.args.source.now (g.W.Writer.state c.args.writer.now) some c.open_nodes-levels-else-len-first.result c.loop-first.left (c.loop-first.taken + 1) c.wait.new.waiting.items c.wait.new.children.items c.open_nodes-levels-else-len-first.new.starts.items c.next.new.self (g.W.Writer.state c.loop-first.writer) goes in
+    let room = goes_room (layout_of g.K.Portable.kind g.V.Portable.kind g.row.E) g.KU.Archive.archival g.VU.Archive.archival (both_borrowed g.BKU.Borrow.borrowed g.BVU.Borrow.borrowed) (Gives g.I.Iterator.next_gives g.L.Look.passes g.L.Look.stops) c.args.above c.args.on_last c.args.source.now (g.W.Writer.state c.args.writer.now) some c.open_nodes-levels-else-len-first.result c.loop-first.left (c.loop-first.taken + 1) c.leaf_len-len.result c.wait.new.waiting.items c.wait.new.children.items c.open_nodes-levels-else-len-first.new.starts.items c.next.new.self (g.W.Writer.state c.loop-first.writer) goes c.leaf_len-len.ensures.leaf in
+    let room2 = goes_counts (layout_of g.K.Portable.kind g.V.Portable.kind g.row.E) g.KU.Archive.archival g.VU.Archive.archival (both_borrowed g.BKU.Borrow.borrowed g.BVU.Borrow.borrowed) (Gives g.I.Iterator.next_gives g.L.Look.passes g.L.Look.stops) c.args.above c.args.on_last c.args.source.now (g.W.Writer.state c.args.writer.now) some c.open_nodes-levels-else-len-first.result c.loop-first.left (c.loop-first.taken + 1) c.wait.new.waiting.items c.wait.new.children.items c.open_nodes-levels-else-len-first.new.starts.items c.next.new.self (g.W.Writer.state c.loop-first.writer) goes in
     turn_entry c.args.claim c.loop-first.taken c.args.above (length c.loop-first.starts.items) (length c.open_nodes-levels-else-len-first.new.starts.items) (omega (arith, room, claimed)) (omega (arith, room2))
 
 pub loop-first-preserved : goal.loop-first-preserved
@@ -269,17 +268,17 @@ loop-first-preserved g c =
     let front = c.in-Some.ensures.some.0 in
     let eq = c.in-Some.ensures.some.1 in
     let inv = c.loop-first.invariant in
-    let sz = sizes (layout_of g.K.Portable.kind g.V.Portable.kind g.row.E) g.KU.Archive.archival g.VU.Archive.archival (Gives g.I.Iterator.next_gives g.L.Look.passes g.L.Look.stops) c.args.above c.args.on_last c.args.source.now (g.W.Writer.state c.args.writer.now) some c.loop-first.levels c.loop-first.left c.loop-first.taken c.loop-first.waiting.items c.loop-first.children.items c.loop-first.starts.items front c.in-Some.first c.loop-first.child c.loop-first.source (g.W.Writer.state c.loop-first.writer) inv.stands eq in
+    let sz = sizes (layout_of g.K.Portable.kind g.V.Portable.kind g.row.E) g.KU.Archive.archival g.VU.Archive.archival (both_borrowed g.BKU.Borrow.borrowed g.BVU.Borrow.borrowed) (Gives g.I.Iterator.next_gives g.L.Look.passes g.L.Look.stops) c.args.above c.args.on_last c.args.source.now (g.W.Writer.state c.args.writer.now) some c.loop-first.levels c.loop-first.left c.loop-first.taken c.loop-first.waiting.items c.loop-first.children.items c.loop-first.starts.items front c.in-Some.first c.loop-first.child c.loop-first.source (g.W.Writer.state c.loop-first.writer) inv.stands eq in
     let less : length c.loop-first.waiting.items < c.in-Some.first + g.row.E = omega (arith, c.if-len-first.false, c.len-in-Some.ensures, c.loop-first.waiting.ok.0, sz.waiting_few, sz.first_low) in
-    let goes = goes_on (layout_of g.K.Portable.kind g.V.Portable.kind g.row.E) g.KU.Archive.archival g.VU.Archive.archival (Gives g.I.Iterator.next_gives g.L.Look.passes g.L.Look.stops) c.args.above c.args.on_last c.args.source.now (g.W.Writer.state c.args.writer.now) some c.loop-first.levels c.loop-first.left c.loop-first.taken c.loop-first.waiting.items c.loop-first.children.items c.loop-first.starts.items front c.in-Some.first c.loop-first.child c.loop-first.source (g.W.Writer.state c.loop-first.writer) c.in-Some-next.entry c.next.new.self c.open_nodes-levels-else-len-first.result (c.loop-first.taken + 1) c.wait.new.waiting.items c.wait.new.children.items c.open_nodes-levels-else-len-first.new.starts.items inv.stands eq less c.in-Some-next.ensures.steps c.wait.ensures.waiting c.wait.ensures.children refl c.open_nodes-levels-else-len-first.ensures.below c.open_nodes-levels-else-len-first.ensures.inner
+    let goes = goes_on (layout_of g.K.Portable.kind g.V.Portable.kind g.row.E) g.KU.Archive.archival g.VU.Archive.archival (both_borrowed g.BKU.Borrow.borrowed g.BVU.Borrow.borrowed) (Gives g.I.Iterator.next_gives g.L.Look.passes g.L.Look.stops) c.args.above c.args.on_last c.args.source.now (g.W.Writer.state c.args.writer.now) some c.loop-first.levels c.loop-first.left c.loop-first.taken c.loop-first.waiting.items c.loop-first.children.items c.loop-first.starts.items front c.in-Some.first c.loop-first.child c.loop-first.source (g.W.Writer.state c.loop-first.writer) c.in-Some-next.entry c.next.new.self c.open_nodes-levels-else-len-first.result (c.loop-first.taken + 1) c.wait.new.waiting.items c.wait.new.children.items c.open_nodes-levels-else-len-first.new.starts.items inv.stands eq less c.in-Some-next.ensures.steps c.wait.ensures.waiting c.wait.ensures.children refl c.open_nodes-levels-else-len-first.ensures.below c.open_nodes-levels-else-len-first.ensures.inner
     (c.open_nodes-levels-else-len-first.ensures.opened ∙ ap (λ k. c.loop-first.starts.items ++ replicate (c.loop-first.levels - c.open_nodes-levels-else-len-first.result) k) (c.len-else-len-first.ensures ∙ c.wait.new.waiting.ok.0)) in
     let nodes = layout_of g.K.Portable.kind g.V.Portable.kind g.row.E in
-    let own = now_of {M = g.row.KU.Denot} {N = g.row.VU.Denot} in
+    let own = (both_borrowed g.BKU.Borrow.borrowed g.BVU.Borrow.borrowed) in
     let took = c.if-not-take_items-2.false in
     let written = subst (λ xs. NodeWritten nodes g.KU.Archive.archival g.VU.Archive.archival (leaf_image nodes) (leaf_size nodes) (g.W.Writer.state c.loop-first.writer) (map own xs) c.in_ok-next_place.next_place (g.W.Writer.state c.write_leaf-else-len-eq0.new.writer)) c.deref-else-len-eq0.ensures.value c.in_ok-next_place.ensures.ok in
-    let next = next_leaf (layout_of g.K.Portable.kind g.V.Portable.kind g.row.E) g.KU.Archive.archival g.VU.Archive.archival (Gives g.I.Iterator.next_gives g.L.Look.passes g.L.Look.stops) c.open_nodes-levels-else-len-first.result c.loop-first.left c.leaf_len-len.result c.next.new.self (g.W.Writer.state c.loop-first.writer) c.take_items-else-len-eq0.new.items.items c.take_items-else-len-eq0.new.source c.in_ok-next_place.next_place (g.W.Writer.state c.write_leaf-else-len-eq0.new.writer) c.leaf_len-len.ensures.leaf (omega (arith, c.if-len-eq0.false)) c.leaf_len-len.ensures.few (c.take_items-else-len-eq0.ensures.all took) (c.take_items-else-len-eq0.ensures.len took) written in
+    let next = next_leaf (layout_of g.K.Portable.kind g.V.Portable.kind g.row.E) g.KU.Archive.archival g.VU.Archive.archival (both_borrowed g.BKU.Borrow.borrowed g.BVU.Borrow.borrowed) (Gives g.I.Iterator.next_gives g.L.Look.passes g.L.Look.stops) c.open_nodes-levels-else-len-first.result c.loop-first.left c.leaf_len-len.result c.next.new.self (g.W.Writer.state c.loop-first.writer) c.take_items-else-len-eq0.new.items.items c.take_items-else-len-eq0.new.source c.in_ok-next_place.next_place (g.W.Writer.state c.write_leaf-else-len-eq0.new.writer) c.leaf_len-len.ensures.leaf (omega (arith, c.if-len-eq0.false)) c.leaf_len-len.ensures.few (c.take_items-else-len-eq0.ensures.all took) (c.take_items-else-len-eq0.ensures.len took) written in
     record {
-      stands = stands_next (layout_of g.K.Portable.kind g.V.Portable.kind g.row.E) g.KU.Archive.archival g.VU.Archive.archival (Gives g.I.Iterator.next_gives g.L.Look.passes g.L.Look.stops) c.args.above c.args.on_last c.args.source.now (g.W.Writer.state c.args.writer.now) some c.open_nodes-levels-else-len-first.result c.loop-first.left (c.loop-first.taken + 1) c.leaf_len-len.result c.wait.new.waiting.items c.wait.new.children.items c.open_nodes-levels-else-len-first.new.starts.items c.next.new.self (g.W.Writer.state c.loop-first.writer) (Some c.in_ok-next_place.next_place) c.take_items-else-len-eq0.new.source (g.W.Writer.state c.write_leaf-else-len-eq0.new.writer) c.saturating_sub-left-else-len-eq0.result (c.loop-first.taken + 1 + c.leaf_len-len.result) goes c.leaf_len-len.ensures.leaf next c.saturating_sub-left-else-len-eq0.ensures refl;
+      stands = stands_next (layout_of g.K.Portable.kind g.V.Portable.kind g.row.E) g.KU.Archive.archival g.VU.Archive.archival (both_borrowed g.BKU.Borrow.borrowed g.BVU.Borrow.borrowed) (Gives g.I.Iterator.next_gives g.L.Look.passes g.L.Look.stops) c.args.above c.args.on_last c.args.source.now (g.W.Writer.state c.args.writer.now) some c.open_nodes-levels-else-len-first.result c.loop-first.left (c.loop-first.taken + 1) c.leaf_len-len.result c.wait.new.waiting.items c.wait.new.children.items c.open_nodes-levels-else-len-first.new.starts.items c.next.new.self (g.W.Writer.state c.loop-first.writer) (Some c.in_ok-next_place.next_place) c.take_items-else-len-eq0.new.source (g.W.Writer.state c.write_leaf-else-len-eq0.new.writer) c.saturating_sub-left-else-len-eq0.result (c.loop-first.taken + 1 + c.leaf_len-len.result) goes c.leaf_len-len.ensures.leaf next c.saturating_sub-left-else-len-eq0.ensures refl;
       free = c.in_ok-next_place.ensures.free;
       waiting_room = omega (arith, inv.waiting_room, c.wait.ensures.room.0);
       child_room = omega (arith, inv.child_room, c.wait.ensures.room.1);
@@ -297,15 +296,15 @@ loop-first-preserved-then-len-eq0 g c =
     let front = c.in-Some.ensures.some.0 in
     let eq = c.in-Some.ensures.some.1 in
     let inv = c.loop-first.invariant in
-    let sz = sizes (layout_of g.K.Portable.kind g.V.Portable.kind g.row.E) g.KU.Archive.archival g.VU.Archive.archival (Gives g.I.Iterator.next_gives g.L.Look.passes g.L.Look.stops) c.args.above c.args.on_last c.args.source.now (g.W.Writer.state c.args.writer.now) some c.loop-first.levels c.loop-first.left c.loop-first.taken c.loop-first.waiting.items c.loop-first.children.items c.loop-first.starts.items front c.in-Some.first c.loop-first.child c.loop-first.source (g.W.Writer.state c.loop-first.writer) inv.stands eq in
+    let sz = sizes (layout_of g.K.Portable.kind g.V.Portable.kind g.row.E) g.KU.Archive.archival g.VU.Archive.archival (both_borrowed g.BKU.Borrow.borrowed g.BVU.Borrow.borrowed) (Gives g.I.Iterator.next_gives g.L.Look.passes g.L.Look.stops) c.args.above c.args.on_last c.args.source.now (g.W.Writer.state c.args.writer.now) some c.loop-first.levels c.loop-first.left c.loop-first.taken c.loop-first.waiting.items c.loop-first.children.items c.loop-first.starts.items front c.in-Some.first c.loop-first.child c.loop-first.source (g.W.Writer.state c.loop-first.writer) inv.stands eq in
     let less : length c.loop-first.waiting.items < c.in-Some.first + g.row.E = omega (arith, c.if-len-first.false, c.len-in-Some.ensures, c.loop-first.waiting.ok.0, sz.waiting_few, sz.first_low) in
-    let goes = goes_on (layout_of g.K.Portable.kind g.V.Portable.kind g.row.E) g.KU.Archive.archival g.VU.Archive.archival (Gives g.I.Iterator.next_gives g.L.Look.passes g.L.Look.stops) c.args.above c.args.on_last c.args.source.now (g.W.Writer.state c.args.writer.now) some c.loop-first.levels c.loop-first.left c.loop-first.taken c.loop-first.waiting.items c.loop-first.children.items c.loop-first.starts.items front c.in-Some.first c.loop-first.child c.loop-first.source (g.W.Writer.state c.loop-first.writer) c.in-Some-next.entry c.next.new.self c.open_nodes-levels-else-len-first.result (c.loop-first.taken + 1) c.wait.new.waiting.items c.wait.new.children.items c.open_nodes-levels-else-len-first.new.starts.items inv.stands eq less c.in-Some-next.ensures.steps c.wait.ensures.waiting c.wait.ensures.children refl c.open_nodes-levels-else-len-first.ensures.below c.open_nodes-levels-else-len-first.ensures.inner
+    let goes = goes_on (layout_of g.K.Portable.kind g.V.Portable.kind g.row.E) g.KU.Archive.archival g.VU.Archive.archival (both_borrowed g.BKU.Borrow.borrowed g.BVU.Borrow.borrowed) (Gives g.I.Iterator.next_gives g.L.Look.passes g.L.Look.stops) c.args.above c.args.on_last c.args.source.now (g.W.Writer.state c.args.writer.now) some c.loop-first.levels c.loop-first.left c.loop-first.taken c.loop-first.waiting.items c.loop-first.children.items c.loop-first.starts.items front c.in-Some.first c.loop-first.child c.loop-first.source (g.W.Writer.state c.loop-first.writer) c.in-Some-next.entry c.next.new.self c.open_nodes-levels-else-len-first.result (c.loop-first.taken + 1) c.wait.new.waiting.items c.wait.new.children.items c.open_nodes-levels-else-len-first.new.starts.items inv.stands eq less c.in-Some-next.ensures.steps c.wait.ensures.waiting c.wait.ensures.children refl c.open_nodes-levels-else-len-first.ensures.below c.open_nodes-levels-else-len-first.ensures.inner
     (c.open_nodes-levels-else-len-first.ensures.opened ∙ ap (λ k. c.loop-first.starts.items ++ replicate (c.loop-first.levels - c.open_nodes-levels-else-len-first.result) k) (c.len-else-len-first.ensures ∙ c.wait.new.waiting.ok.0)) in
     let on = c.in-Some-next.ensures.goes.on inv.ends in
     let none : c.leaf_len-len.result ≡ 0 = c.if-len-eq0.true in
-    let next = next_absent (layout_of g.K.Portable.kind g.V.Portable.kind g.row.E) g.KU.Archive.archival g.VU.Archive.archival (Gives g.I.Iterator.next_gives g.L.Look.passes g.L.Look.stops) c.open_nodes-levels-else-len-first.result c.loop-first.left c.leaf_len-len.result c.next.new.self (g.W.Writer.state c.loop-first.writer) some c.leaf_len-len.ensures.leaf none in
+    let next = next_absent (layout_of g.K.Portable.kind g.V.Portable.kind g.row.E) g.KU.Archive.archival g.VU.Archive.archival (both_borrowed g.BKU.Borrow.borrowed g.BVU.Borrow.borrowed) (Gives g.I.Iterator.next_gives g.L.Look.passes g.L.Look.stops) c.open_nodes-levels-else-len-first.result c.loop-first.left c.leaf_len-len.result c.next.new.self (g.W.Writer.state c.loop-first.writer) some c.leaf_len-len.ensures.leaf none in
     record {
-      stands = stands_next (layout_of g.K.Portable.kind g.V.Portable.kind g.row.E) g.KU.Archive.archival g.VU.Archive.archival (Gives g.I.Iterator.next_gives g.L.Look.passes g.L.Look.stops) c.args.above c.args.on_last c.args.source.now (g.W.Writer.state c.args.writer.now) some c.open_nodes-levels-else-len-first.result c.loop-first.left (c.loop-first.taken + 1) c.leaf_len-len.result c.wait.new.waiting.items c.wait.new.children.items c.open_nodes-levels-else-len-first.new.starts.items c.next.new.self (g.W.Writer.state c.loop-first.writer) None c.next.new.self (g.W.Writer.state c.loop-first.writer) c.loop-first.left (c.loop-first.taken + 1) goes c.leaf_len-len.ensures.leaf next (none_left g.row.E c.open_nodes-levels-else-len-first.result c.loop-first.left c.leaf_len-len.result some c.leaf_len-len.ensures.leaf none) (omega (arith, none));
+      stands = stands_next (layout_of g.K.Portable.kind g.V.Portable.kind g.row.E) g.KU.Archive.archival g.VU.Archive.archival (both_borrowed g.BKU.Borrow.borrowed g.BVU.Borrow.borrowed) (Gives g.I.Iterator.next_gives g.L.Look.passes g.L.Look.stops) c.args.above c.args.on_last c.args.source.now (g.W.Writer.state c.args.writer.now) some c.open_nodes-levels-else-len-first.result c.loop-first.left (c.loop-first.taken + 1) c.leaf_len-len.result c.wait.new.waiting.items c.wait.new.children.items c.open_nodes-levels-else-len-first.new.starts.items c.next.new.self (g.W.Writer.state c.loop-first.writer) None c.next.new.self (g.W.Writer.state c.loop-first.writer) c.loop-first.left (c.loop-first.taken + 1) goes c.leaf_len-len.ensures.leaf next (none_left g.row.E c.open_nodes-levels-else-len-first.result c.loop-first.left c.leaf_len-len.result some c.leaf_len-len.ensures.leaf none) (omega (arith, none));
       free = inv.free;
       waiting_room = omega (arith, inv.waiting_room, c.wait.ensures.room.0);
       child_room = omega (arith, inv.child_room, c.wait.ensures.room.1);
@@ -323,13 +322,13 @@ overflow_add-result g c =
     let front = c.in-Some.ensures.some.0 in
     let eq = c.in-Some.ensures.some.1 in
     let inv = c.loop-first.invariant in
-    let sz = sizes (layout_of g.K.Portable.kind g.V.Portable.kind g.row.E) g.KU.Archive.archival g.VU.Archive.archival (Gives g.I.Iterator.next_gives g.L.Look.passes g.L.Look.stops) c.args.above c.args.on_last c.args.source.now (g.W.Writer.state c.args.writer.now) some c.loop-first.levels c.loop-first.left c.loop-first.taken c.loop-first.waiting.items c.loop-first.children.items c.loop-first.starts.items front c.in-Some.first c.loop-first.child c.loop-first.source (g.W.Writer.state c.loop-first.writer) inv.stands eq in
+    let sz = sizes (layout_of g.K.Portable.kind g.V.Portable.kind g.row.E) g.KU.Archive.archival g.VU.Archive.archival (both_borrowed g.BKU.Borrow.borrowed g.BVU.Borrow.borrowed) (Gives g.I.Iterator.next_gives g.L.Look.passes g.L.Look.stops) c.args.above c.args.on_last c.args.source.now (g.W.Writer.state c.args.writer.now) some c.loop-first.levels c.loop-first.left c.loop-first.taken c.loop-first.waiting.items c.loop-first.children.items c.loop-first.starts.items front c.in-Some.first c.loop-first.child c.loop-first.source (g.W.Writer.state c.loop-first.writer) inv.stands eq in
     let less : length c.loop-first.waiting.items < c.in-Some.first + g.row.E = omega (arith, c.if-len-first.false, c.len-in-Some.ensures, c.loop-first.waiting.ok.0, sz.waiting_few, sz.first_low) in
     let claimed = all_claimed g.row.E c.args.above c.args.on_last c.args.claim c.requires.claim c.requires.most in
-    let goes = goes_on (layout_of g.K.Portable.kind g.V.Portable.kind g.row.E) g.KU.Archive.archival g.VU.Archive.archival (Gives g.I.Iterator.next_gives g.L.Look.passes g.L.Look.stops) c.args.above c.args.on_last c.args.source.now (g.W.Writer.state c.args.writer.now) some c.loop-first.levels c.loop-first.left c.loop-first.taken c.loop-first.waiting.items c.loop-first.children.items c.loop-first.starts.items front c.in-Some.first c.loop-first.child c.loop-first.source (g.W.Writer.state c.loop-first.writer) c.in-Some-next.entry c.next.new.self c.open_nodes-levels-else-len-first.result (c.loop-first.taken + 1) c.wait.new.waiting.items c.wait.new.children.items c.open_nodes-levels-else-len-first.new.starts.items inv.stands eq less c.in-Some-next.ensures.steps c.wait.ensures.waiting c.wait.ensures.children refl c.open_nodes-levels-else-len-first.ensures.below c.open_nodes-levels-else-len-first.ensures.inner
+    let goes = goes_on (layout_of g.K.Portable.kind g.V.Portable.kind g.row.E) g.KU.Archive.archival g.VU.Archive.archival (both_borrowed g.BKU.Borrow.borrowed g.BVU.Borrow.borrowed) (Gives g.I.Iterator.next_gives g.L.Look.passes g.L.Look.stops) c.args.above c.args.on_last c.args.source.now (g.W.Writer.state c.args.writer.now) some c.loop-first.levels c.loop-first.left c.loop-first.taken c.loop-first.waiting.items c.loop-first.children.items c.loop-first.starts.items front c.in-Some.first c.loop-first.child c.loop-first.source (g.W.Writer.state c.loop-first.writer) c.in-Some-next.entry c.next.new.self c.open_nodes-levels-else-len-first.result (c.loop-first.taken + 1) c.wait.new.waiting.items c.wait.new.children.items c.open_nodes-levels-else-len-first.new.starts.items inv.stands eq less c.in-Some-next.ensures.steps c.wait.ensures.waiting c.wait.ensures.children refl c.open_nodes-levels-else-len-first.ensures.below c.open_nodes-levels-else-len-first.ensures.inner
     (c.open_nodes-levels-else-len-first.ensures.opened ∙ ap (λ k. c.loop-first.starts.items ++ replicate (c.loop-first.levels - c.open_nodes-levels-else-len-first.result) k) (c.len-else-len-first.ensures ∙ c.wait.new.waiting.ok.0)) in
-    let room = goes_room (layout_of g.K.Portable.kind g.V.Portable.kind g.row.E) g.KU.Archive.archival g.VU.Archive.archival (Gives g.I.Iterator.next_gives g.L.Look.passes g.L.Look.stops) c.args.above c.args.on_last c.args.source.now (g.W.Writer.state c.args.writer.now) some c.open_nodes-levels-else-len-first.result c.loop-first.left (c.loop-first.taken + 1) c.leaf_len-len.result c.wait.new.waiting.items c.wait.new.children.items c.open_nodes-levels-else-len-first.new.starts.items c.next.new.self (g.W.Writer.state c.loop-first.writer) goes c.leaf_len-len.ensures.leaf in
-    let room2 = goes_counts (layout_of g.K.Portable.kind g.V.Portable.kind g.row.E) g.KU.Archive.archival g.VU.Archive.archival (Gives g.I.Iterator.next_gives g.L.Look.passes g.L.Look.stops) c.args.above c.args.on_last c.args.source.now (g.W.Writer.state c.args.writer.now) some c.open_nodes-levels-else-len-first.result c.loop-first.left (c.loop-first.taken + 1) c.wait.new.waiting.items c.wait.new.children.items c.open_nodes-levels-else-len-first.new.starts.items c.next.new.self (g.W.Writer.state c.loop-first.writer) goes in
+    let room = goes_room (layout_of g.K.Portable.kind g.V.Portable.kind g.row.E) g.KU.Archive.archival g.VU.Archive.archival (both_borrowed g.BKU.Borrow.borrowed g.BVU.Borrow.borrowed) (Gives g.I.Iterator.next_gives g.L.Look.passes g.L.Look.stops) c.args.above c.args.on_last c.args.source.now (g.W.Writer.state c.args.writer.now) some c.open_nodes-levels-else-len-first.result c.loop-first.left (c.loop-first.taken + 1) c.leaf_len-len.result c.wait.new.waiting.items c.wait.new.children.items c.open_nodes-levels-else-len-first.new.starts.items c.next.new.self (g.W.Writer.state c.loop-first.writer) goes c.leaf_len-len.ensures.leaf in
+    let room2 = goes_counts (layout_of g.K.Portable.kind g.V.Portable.kind g.row.E) g.KU.Archive.archival g.VU.Archive.archival (both_borrowed g.BKU.Borrow.borrowed g.BVU.Borrow.borrowed) (Gives g.I.Iterator.next_gives g.L.Look.passes g.L.Look.stops) c.args.above c.args.on_last c.args.source.now (g.W.Writer.state c.args.writer.now) some c.open_nodes-levels-else-len-first.result c.loop-first.left (c.loop-first.taken + 1) c.wait.new.waiting.items c.wait.new.children.items c.open_nodes-levels-else-len-first.new.starts.items c.next.new.self (g.W.Writer.state c.loop-first.writer) goes in
     let short = c.take_items-else-len-eq0.ensures.short c.if-not-take_items-2.true in
     record { fits = fits_below _ c.args.claim (omega (arith, room, claimed, short)) c.requires.small }
 
@@ -339,13 +338,13 @@ overflow_add-taken-else-len-eq0 g c =
     let front = c.in-Some.ensures.some.0 in
     let eq = c.in-Some.ensures.some.1 in
     let inv = c.loop-first.invariant in
-    let sz = sizes (layout_of g.K.Portable.kind g.V.Portable.kind g.row.E) g.KU.Archive.archival g.VU.Archive.archival (Gives g.I.Iterator.next_gives g.L.Look.passes g.L.Look.stops) c.args.above c.args.on_last c.args.source.now (g.W.Writer.state c.args.writer.now) some c.loop-first.levels c.loop-first.left c.loop-first.taken c.loop-first.waiting.items c.loop-first.children.items c.loop-first.starts.items front c.in-Some.first c.loop-first.child c.loop-first.source (g.W.Writer.state c.loop-first.writer) inv.stands eq in
+    let sz = sizes (layout_of g.K.Portable.kind g.V.Portable.kind g.row.E) g.KU.Archive.archival g.VU.Archive.archival (both_borrowed g.BKU.Borrow.borrowed g.BVU.Borrow.borrowed) (Gives g.I.Iterator.next_gives g.L.Look.passes g.L.Look.stops) c.args.above c.args.on_last c.args.source.now (g.W.Writer.state c.args.writer.now) some c.loop-first.levels c.loop-first.left c.loop-first.taken c.loop-first.waiting.items c.loop-first.children.items c.loop-first.starts.items front c.in-Some.first c.loop-first.child c.loop-first.source (g.W.Writer.state c.loop-first.writer) inv.stands eq in
     let less : length c.loop-first.waiting.items < c.in-Some.first + g.row.E = omega (arith, c.if-len-first.false, c.len-in-Some.ensures, c.loop-first.waiting.ok.0, sz.waiting_few, sz.first_low) in
     let claimed = all_claimed g.row.E c.args.above c.args.on_last c.args.claim c.requires.claim c.requires.most in
-    let goes = goes_on (layout_of g.K.Portable.kind g.V.Portable.kind g.row.E) g.KU.Archive.archival g.VU.Archive.archival (Gives g.I.Iterator.next_gives g.L.Look.passes g.L.Look.stops) c.args.above c.args.on_last c.args.source.now (g.W.Writer.state c.args.writer.now) some c.loop-first.levels c.loop-first.left c.loop-first.taken c.loop-first.waiting.items c.loop-first.children.items c.loop-first.starts.items front c.in-Some.first c.loop-first.child c.loop-first.source (g.W.Writer.state c.loop-first.writer) c.in-Some-next.entry c.next.new.self c.open_nodes-levels-else-len-first.result (c.loop-first.taken + 1) c.wait.new.waiting.items c.wait.new.children.items c.open_nodes-levels-else-len-first.new.starts.items inv.stands eq less c.in-Some-next.ensures.steps c.wait.ensures.waiting c.wait.ensures.children refl c.open_nodes-levels-else-len-first.ensures.below c.open_nodes-levels-else-len-first.ensures.inner
+    let goes = goes_on (layout_of g.K.Portable.kind g.V.Portable.kind g.row.E) g.KU.Archive.archival g.VU.Archive.archival (both_borrowed g.BKU.Borrow.borrowed g.BVU.Borrow.borrowed) (Gives g.I.Iterator.next_gives g.L.Look.passes g.L.Look.stops) c.args.above c.args.on_last c.args.source.now (g.W.Writer.state c.args.writer.now) some c.loop-first.levels c.loop-first.left c.loop-first.taken c.loop-first.waiting.items c.loop-first.children.items c.loop-first.starts.items front c.in-Some.first c.loop-first.child c.loop-first.source (g.W.Writer.state c.loop-first.writer) c.in-Some-next.entry c.next.new.self c.open_nodes-levels-else-len-first.result (c.loop-first.taken + 1) c.wait.new.waiting.items c.wait.new.children.items c.open_nodes-levels-else-len-first.new.starts.items inv.stands eq less c.in-Some-next.ensures.steps c.wait.ensures.waiting c.wait.ensures.children refl c.open_nodes-levels-else-len-first.ensures.below c.open_nodes-levels-else-len-first.ensures.inner
     (c.open_nodes-levels-else-len-first.ensures.opened ∙ ap (λ k. c.loop-first.starts.items ++ replicate (c.loop-first.levels - c.open_nodes-levels-else-len-first.result) k) (c.len-else-len-first.ensures ∙ c.wait.new.waiting.ok.0)) in
-    let room = goes_room (layout_of g.K.Portable.kind g.V.Portable.kind g.row.E) g.KU.Archive.archival g.VU.Archive.archival (Gives g.I.Iterator.next_gives g.L.Look.passes g.L.Look.stops) c.args.above c.args.on_last c.args.source.now (g.W.Writer.state c.args.writer.now) some c.open_nodes-levels-else-len-first.result c.loop-first.left (c.loop-first.taken + 1) c.leaf_len-len.result c.wait.new.waiting.items c.wait.new.children.items c.open_nodes-levels-else-len-first.new.starts.items c.next.new.self (g.W.Writer.state c.loop-first.writer) goes c.leaf_len-len.ensures.leaf in
-    let room2 = goes_counts (layout_of g.K.Portable.kind g.V.Portable.kind g.row.E) g.KU.Archive.archival g.VU.Archive.archival (Gives g.I.Iterator.next_gives g.L.Look.passes g.L.Look.stops) c.args.above c.args.on_last c.args.source.now (g.W.Writer.state c.args.writer.now) some c.open_nodes-levels-else-len-first.result c.loop-first.left (c.loop-first.taken + 1) c.wait.new.waiting.items c.wait.new.children.items c.open_nodes-levels-else-len-first.new.starts.items c.next.new.self (g.W.Writer.state c.loop-first.writer) goes in
+    let room = goes_room (layout_of g.K.Portable.kind g.V.Portable.kind g.row.E) g.KU.Archive.archival g.VU.Archive.archival (both_borrowed g.BKU.Borrow.borrowed g.BVU.Borrow.borrowed) (Gives g.I.Iterator.next_gives g.L.Look.passes g.L.Look.stops) c.args.above c.args.on_last c.args.source.now (g.W.Writer.state c.args.writer.now) some c.open_nodes-levels-else-len-first.result c.loop-first.left (c.loop-first.taken + 1) c.leaf_len-len.result c.wait.new.waiting.items c.wait.new.children.items c.open_nodes-levels-else-len-first.new.starts.items c.next.new.self (g.W.Writer.state c.loop-first.writer) goes c.leaf_len-len.ensures.leaf in
+    let room2 = goes_counts (layout_of g.K.Portable.kind g.V.Portable.kind g.row.E) g.KU.Archive.archival g.VU.Archive.archival (both_borrowed g.BKU.Borrow.borrowed g.BVU.Borrow.borrowed) (Gives g.I.Iterator.next_gives g.L.Look.passes g.L.Look.stops) c.args.above c.args.on_last c.args.source.now (g.W.Writer.state c.args.writer.now) some c.open_nodes-levels-else-len-first.result c.loop-first.left (c.loop-first.taken + 1) c.wait.new.waiting.items c.wait.new.children.items c.open_nodes-levels-else-len-first.new.starts.items c.next.new.self (g.W.Writer.state c.loop-first.writer) goes in
     record { fits = fits_below (c.loop-first.taken + 1 + c.leaf_len-len.result) c.args.claim (omega (arith, room, claimed)) c.requires.small }
 
 pub write_leaf-requires-else-len-eq0-clause-count : goal.write_leaf-requires-else-len-eq0-clause-count
@@ -356,5 +355,5 @@ write_leaf-requires-else-len-eq0-clause-count g c =
 pub returns-clause-left : goal.returns-clause-left
 returns-clause-left g c =
     let claimed = all_claimed g.row.E c.args.above c.args.on_last c.args.claim c.requires.claim c.requires.most in
-    let all = stands_taken (layout_of g.K.Portable.kind g.V.Portable.kind g.row.E) g.KU.Archive.archival g.VU.Archive.archival (Gives g.I.Iterator.next_gives g.L.Look.passes g.L.Look.stops) c.args.above c.args.on_last c.args.source.now (g.W.Writer.state c.args.writer.now) c.loop-first.levels c.loop-first.left c.loop-first.taken c.loop-first.waiting.items c.loop-first.children.items c.loop-first.starts.items c.loop-first.child c.loop-first.source (g.W.Writer.state c.loop-first.writer) c.loop-first.invariant.stands c.in_default.ensures.none in
+    let all = stands_taken (layout_of g.K.Portable.kind g.V.Portable.kind g.row.E) g.KU.Archive.archival g.VU.Archive.archival (both_borrowed g.BKU.Borrow.borrowed g.BVU.Borrow.borrowed) (Gives g.I.Iterator.next_gives g.L.Look.passes g.L.Look.stops) c.args.above c.args.on_last c.args.source.now (g.W.Writer.state c.args.writer.now) c.loop-first.levels c.loop-first.left c.loop-first.taken c.loop-first.waiting.items c.loop-first.children.items c.loop-first.starts.items c.loop-first.child c.loop-first.source (g.W.Writer.state c.loop-first.writer) c.loop-first.invariant.stands c.in_default.ensures.none in
     omega (arith, c.loop-first.invariant.sized, all, claimed)

@@ -1,3 +1,4 @@
+use Rattle.rkyv_btree_writing_laws.specs.Entries.{both_borrowed}
 use Rattle.std.proofs.Common.{◌+◌, ◌*◌, ◌-◌, ◌≤◌, length, vec_capacity}
 use Rattle.std.specs.Iterator.{IsFinite, size}
 use Rattle.rkyv_btree_format.specs.Layout.{layout_of}
@@ -11,7 +12,7 @@ abbrev pub invariant-loop-first : goal.invariant-loop-first
 invariant-loop-first g l =
     let E = g.row.E in
     record {
-      stands : Stands (layout_of g.K.Portable.kind g.V.Portable.kind E) g.KU.Archive.archival g.VU.Archive.archival (Gives g.I.Iterator.next_gives g.L.Look.passes g.L.Look.stops) l.above l.fn.on_last l.fn.source (g.W.Writer.state l.fn.writer)
+      stands : Stands (layout_of g.K.Portable.kind g.V.Portable.kind E) g.KU.Archive.archival g.VU.Archive.archival (both_borrowed g.BKU.Borrow.borrowed g.BVU.Borrow.borrowed) (Gives g.I.Iterator.next_gives g.L.Look.passes g.L.Look.stops) l.above l.fn.on_last l.fn.source (g.W.Writer.state l.fn.writer)
           l.levels l.left l.taken l.waiting.items l.children.items l.starts.items l.child l.source (g.W.Writer.state l.writer);
       free : IsFree (layout_of g.K.Portable.kind g.V.Portable.kind E) l.scratch;
       waiting_room : E * l.above ≤ vec_capacity l.waiting;

@@ -1,12 +1,13 @@
 -- Both calls write the tree of all entries, or stop for a cause.
 use Rattle.std.proofs.Common.{length, refl}
+use Rattle.rkyv_btree_base.specs.Entries.{now_of}
 use Rattle.rkyv_btree_base.proofs.TreeSerialised.{list_serialised}
 use Rattle.rkyv_btree_ffi.proofs.Built.{drained, any_fault, strict_fault, archived_all, increasing_all, if_ok, if_err}
 use Rattle.rkyv_btree_ffi.proofs.building.write_tree.Goals as goal
 
 pub returns-in-Any-clause-serialised : goal.returns-in-Any-clause-serialised
 returns-in-Any-clause-serialised g c =
-    list_serialised 5 g.K.Portable.kind g.V.Portable.kind g.K.Native.Archive.archival g.V.Native.Archive.archival g.met.K.Native.Archive.same_kind g.met.V.Native.Archive.same_kind g.met.K.Native.Archive.lawful g.met.V.Native.Archive.lawful c.requires (λ xs. xs) c.args.natives.now c.args.writer.now c.serialize_from_ordered_iter.new.writer _ _ (length c.args.natives.now) (drained (λ e. e.rest.now) _)
+    list_serialised 5 g.K.Portable.kind g.V.Portable.kind g.K.Native.Archive.archival g.V.Native.Archive.archival g.met.K.Native.Archive.same_kind g.met.V.Native.Archive.same_kind g.met.K.Native.Archive.lawful g.met.V.Native.Archive.lawful c.requires (λ xs. xs) c.args.natives.now c.args.writer.now c.serialize_from_ordered_iter.new.writer now_of _ _ (length c.args.natives.now) (drained (λ e. e.rest.now) _)
     c.serialize_from_ordered_iter.result c.serialize_from_ordered_iter.ensures.written
 
 pub returns-in-Any-clause-archive : goal.returns-in-Any-clause-archive
@@ -20,7 +21,7 @@ returns-in-Any-clause-err g c =
 
 pub returns-in-Increasing-clause-serialised : goal.returns-in-Increasing-clause-serialised
 returns-in-Increasing-clause-serialised g c =
-    list_serialised 5 g.K.Portable.kind g.V.Portable.kind g.K.Native.Archive.archival g.V.Native.Archive.archival g.met.K.Native.Archive.same_kind g.met.V.Native.Archive.same_kind g.met.K.Native.Archive.lawful g.met.V.Native.Archive.lawful c.requires (λ xs. xs) c.args.natives.now c.args.writer.now c.serialize_strict_from_ordered_iter.new.writer _ _ (length c.args.natives.now) (drained (λ e. e.rest.now) _)
+    list_serialised 5 g.K.Portable.kind g.V.Portable.kind g.K.Native.Archive.archival g.V.Native.Archive.archival g.met.K.Native.Archive.same_kind g.met.V.Native.Archive.same_kind g.met.K.Native.Archive.lawful g.met.V.Native.Archive.lawful c.requires (λ xs. xs) c.args.natives.now c.args.writer.now c.serialize_strict_from_ordered_iter.new.writer now_of _ _ (length c.args.natives.now) (drained (λ e. e.rest.now) _)
     c.serialize_strict_from_ordered_iter.result (if_ok c.serialize_strict_from_ordered_iter.result c.serialize_strict_from_ordered_iter.ensures.written (λ root h. h.0))
 
 pub returns-in-Increasing-clause-archive : goal.returns-in-Increasing-clause-archive

@@ -7,6 +7,7 @@ use Rattle.rkyv_btree_source.specs.Reading.{IsPart}
 use Rattle.rkyv_btree_source.proofs.Parts.{part_number, part_read}
 use Rattle.rkyv_btree_unverified.proofs.Places.{kept}
 use Rattle.rkyv_btree_unverified.specs.Steps.{PlaceGives, misplaced, empty, bad_root, root}
+use Rattle.rkyv_btree_source.proofs.Knowing.{of_same}
 use Rattle.rkyv_btree_source.proofs.source_node.read_head.Goals as goal
 
 pub returns-then-size-gt4294967295-clause-gives : goal.returns-then-size-gt4294967295-clause-gives
@@ -31,7 +32,7 @@ returns-then-num32-eq0-clause-gives g c b e =
     let size = c.in-Ok.ensures.value b e in
     let short : length b ≤ 4294967295 = omega (arith, c.if-size-gt4294967295.false, size) in
     let inside : c.args.at + 8 ≤ length b = omega (arith, c.if-size-from.false, c.from.ensures, size) in
-    let part : IsPart b c.read.new.part c.args.at = part_read b c.read.new.part c.args.at 8 short inside (c.in-Ok-read.ensures.gives b (c.in-Ok.ensures.same ∙ e)) in
+    let part : IsPart b c.read.new.part c.args.at = part_read b c.read.new.part c.args.at 8 short inside (c.in-Ok-read.ensures.gives b (of_same b c.in-Ok.ensures.same e)) in
     let none : map_len K V E b c.args.at ≡ 0 = sym (part_number b c.read.new.part c.args.at part 4 (omega (arith, c.read.auto.part))) ∙ (sym c.num32.ensures ∙ c.if-num32-eq0.true) in
     empty (record { short = short; room = inside; aligned = c.if-at-ne0.false }) none
 
@@ -41,7 +42,7 @@ returns-in-Ok-place_in-clause-gives g c b e =
     let size = c.in-Ok.ensures.value b e in
     let short : length b ≤ 4294967295 = omega (arith, c.if-size-gt4294967295.false, size) in
     let inside : c.args.at + 8 ≤ length b = omega (arith, c.if-size-from.false, c.from.ensures, size) in
-    let part : IsPart b c.read.new.part c.args.at = part_read b c.read.new.part c.args.at 8 short inside (c.in-Ok-read.ensures.gives b (c.in-Ok.ensures.same ∙ e)) in
+    let part : IsPart b c.read.new.part c.args.at = part_read b c.read.new.part c.args.at 8 short inside (c.in-Ok-read.ensures.gives b (of_same b c.in-Ok.ensures.same e)) in
     let number = part_number b c.read.new.part c.args.at part 4 (omega (arith, c.read.auto.part)) in
     let start : c.args.at + 0 ≡ c.args.at = omega arith in
     root (record { short = short; room = inside; aligned = c.if-at-ne0.false }) (λ none. c.if-num32-eq0.false (c.num32.ensures ∙ (number ∙ none)))
@@ -53,7 +54,7 @@ returns-in-Err-place_in-clause-gives g c b e =
     let size = c.in-Ok.ensures.value b e in
     let short : length b ≤ 4294967295 = omega (arith, c.if-size-gt4294967295.false, size) in
     let inside : c.args.at + 8 ≤ length b = omega (arith, c.if-size-from.false, c.from.ensures, size) in
-    let part : IsPart b c.read.new.part c.args.at = part_read b c.read.new.part c.args.at 8 short inside (c.in-Ok-read.ensures.gives b (c.in-Ok.ensures.same ∙ e)) in
+    let part : IsPart b c.read.new.part c.args.at = part_read b c.read.new.part c.args.at 8 short inside (c.in-Ok-read.ensures.gives b (of_same b c.in-Ok.ensures.same e)) in
     let number = part_number b c.read.new.part c.args.at part 4 (omega (arith, c.read.auto.part)) in
     let start : c.args.at + 0 ≡ c.args.at = omega arith in
     bad_root (record { short = short; room = inside; aligned = c.if-at-ne0.false }) (λ none. c.if-num32-eq0.false (c.num32.ensures ∙ (number ∙ none)))

@@ -6,10 +6,11 @@ use Rattle.rkyv_btree_source.proofs.Lacking.{below, reading_lacks}
 use Rattle.rkyv_btree_source.proofs.Spent.{spent_node}
 use Rattle.rkyv_btree_source.proofs.Taking.{node_takes}
 use Rattle.rkyv_btree_source.specs.Reads.{NodeBytes, Reads}
+use Rattle.rkyv_btree_source.proofs.Knowing.{of_same}
 use Rattle.rkyv_btree_source.proofs.source_search.search_node.Goals as goal
 
 pub returns-clause-gives : goal.returns-clause-gives
-returns-clause-gives g c b e f p m = c.search_bytes.ensures.gives b (c.in-Ok.ensures.same ∙ e) f p m
+returns-clause-gives g c b e f p m = c.search_bytes.ensures.gives b (of_same b c.in-Ok.ensures.same e) f p m
 
 pub returns-clause-spent : goal.returns-clause-spent
 returns-clause-spent g c =
@@ -30,14 +31,14 @@ returns-clause-lacks g c b e f p at before reads =
     let count : length (take c.node_len.result c.args.page.now) ≡ c.node_len.result = simp length-take (omega (arith, c.node_len.ensures.most, c.requires.page)) in
     IfErr-weaker c.search_bytes.result _ _
     (λ fault h. below g.K.Portable.kind g.V.Portable.kind g.M.ArchivedMap.E b g.K.Fetch.lengths g.V.Fetch.lengths (f c.args.key.now) fault at before c.args.hi c.args.node _ _ _ reads (omega (arith, count, c.node_len.ensures.value, c.in-Ok.ensures.counts)) h)
-    (c.search_bytes.ensures.lacks b (c.in-Ok.ensures.same ∙ e) f p)
+    (c.search_bytes.ensures.lacks b (of_same b c.in-Ok.ensures.same e) f p)
 
 pub returns-clause-takes : goal.returns-clause-takes
 returns-clause-takes g c b e f p =
     let count : length (take c.node_len.result c.args.page.now) ≡ c.node_len.result = simp length-take (omega (arith, c.node_len.ensures.most, c.requires.page)) in
     IfOk-weaker c.search_bytes.result _ _
     (λ step h. node_takes g.K.Portable.kind g.V.Portable.kind g.M.ArchivedMap.E b g.K.Fetch.lengths g.V.Fetch.lengths (f c.args.key.now) c.args.hi c.args.node _ _ _ _ step c.in-Ok.ensures.counts (count ∙ c.node_len.ensures.value) h)
-    (c.search_bytes.ensures.takes b (c.in-Ok.ensures.same ∙ e) f p)
+    (c.search_bytes.ensures.takes b (of_same b c.in-Ok.ensures.same e) f p)
 
 pub returns-clause-fits : goal.returns-clause-fits
-returns-clause-fits g c b e f p = c.search_bytes.ensures.fits b (c.in-Ok.ensures.same ∙ e) f p
+returns-clause-fits g c b e f p = c.search_bytes.ensures.fits b (of_same b c.in-Ok.ensures.same e) f p

@@ -6,6 +6,7 @@ use Rattle.rkyv_btree_source.proofs.Fitting.{empty_fits, lookup_fits}
 use Rattle.rkyv_btree_source.proofs.Lacking.{lacks_by, read_lacks}
 use Rattle.rkyv_btree_source.proofs.Spent.{spent_head, spent_lookup}
 use Rattle.rkyv_btree_source.specs.Reads.{OwnBytes, Reads, reads_own, reads_root, takes_own}
+use Rattle.rkyv_btree_source.proofs.Knowing.{of_same}
 use Rattle.rkyv_btree_source.proofs.source_tree.search.Goals as goal
 
 pub returns-in-Err-clause-caused : goal.returns-in-Err-clause-caused
@@ -17,7 +18,7 @@ returns-in-Err-clause-known g c b e = c.in-Err.ensures.known b e (length c.args.
 pub returns-in-Ok-Some-clause-gives : goal.returns-in-Ok-Some-clause-gives
 returns-in-Ok-Some-clause-gives g c b e f p =
     let head = rw c.in-Ok-Some.field-0-is at (c.in-Ok-Some.ensures.gives b e) in
-    of_root g.K.Portable.kind g.V.Portable.kind g.M.ArchivedMap.E b (f c.args.key.now) g.K.CheckBytes.Refuses g.V.CheckBytes.Refuses c.args.pos c.in-Ok-Some.root head c.search_tree.result (c.search_tree.ensures.gives b (c.in-Ok-Some.ensures.same ∙ e) f p)
+    of_root g.K.Portable.kind g.V.Portable.kind g.M.ArchivedMap.E b (f c.args.key.now) g.K.CheckBytes.Refuses g.V.CheckBytes.Refuses c.args.pos c.in-Ok-Some.root head c.search_tree.result (c.search_tree.ensures.gives b (of_same b c.in-Ok-Some.ensures.same e) f p)
 
 pub returns-in-Err-clause-spent : goal.returns-in-Err-clause-spent
 returns-in-Err-clause-spent g c = spent_head g.M.ArchivedMap.E _ _ c.args.pos c.in-Err.ensures.spent
@@ -41,13 +42,13 @@ returns-in-Ok-None-clause-takes g c b e f p =
 pub returns-in-Ok-Some-clause-takes : goal.returns-in-Ok-Some-clause-takes
 returns-in-Ok-Some-clause-takes g c b e f p =
     let head = rw c.in-Ok-Some.field-0-is at (c.in-Ok-Some.ensures.gives b e) in
-    let tree = c.search_tree.ensures.takes b (c.in-Ok-Some.ensures.same ∙ e) f p c.args.pos 8 (reads_root head) in
+    let tree = c.search_tree.ensures.takes b (of_same b c.in-Ok-Some.ensures.same e) f p c.args.pos 8 (reads_root head) in
     IfOk-weaker c.search_tree.result _ _ (λ found h. let last = h.2 in (h.0, h.1, omega (arith, c.in-Ok-Some.ensures.takes, last))) tree
 
 pub returns-in-Ok-Some-clause-lacks : goal.returns-in-Ok-Some-clause-lacks
 returns-in-Ok-Some-clause-lacks g c b e f p =
     let head = rw c.in-Ok-Some.field-0-is at (c.in-Ok-Some.ensures.gives b e) in
-    let tree = c.search_tree.ensures.lacks b (c.in-Ok-Some.ensures.same ∙ e) f p c.args.pos 8 (reads_root head) in
+    let tree = c.search_tree.ensures.lacks b (of_same b c.in-Ok-Some.ensures.same e) f p c.args.pos 8 (reads_root head) in
     IfErr-weaker c.search_tree.result _ _
     (λ fault h. lacks_by g.K.Portable.kind g.V.Portable.kind g.M.ArchivedMap.E b g.K.Fetch.lengths g.V.Fetch.lengths fault (Reads g.K.Portable.kind g.V.Portable.kind g.M.ArchivedMap.E b g.K.Fetch.lengths g.V.Fetch.lengths (f c.args.key.now) c.args.pos) 0 _ _ _ (omega (arith, c.in-Ok-Some.ensures.takes)) h) tree
 
@@ -60,4 +61,4 @@ pub returns-in-Ok-Some-clause-fits : goal.returns-in-Ok-Some-clause-fits
 returns-in-Ok-Some-clause-fits g c b e f p =
     let head = rw c.in-Ok-Some.field-0-is at (c.in-Ok-Some.ensures.gives b e) in
     IfOk-weaker c.search_tree.result _ _ (λ found h. lookup_fits g.K.Portable.kind g.V.Portable.kind g.M.ArchivedMap.E b g.K.Fetch.lengths g.V.Fetch.lengths (f c.args.key.now) c.args.pos c.in-Ok-Some.root (length c.args.room.now) head h)
-    (c.search_tree.ensures.fits b (c.in-Ok-Some.ensures.same ∙ e) f p)
+    (c.search_tree.ensures.fits b (of_same b c.in-Ok-Some.ensures.same e) f p)

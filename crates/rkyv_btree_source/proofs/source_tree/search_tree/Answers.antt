@@ -14,6 +14,7 @@ use Rattle.rkyv_btree_source.specs.mirror.Found.{next_of}
 use Rattle.rkyv_btree_unverified.proofs.Goes.{no_levels, levels_over, hit_gives, miss_gives, down_gives}
 use Rattle.rkyv_btree_unverified.proofs.Places.{kept}
 use Rattle.rkyv_btree_unverified.specs.Lookups.{TreeGives}
+use Rattle.rkyv_btree_source.proofs.Knowing.{of_same}
 use Rattle.rkyv_btree_source.proofs.source_tree.search_tree.Goals as goal
 
 pub returns-then-levels-eq0-clause-gives : goal.returns-then-levels-eq0-clause-gives
@@ -30,7 +31,7 @@ returns-in-Err-clause-gives g c b e f p =
     let KR = g.K.CheckBytes.Refuses in let VR = g.V.CheckBytes.Refuses in
     passes_on (λ d. TreeGives K V E b (f c.args.key.now) KR VR (suc (c.down.levels - 1)) c.down.end c.down.node (Err d)) (λ d. TreeGives K V E b (f c.args.key.now) KR VR 32 c.args.hi c.args.root (Err d))
     (λ d bad. c.down.invariant.gives b e f p (Err d) (levels_over K V E b (f c.args.key.now) KR VR c.down.levels c.down.end c.down.node (Err d) c.if-levels-eq0.false bad))
-    c.in-Err.fault (c.in-Err.ensures.gives b (c.down.invariant.same ∙ e) f p (c.down.levels - 1))
+    c.in-Err.fault (c.in-Err.ensures.gives b (of_same b c.down.invariant.same e) f p (c.down.levels - 1))
 
 pub returns-in-Ok-Ends-clause-gives : goal.returns-in-Ok-Ends-clause-gives
 returns-in-Ok-Ends-clause-gives g c b e f p =
@@ -38,14 +39,14 @@ returns-in-Ok-Ends-clause-gives g c b e f p =
     let KR = g.K.CheckBytes.Refuses in let VR = g.V.CheckBytes.Refuses in
     let here = ends_here K V E c.search_node.new.room c.down.node c.in-Ok-Ends.field-0 c.in-Ok-Ends.ensures.valid c.in-Ok-Ends.hit c.in-Ok-Ends.field-0-is in
     rw here (c.down.invariant.gives b e f p (Ok (Some (c.down.node, c.in-Ok-Ends.hit.index))) (levels_over K V E b (f c.args.key.now) KR VR c.down.levels c.down.end c.down.node _ c.if-levels-eq0.false
-    (hit_gives K V E b (f c.args.key.now) KR VR (c.down.levels - 1) c.down.end c.down.node (next_of c.in-Ok-Ends.field-0) (c.in-Ok-Ends.ensures.gives b (c.down.invariant.same ∙ e) f p (c.down.levels - 1)) c.in-Ok-Ends.hit.index (ap next_of c.in-Ok-Ends.field-0-is))))
+    (hit_gives K V E b (f c.args.key.now) KR VR (c.down.levels - 1) c.down.end c.down.node (next_of c.in-Ok-Ends.field-0) (c.in-Ok-Ends.ensures.gives b (of_same b c.down.invariant.same e) f p (c.down.levels - 1)) c.in-Ok-Ends.hit.index (ap next_of c.in-Ok-Ends.field-0-is))))
 
 pub returns-in-Ok-Nothing-clause-gives : goal.returns-in-Ok-Nothing-clause-gives
 returns-in-Ok-Nothing-clause-gives g c b e f p =
     let K = g.K.Portable.kind in let V = g.V.Portable.kind in let E = g.M.ArchivedMap.E in
     let KR = g.K.CheckBytes.Refuses in let VR = g.V.CheckBytes.Refuses in
     c.down.invariant.gives b e f p (Ok None) (levels_over K V E b (f c.args.key.now) KR VR c.down.levels c.down.end c.down.node _ c.if-levels-eq0.false
-    (miss_gives K V E b (f c.args.key.now) KR VR (c.down.levels - 1) c.down.end c.down.node (next_of c.in-Ok-Nothing.field-0) (c.in-Ok-Nothing.ensures.gives b (c.down.invariant.same ∙ e) f p (c.down.levels - 1)) (ap next_of c.in-Ok-Nothing.field-0-is)))
+    (miss_gives K V E b (f c.args.key.now) KR VR (c.down.levels - 1) c.down.end c.down.node (next_of c.in-Ok-Nothing.field-0) (c.in-Ok-Nothing.ensures.gives b (of_same b c.down.invariant.same e) f p (c.down.levels - 1)) (ap next_of c.in-Ok-Nothing.field-0-is)))
 
 pub down-preserved : goal.down-preserved
 down-preserved g c =
@@ -59,15 +60,15 @@ down-preserved g c =
       ends = omega (arith, c.down.invariant.ends, space);
       gives = λ b e f p r rest.
           c.down.invariant.gives b e f p r (levels_over K V E b (f c.args.key.now) KR VR c.down.levels c.down.end c.down.node r c.if-levels-eq0.false
-          (down_gives K V E b (f c.args.key.now) KR VR (c.down.levels - 1) c.down.end c.down.node (next_of c.in-Ok-Below.field-0) (c.in-Ok-Below.ensures.gives b (c.down.invariant.same ∙ e) f p (c.down.levels - 1)) c.in-Ok-Below.below (ap next_of c.in-Ok-Below.field-0-is) r rest));
+          (down_gives K V E b (f c.args.key.now) KR VR (c.down.levels - 1) c.down.end c.down.node (next_of c.in-Ok-Below.field-0) (c.in-Ok-Below.ensures.gives b (of_same b c.down.invariant.same e) f p (c.down.levels - 1)) c.in-Ok-Below.below (ap next_of c.in-Ok-Below.field-0-is) r rest));
       reads = λ b e f p at before reads.
           let now = c.down.invariant.reads b e f p at before reads in
-          child_reads K V E b g.K.Fetch.lengths g.V.Fetch.lengths (f c.args.key.now) at _ now.0 c.down.end c.down.node _ _ now.1 now.2 c.in-Ok-Below.field-0 (c.in-Ok-Below.ensures.takes b (c.down.invariant.same ∙ e) f p)
+          child_reads K V E b g.K.Fetch.lengths g.V.Fetch.lengths (f c.args.key.now) at _ now.0 c.down.end c.down.node _ _ now.1 now.2 c.in-Ok-Below.field-0 (c.in-Ok-Below.ensures.takes b (of_same b c.down.invariant.same e) f p)
           c.in-Ok-Below.below c.in-Ok-Below.field-0-is;
       fits = λ b e f p rest.
           c.down.invariant.fits b e f p
-          (below_fits K V E b g.K.Fetch.lengths g.V.Fetch.lengths (f c.args.key.now) c.down.end c.down.node _ _ _ c.in-Ok-Below.field-0 (c.in-Ok-Below.ensures.takes b (c.down.invariant.same ∙ e) f p)
-          (fits_in g.K.Portable.kind g.V.Portable.kind g.M.ArchivedMap.E b g.K.Fetch.lengths g.V.Fetch.lengths (f c.args.key.now) _ _ _ (omega arith) (c.in-Ok-Below.ensures.fits b (c.down.invariant.same ∙ e) f p)) c.in-Ok-Below.below c.in-Ok-Below.field-0-is rest);
+          (below_fits K V E b g.K.Fetch.lengths g.V.Fetch.lengths (f c.args.key.now) c.down.end c.down.node _ _ _ c.in-Ok-Below.field-0 (c.in-Ok-Below.ensures.takes b (of_same b c.down.invariant.same e) f p)
+          (fits_in g.K.Portable.kind g.V.Portable.kind g.M.ArchivedMap.E b g.K.Fetch.lengths g.V.Fetch.lengths (f c.args.key.now) _ _ _ (omega arith) (c.in-Ok-Below.ensures.fits b (of_same b c.down.invariant.same e) f p)) c.in-Ok-Below.below c.in-Ok-Below.field-0-is rest);
       same = c.in-Ok-Below.ensures.same ∙ c.down.invariant.same;
       left = omega (arith, c.in-Ok-Below.ensures.left, c.down.invariant.left);
       spent = spent_level _ _ _ c.down.levels (E + 2) c.down.end c.args.hi (32 * ((E + 2) * c.args.hi)) c.down.invariant.spent c.in-Ok-Below.ensures.spent c.if-levels-eq0.false c.down.invariant.ends;
@@ -88,32 +89,32 @@ returns-in-Err-clause-lacks g c b e f p at before reads =
     let K = g.K.Portable.kind in let V = g.V.Portable.kind in let E = g.M.ArchivedMap.E in
     let now = c.down.invariant.reads b e f p at before reads in
     lacks_by K V E b g.K.Fetch.lengths g.V.Fetch.lengths c.in-Err.fault (Reads K V E b g.K.Fetch.lengths g.V.Fetch.lengths (f c.args.key.now) at) 0 _ _ _ (sym now.2)
-    (lacks_in K V E b g.K.Fetch.lengths g.V.Fetch.lengths c.in-Err.fault (Reads K V E b g.K.Fetch.lengths g.V.Fetch.lengths (f c.args.key.now) at) 0 _ _ _ room (c.in-Err.ensures.lacks b (c.down.invariant.same ∙ e) f p at now.0 now.1))
+    (lacks_in K V E b g.K.Fetch.lengths g.V.Fetch.lengths c.in-Err.fault (Reads K V E b g.K.Fetch.lengths g.V.Fetch.lengths (f c.args.key.now) at) 0 _ _ _ room (c.in-Err.ensures.lacks b (of_same b c.down.invariant.same e) f p at now.0 now.1))
 
 pub returns-in-Ok-Ends-clause-takes : goal.returns-in-Ok-Ends-clause-takes
 returns-in-Ok-Ends-clause-takes g c b e f p at before reads =
     let K = g.K.Portable.kind in let V = g.V.Portable.kind in let E = g.M.ArchivedMap.E in
     let now = c.down.invariant.reads b e f p at before reads in
-    last_takes K V E b g.K.Fetch.lengths g.V.Fetch.lengths (f c.args.key.now) at _ now.0 c.down.end c.down.node _ _ now.1 now.2 c.in-Ok-Ends.field-0 (c.in-Ok-Ends.ensures.takes b (c.down.invariant.same ∙ e) f p)
+    last_takes K V E b g.K.Fetch.lengths g.V.Fetch.lengths (f c.args.key.now) at _ now.0 c.down.end c.down.node _ _ now.1 now.2 c.in-Ok-Ends.field-0 (c.in-Ok-Ends.ensures.takes b (of_same b c.down.invariant.same e) f p)
     (Ends c.in-Ok-Ends.hit) c.in-Ok-Ends.field-0-is tt
 
 pub returns-in-Ok-Nothing-clause-takes : goal.returns-in-Ok-Nothing-clause-takes
 returns-in-Ok-Nothing-clause-takes g c b e f p at before reads =
     let K = g.K.Portable.kind in let V = g.V.Portable.kind in let E = g.M.ArchivedMap.E in
     let now = c.down.invariant.reads b e f p at before reads in
-    last_takes K V E b g.K.Fetch.lengths g.V.Fetch.lengths (f c.args.key.now) at _ now.0 c.down.end c.down.node _ _ now.1 now.2 c.in-Ok-Nothing.field-0 (c.in-Ok-Nothing.ensures.takes b (c.down.invariant.same ∙ e) f p)
+    last_takes K V E b g.K.Fetch.lengths g.V.Fetch.lengths (f c.args.key.now) at _ now.0 c.down.end c.down.node _ _ now.1 now.2 c.in-Ok-Nothing.field-0 (c.in-Ok-Nothing.ensures.takes b (of_same b c.down.invariant.same e) f p)
     Nothing c.in-Ok-Nothing.field-0-is tt
 
 pub returns-in-Ok-Ends-clause-fits : goal.returns-in-Ok-Ends-clause-fits
 returns-in-Ok-Ends-clause-fits g c b e f p =
     let K = g.K.Portable.kind in let V = g.V.Portable.kind in let E = g.M.ArchivedMap.E in
     c.down.invariant.fits b e f p
-    (ended_fits K V E b g.K.Fetch.lengths g.V.Fetch.lengths (f c.args.key.now) c.down.end c.down.node _ _ _ c.in-Ok-Ends.field-0 (c.in-Ok-Ends.ensures.takes b (c.down.invariant.same ∙ e) f p)
-    (fits_in g.K.Portable.kind g.V.Portable.kind g.M.ArchivedMap.E b g.K.Fetch.lengths g.V.Fetch.lengths (f c.args.key.now) _ _ _ (omega arith) (c.in-Ok-Ends.ensures.fits b (c.down.invariant.same ∙ e) f p)) (Ends c.in-Ok-Ends.hit) c.in-Ok-Ends.field-0-is tt)
+    (ended_fits K V E b g.K.Fetch.lengths g.V.Fetch.lengths (f c.args.key.now) c.down.end c.down.node _ _ _ c.in-Ok-Ends.field-0 (c.in-Ok-Ends.ensures.takes b (of_same b c.down.invariant.same e) f p)
+    (fits_in g.K.Portable.kind g.V.Portable.kind g.M.ArchivedMap.E b g.K.Fetch.lengths g.V.Fetch.lengths (f c.args.key.now) _ _ _ (omega arith) (c.in-Ok-Ends.ensures.fits b (of_same b c.down.invariant.same e) f p)) (Ends c.in-Ok-Ends.hit) c.in-Ok-Ends.field-0-is tt)
 
 pub returns-in-Ok-Nothing-clause-fits : goal.returns-in-Ok-Nothing-clause-fits
 returns-in-Ok-Nothing-clause-fits g c b e f p =
     let K = g.K.Portable.kind in let V = g.V.Portable.kind in let E = g.M.ArchivedMap.E in
     c.down.invariant.fits b e f p
-    (ended_fits K V E b g.K.Fetch.lengths g.V.Fetch.lengths (f c.args.key.now) c.down.end c.down.node _ _ _ c.in-Ok-Nothing.field-0 (c.in-Ok-Nothing.ensures.takes b (c.down.invariant.same ∙ e) f p)
-    (fits_in g.K.Portable.kind g.V.Portable.kind g.M.ArchivedMap.E b g.K.Fetch.lengths g.V.Fetch.lengths (f c.args.key.now) _ _ _ (omega arith) (c.in-Ok-Nothing.ensures.fits b (c.down.invariant.same ∙ e) f p)) Nothing c.in-Ok-Nothing.field-0-is tt)
+    (ended_fits K V E b g.K.Fetch.lengths g.V.Fetch.lengths (f c.args.key.now) c.down.end c.down.node _ _ _ c.in-Ok-Nothing.field-0 (c.in-Ok-Nothing.ensures.takes b (of_same b c.down.invariant.same e) f p)
+    (fits_in g.K.Portable.kind g.V.Portable.kind g.M.ArchivedMap.E b g.K.Fetch.lengths g.V.Fetch.lengths (f c.args.key.now) _ _ _ (omega arith) (c.in-Ok-Nothing.ensures.fits b (of_same b c.down.invariant.same e) f p)) Nothing c.in-Ok-Nothing.field-0-is tt)

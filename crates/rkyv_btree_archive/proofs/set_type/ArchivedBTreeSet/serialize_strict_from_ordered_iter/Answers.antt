@@ -14,27 +14,27 @@ use Rattle.rkyv_btree_archive.proofs.set_type.ArchivedBTreeSet.serialize_strict_
 pub returns-clause-written : goal.returns-clause-written
 returns-clause-written g c =
     rw (← c.map.ensures.source) (IfOk-weaker c.serialize_strict_from_ordered_iter.result _ _ (λ root built.
-    set_built_in_order g.K.Portable.kind g.row.E g.KU.Archive.archival g.I.Iterator.next_gives _ (λ f k e t called. search rules) c.map.result c.args.len g.KU.Ord.cmp g.W.Writer.state c.args.writer.now c.serialize_strict_from_ordered_iter.new.writer root built) c.serialize_strict_from_ordered_iter.ensures.written)
+    set_built_in_order g.K.Portable.kind g.row.E g.KU.Archive.archival g.BKU.Borrow.borrowed g.I.Iterator.next_gives _ (λ f k e t called. search rules) c.map.result c.args.len g.KU.Ord.cmp g.W.Writer.state c.args.writer.now c.serialize_strict_from_ordered_iter.new.writer root built) c.serialize_strict_from_ordered_iter.ensures.written)
 
 pub returns-clause-smallest : goal.returns-clause-smallest
 returns-clause-smallest g c =
     ⊎_elim (λ past. rw (c.serialize_strict_from_ordered_iter.ensures.past past).0 tt)
     (λ few. rw (← c.map.ensures.source) (IfOk-weaker c.serialize_strict_from_ordered_iter.result _ _ (λ root built.
-    builds_smallest_set g.K.Portable.kind g.row.E g.met.K.Portable.laws c.requires.fitting g.KU.Archive.archival g.met.KU.Archive.archived g.I.Iterator.next_gives _ c.args.len g.W.Writer.state c.args.writer.now c.serialize_strict_from_ordered_iter.new.writer root few
-    (set_built_in_order g.K.Portable.kind g.row.E g.KU.Archive.archival g.I.Iterator.next_gives _ (λ f k e t called. search rules) c.map.result c.args.len g.KU.Ord.cmp g.W.Writer.state c.args.writer.now c.serialize_strict_from_ordered_iter.new.writer root built).0) c.serialize_strict_from_ordered_iter.ensures.written))
+    builds_smallest_set g.K.Portable.kind g.row.E g.met.K.Portable.laws c.requires.fitting g.KU.Archive.archival g.met.KU.Archive.archived g.BKU.Borrow.borrowed g.I.Iterator.next_gives _ c.args.len g.W.Writer.state c.args.writer.now c.serialize_strict_from_ordered_iter.new.writer root few
+    (set_built_in_order g.K.Portable.kind g.row.E g.KU.Archive.archival g.BKU.Borrow.borrowed g.I.Iterator.next_gives _ (λ f k e t called. search rules) c.map.result c.args.len g.KU.Ord.cmp g.W.Writer.state c.args.writer.now c.serialize_strict_from_ordered_iter.new.writer root built).0) c.serialize_strict_from_ordered_iter.ensures.written))
     (cases_lt last_end c.args.len)
 
 pub returns-clause-archived : goal.returns-clause-archived
 returns-clause-archived g c =
-    IfOk-weaker c.serialize_strict_from_ordered_iter.result _ _ (keys_archived g.K.Portable.kind g.row.E g.KU.Archive.archival g.I.Iterator.next_gives c.args.iter c.args.len g.W.Writer.state c.args.writer.now c.serialize_strict_from_ordered_iter.new.writer) (returns-clause-smallest g c)
+    IfOk-weaker c.serialize_strict_from_ordered_iter.result _ _ (keys_archived g.K.Portable.kind g.row.E g.KU.Archive.archival g.BKU.Borrow.borrowed g.I.Iterator.next_gives c.args.iter c.args.len g.W.Writer.state c.args.writer.now c.serialize_strict_from_ordered_iter.new.writer) (returns-clause-smallest g c)
 
 pub returns-clause-one_tree : goal.returns-clause-one_tree
 returns-clause-one_tree g c =
     IfOk-weaker c.serialize_strict_from_ordered_iter.result _ _ (λ root built.
-    builds_one_tree_set g.K.Portable.kind g.row.E g.KU.Archive.archival g.I.Iterator.next_gives c.args.iter c.args.len g.W.Writer.state c.args.writer.now c.serialize_strict_from_ordered_iter.new.writer root
+    builds_one_tree_set g.K.Portable.kind g.row.E g.KU.Archive.archival g.BKU.Borrow.borrowed g.I.Iterator.next_gives c.args.iter c.args.len g.W.Writer.state c.args.writer.now c.serialize_strict_from_ordered_iter.new.writer root
     (room_of g.K.Portable.kind unit_kind g.row.E g.met.K.Portable.laws unit_laws c.requires.fitting).some built.0) (returns-clause-written g c)
 
 pub returns-clause-err : goal.returns-clause-err
 returns-clause-err g c =
     rw (← c.map.ensures.source) (IfErr-weaker c.serialize_strict_from_ordered_iter.result _ _ (λ fault failed.
-    set_refused_in_order g.K.Portable.kind g.row.E g.KU.Archive.archival g.I.Iterator.next_gives _ (λ f k e t called. search rules) c.map.result c.args.len g.KU.Ord.cmp _ fault _ failed) c.serialize_strict_from_ordered_iter.ensures.err)
+    set_refused_in_order g.K.Portable.kind g.row.E g.KU.Archive.archival g.BKU.Borrow.borrowed g.I.Iterator.next_gives _ (λ f k e t called. search rules) c.map.result c.args.len g.KU.Ord.cmp _ fault _ failed) c.serialize_strict_from_ordered_iter.ensures.err)

@@ -1,9 +1,10 @@
+use Rattle.rkyv_btree_writing_laws.specs.Entries.{now_of_key}
 use Rattle.std.proofs.Common.{◌∙◌, sym}
 use Rattle.std.specs.Map.Iter.{TakesFirst, deref}
 use Rattle.rkyv_btree_writing_laws.proofs.OneTree.{keys_one_tree}
 use Rattle.rkyv_btree_writing_laws.proofs.SmallestMaps.{keys_smallest}
 use Rattle.rkyv_btree_writing_laws.proofs.TreeSerialised.{keys_begun, keys_drained, list_unserialised, set_serialised, units_count}
-use Rattle.rkyv_btree_writing_laws.specs.Sets.{entries_by, unit_archival, with_units}
+use Rattle.rkyv_btree_writing_laws.specs.Sets.{entries_by, entry_borrowed, unit_archival, with_units}
 use Rattle.rkyv_btree_portable.specs.Natives.{unit_form}
 use Rattle.rkyv_btree_portable.specs.Scalars.{unit_kind}
 use Rattle.rkyv_btree_portable.specs.laws.Natives.{unit_faithful}
@@ -18,7 +19,7 @@ returns-clause-ok g c =
 
 pub returns-clause-err : goal.returns-clause-err
 returns-clause-err g c =
-    list_unserialised 5 g.KU.Archived.Portable.kind unit_kind g.KU.Archive.archival unit_archival g.met.KU.Archive.same_kind (itself unit_kind) g.met.KU.Archive.lawful unit_laws c.requires.fitting (λ set. with_units set.keys) c.args.self.now (g.W.Writer.state c.args.writer.now) _ (entries_by (TakesFirst deref)) c.args.self.now.keys c.len.result (keys_drained c.args.self.now.keys)
+    list_unserialised 5 g.KU.Archived.Portable.kind unit_kind g.KU.Archive.archival unit_archival g.met.KU.Archive.same_kind (itself unit_kind) g.met.KU.Archive.lawful unit_laws c.requires.fitting (λ set. with_units set.keys) c.args.self.now (g.W.Writer.state c.args.writer.now) _ (entry_borrowed now_of_key) (entries_by (TakesFirst deref)) c.args.self.now.keys c.len.result (keys_drained c.args.self.now.keys)
     g.met.KU.Archive.archived (native_archived unit_form unit_faithful) g.met.KU.Archive.causes (native_causes unit_form) (keys_begun c.args.self.now.keys) (c.len.ensures.len ∙ sym (units_count c.args.self.now.keys)) c.serialize_from_ordered_iter.result (λ none. (c.serialize_from_ordered_iter.ensures.none none).0) (rw (← c.iter.ensures.rest) c.serialize_from_ordered_iter.ensures.err)
 
 pub returns-clause-smallest : goal.returns-clause-smallest

@@ -4,7 +4,7 @@ use Rattle.std.specs.declared.cmp.Ordering.{Ordering}
 use Rattle.std.specs.declared.cmp.Ordering.TheVariants.{Greater}
 use Rattle.rkyv_btree_walk.specs.Search.{shown_value}
 use Rattle.rkyv_btree_walk.specs.mirror.Search.{IsComparedBy, comparison_at}
-use Rattle.rkyv_btree_walk.proofs.search.search_node.Given as goal
+use Rattle.rkyv_btree_walk.proofs.search.search_in_turn.Given as goal
 
 abbrev pub invariant-loop-i : goal.invariant-loop-i
 invariant-loop-i g l = (c : g.row.Q.Denot → g.K.Portable.kind.Value → Ordering)
