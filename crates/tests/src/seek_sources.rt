@@ -113,7 +113,7 @@ fn outcome_of(fault: SourceFault<io::Error>) -> Outcome {
     }
 }
 
-/// Looks a key up in a source, and returns the answer, the bytes of the budget that it took, and the calls that it made.
+/// Looks a key up in a source, and returns the outcome, how many bytes of the budget were read, and how many calls were made.
 fn look(
     rt: &impl Abort,
     source: SeekSource<File<'_>>,
@@ -181,14 +181,14 @@ fn a_file_is_read_at_each_position(rt: HostRuntime) -> Result<(), Fail> {
 
 // Each call of the file fails in turn, with its own error, and what was to be read counts.
 #[test]
-fn a_failed_call_is_told_and_counts(rt: HostRuntime) -> Result<(), Fail> {
+fn a_failed_call_is_named_and_counts(rt: HostRuntime) -> Result<(), Fail> {
     let bytes = numbers(&rt, rt.alloc())?;
     let (_, whole, calls) = look(&rt, source_of(&bytes, 0), u64::MAX, 5);
     assert!(rt; calls > 4);
     let mut last = 0u64;
     for call in 1..calls.saturating_add(1) {
-        let (told, read, _) = look(&rt, source_of(&bytes, call), u64::MAX, 5);
-        same(&rt, told, Outcome::Reset);
+        let (failed, read, _) = look(&rt, source_of(&bytes, call), u64::MAX, 5);
+        same(&rt, failed, Outcome::Reset);
         assert!(rt; last <= read && read <= whole);
         last = read;
     }
@@ -202,8 +202,8 @@ fn a_small_budget_opens(rt: HostRuntime) -> Result<(), Fail> {
     let bytes = numbers(&rt, rt.alloc())?;
     let (_, whole, _) = look(&rt, source_of(&bytes, 0), u64::MAX, 5);
     for budget in [0, 7, whole.saturating_sub(1)] {
-        let (told, read, calls) = look(&rt, source_of(&bytes, 0), budget, 5);
-        same(&rt, told, Outcome::Other);
+        let (failed, read, calls) = look(&rt, source_of(&bytes, 0), budget, 5);
+        same(&rt, failed, Outcome::Other);
         assert!(rt; read <= budget && calls > 0);
     }
     let (found, _, _) = look(&rt, source_of(&bytes, 0), whole, 5);
@@ -211,18 +211,18 @@ fn a_small_budget_opens(rt: HostRuntime) -> Result<(), Fail> {
     Ok(())
 }
 
-// A file that ends while it is read is told so, one that has shrunk is refused, and one that has grown is read where it was. The first
-// call asks for the size.
+// A read fails where the file has ended meanwhile. A file that has shrunk is refused, and one that has grown is read where it was. The
+// first call asks for the size.
 #[test]
 fn a_file_may_change_after_it_is_opened(rt: HostRuntime) -> Result<(), Fail> {
     let mut bytes = numbers(&rt, rt.alloc())?;
     let len = bytes.len();
     bytes.extend_from_slice(&[1, 2, 3])?;
     let (archive, _) = bytes.as_slice().split_at(len);
-    let (told, _, _) = look(&rt, changing(archive, &[], 6), u64::MAX, 5);
-    same(&rt, told, Outcome::Ended);
-    let (told, _, _) = look(&rt, changing(archive, &[0; 4], 2), u64::MAX, 5);
-    same(&rt, told, Outcome::Refused);
+    let (failed, _, _) = look(&rt, changing(archive, &[], 6), u64::MAX, 5);
+    same(&rt, failed, Outcome::Ended);
+    let (failed, _, _) = look(&rt, changing(archive, &[0; 4], 2), u64::MAX, 5);
+    same(&rt, failed, Outcome::Refused);
     let (found, _, _) = look(&rt, changing(archive, &bytes, 2), u64::MAX, 5);
     same(&rt, found, Outcome::Found(Some(50)));
     Ok(())
