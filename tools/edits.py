@@ -19,8 +19,8 @@ together each half is tried.
 What was refused is recorded in the file wrong.lock, of which record.py says what a line is and when it is valid.
 
     --record    tries the edits that have no valid line, and writes the lines of those that are refused
-    --gate      fails each edit that has no valid line, and each line of no edit, and tries a sample of the others again: 5 of 100, and
-                at least 20, which the commit's id draws
+    --gate      tries the edits that have no valid line, and a sample of the others again: 5 of 100, and at least 20, which the commit's
+                id draws. It fails each edit that isn't refused, and each line of no edit
     --all       tries all edits, whatever the record says
     (none)      tries the edits that have no valid line, and writes nothing
 
@@ -184,9 +184,14 @@ class Checks:
     def check(self, edits, is_twin=False):
         """Checks the crate with these edits or their twins, and returns whether it is proved, and what is said. Nothing is said
         where the prover comes to no verdict, or can't read a changed text."""
-        texts, places = {}, [it.place() for it in edits]
+        texts = {}
         for edit in edits:
             texts = edit.apply(texts, is_twin)
+        return self.check_texts(texts, edits)
+
+    def check_texts(self, texts, edits):
+        """Does what `check` says with these changed texts of these edits, of which there may be none."""
+        places = [it.place() for it in edits]
         modules = sorted({it.module() for it in places}) if self.are_of_modules and places and all(places) else []
         # the module of the root names no function of its own alone
         only = [] if {"lib", "main"} & {*modules} else [word for it in modules for word in ("--only", it)]
@@ -256,16 +261,28 @@ def unproved_twins(edits, checks):
     return unproved_twins(edits[:half], checks) | unproved_twins(edits[half:], checks)
 
 
-def try_all(crate, edits, is_proved):
+def begin(crate, edits, is_proved, room):
+    """Makes a folder of what checks of a crate without edits keep, for all its parts to begin with, and returns whether the crate is
+    proved. Of a crate that is known to be proved only the modules are checked that the edits change, and none where there is one part."""
+    kept, begun = f"{room}/{crate.name}", f"{crate.folder}/out/incremental"
+    shutil.copytree(begun, kept) if os.path.isdir(begun) else os.mkdir(kept)
+    if is_proved and (os.path.isdir(begun) or len(parts_of(edits)) == 1):
+        return True
+    if Checks(crate, kept, is_proved).check_texts({}, edits if is_proved else [])[0]:
+        return True
+    print(f"{crate.name}: not proved without edits", flush=True)
+    return False
+
+
+def try_all(crate, edits, is_proved, begun, folder):
     """Says of each edit why the prover refuses it, if it does, and why it doesn't prove its twin, if it doesn't. Of a crate that is
-    known to be proved only the modules are checked that the edits change, and else all of it, first without edits."""
+    known to be proved only the modules are checked that the edits change, and else all of it."""
+    if not begun.result():
+        return [(it, "", "") for it in edits]
     with tempfile.TemporaryDirectory(prefix="edits-") as room:
-        kept, begun = f"{room}/kept", f"{crate.folder}/out/incremental"
-        shutil.copytree(begun, kept) if os.path.isdir(begun) else os.mkdir(kept)
+        kept = f"{room}/kept"
+        shutil.copytree(f"{folder}/{crate.name}", kept)
         checks = Checks(crate, kept, is_proved)
-        if not is_proved and not checks.check([])[0]:
-            print(f"{crate.name}: not proved without edits", flush=True)
-            return [(it, "", "") for it in edits]
         refused, unproved = try_edits(edits, checks), {}
         for given in rounds_of([it for it in edits if it.has_twin], is_twin=True):
             unproved |= unproved_twins(given, checks)
@@ -289,8 +306,10 @@ def try_each(edits, after_ci):
             sys.exit(f"a library below {crate.name} is not proved")
     work = [(crate, part) for crate, edits in by_crate.items() for part in parts_of(edits)]
     work.sort(key=lambda it: -len(it[1]) * it[0].count(rb"\n"))
-    with concurrent.futures.ThreadPoolExecutor(len(os.sched_getaffinity(0))) as pool:
-        for done in concurrent.futures.as_completed([pool.submit(try_all, *it, after_ci) for it in work]):
+    with tempfile.TemporaryDirectory(prefix="edits-") as room, concurrent.futures.ThreadPoolExecutor(len(os.sched_getaffinity(0))) as pool:
+        # these come first, so that no part waits for one that has no thread
+        begun = {crate: pool.submit(begin, crate, by_crate[crate], after_ci, room) for crate in dict(work)}
+        for done in concurrent.futures.as_completed([pool.submit(try_all, *it, after_ci, begun[it[0]], room) for it in work]):
             yield from done.result()
 
 
@@ -316,19 +335,17 @@ def record(edits, keys, lock, after_ci):
 
 
 def gate(every, names, keys, lock, after_ci):
-    """Fails the edits without a valid line and the lines with none of these names, tries a sample of the others, and returns how many are
-    refused and how many not."""
-    valid = [it for it in every if lock.get(it.full_name) == keys[it]]
-    for edit in every:
-        if edit not in valid:
-            print(f"{edit.full_name}: no valid line in {LOCK.name}", flush=True)
+    """Tries the edits without a valid line and a sample of the others, and returns how many are refused and how many not. A line with none
+    of these names counts as one that isn't."""
+    untried = [it for it in every if lock.get(it.full_name) != keys[it]]
+    valid = [it for it in every if it not in untried]
     strange = lock.keys() - names
     for name in sorted(strange):
         print(f"{name}: a line in {LOCK.name} of no edit", flush=True)
     sample = sample_of(valid)
-    print(f"{len(every)} edits: {len(valid) - len(sample)} by the record alone, {len(sample)} of it tried again", flush=True)
-    failed = sum(not is_refused(*it) for it in try_each(sample, after_ci))
-    return len(valid) - failed, len(every) - len(valid) + len(strange) + failed
+    print(f"{len(every)} edits: {len(valid) - len(sample)} by the record alone, {len(sample)} of it tried again, {len(untried)} without a valid line", flush=True)
+    failed = sum(not is_refused(*it) for it in try_each(untried + sample, after_ci))
+    return len(every) - failed, len(strange) + failed
 
 
 def main():

@@ -125,6 +125,44 @@ done
 python3 -c 'import json; print(*(f"{k}\t{v}" for k, v in json.load(open("object")).items()), sep="\n")' | cmp -s - many || fail "20000 lines: another object"
 shuf --random-source=many many | "$program" build --sort | cmp -s - archive || fail "20000 lines: sorted otherwise"
 
+# A million lines, which are more than are held in memory, give one archive by a pipe, from a file and from what can't seek; and so they
+# are built in memory. No more than 32 megabytes are resident. After an error nothing is written.
+cat > resident.py <<'E'
+import os, resource, subprocess, sys
+status = subprocess.run(sys.argv[2:], stdin=sys.stdin, stdout=sys.stdout, close_fds=False).returncode
+peak = resource.getrusage(resource.RUSAGE_CHILDREN).ru_maxrss
+if peak > int(sys.argv[1]):
+    print(f"resident: {peak} kilobytes", file=sys.stderr)
+sys.exit(status)
+E
+mkdir spool
+export TMPDIR=$work/spool
+resident() { python3 resident.py 32768 "$program" "$@"; }
+seq 1000000 1999999 | awk '{ print $0 "\tvalue of " $0 }' > million
+resident build million > large 2> said || fail "a million lines: not built"
+cat million | resident build 2>> said | cmp -s - large || fail "a million lines by a pipe: another archive"
+resident build < million 2>> said | cmp -s - large || fail "a million lines as standard input: another archive"
+resident build --strict <(cat million) 2>> said | cmp -s - large || fail "a million lines of a pipe by name: another archive"
+"$program" build --sort million | cmp -s - large || fail "a million lines: another archive than of the sorted ones"
+"$program" list large | cmp -s - million || fail "a million lines: listed otherwise"
+[[ ! -s said ]] || fail "a million lines: on standard error: $(cat said)"
+unbuilt() {
+    local got=0
+    "$program" build "${@:2}" > written 2> said || got=$?
+    [[ $got == 2 && $(cat said) == "$1" && ! -s written ]] || fail "words ${*@Q}: status $got: $(cat said)"
+}
+{ cat million; printf 'no entry\n'; } > bad
+unbuilt 'btreekv: line 1000001: not KEY TAB VALUE' bad
+unbuilt 'btreekv: line 1000001: not KEY TAB VALUE' --strict bad
+unbuilt 'btreekv: line 1000001: not KEY TAB VALUE' < bad
+{ cat million; printf '1999999\tagain'; } > bad
+unbuilt 'btreekv: not built: entry 1000000 is out of order' --strict bad
+unbuilt 'btreekv: not built: entry 1000000 is out of order' --strict < bad
+unbuilt 'btreekv: input failed' absent
+unbuilt 'btreekv: input failed' .
+TMPDIR=$work/absent unbuilt 'btreekv: input failed' < bad
+[[ -z $(ls spool) ]] || fail "a temporary file is left: $(ls spool)"
+
 # after a second of reading, standard error says how much was read if it is a terminal, and only then
 python3 -c '
 import os, pty, subprocess, sys, time
@@ -145,6 +183,9 @@ if [[ -e /dev/full ]]; then
     got=0
     "$program" list archive > /dev/full 2> said || got=$?
     [[ $got == 2 && $(cat said) == 'btreekv: output failed' ]] || fail "a full device: status $got: $(cat said)"
+    got=0
+    "$program" build million > /dev/full 2> said || got=$?
+    [[ $got == 2 && $(cat said) == 'btreekv: output failed' ]] || fail "a million lines to a full device: status $got: $(cat said)"
 fi
 
 exit "$failed"

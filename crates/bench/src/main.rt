@@ -8,6 +8,7 @@ mod access;
 mod builders;
 mod building;
 mod cold;
+mod many;
 mod maps;
 mod numbers;
 mod report;

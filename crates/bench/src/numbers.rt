@@ -3,7 +3,7 @@
 
 use crate::maps::write;
 use crate::report::Report;
-use crate::{unverified, writes};
+use crate::{many, unverified, writes};
 use anyhow::ensure;
 use rkyv_btree::map::access;
 use rkyv_btree::view::View;
@@ -203,6 +203,7 @@ fn measure_lookups(
     let std = report.time("std", "get", LOOKUPS, || get_std(std_map, keys))?;
     let sorted = report.time("sorted", "get", LOOKUPS, || get_sorted(entries, keys))?;
     ensure!(port == std && std == sorted, "sums differ");
+    many::measure(report, map, keys, port)?;
     unverified::measure(report, map, keys, port)
 }
 

@@ -1,5 +1,6 @@
 //! Times lookups in bytes that nobody has validated, beside those in a view: by numbers, and by texts.
 
+use crate::many;
 use crate::numbers::{LOOKUPS, Map};
 use crate::report::Report;
 use anyhow::ensure;
@@ -10,7 +11,8 @@ use rkyv_btree_base::map::ArchivedBTreeMap;
 use rkyv_btree_base::numbers::ArchivedU32;
 use rkyv_btree_base::text::ArchivedText;
 
-type Texts = ArchivedBTreeMap<ArchivedText, ArchivedU32, 5>;
+/// The maps of texts that are timed.
+pub(crate) type Texts = ArchivedBTreeMap<ArchivedText, ArchivedU32, 5>;
 
 /// The sum of the values found, or 0 where a lookup fails.
 #[inline(never)]
@@ -46,7 +48,7 @@ pub(crate) fn measure(
 }
 
 /// The index of the entry that is looked up after the one at this index.
-fn next(index: usize, count: usize) -> usize {
+pub(crate) fn next(index: usize, count: usize) -> usize {
     index.wrapping_add(7919) % count.max(1)
 }
 
@@ -98,5 +100,5 @@ pub(crate) fn measure_texts(
         || get_texts_unverified(unverified, entries),
     )?;
     ensure!(found == sum, "sums differ");
-    Ok(())
+    many::measure_texts(report, map, entries, sum)
 }

@@ -17,7 +17,7 @@ ghost use Rattle.rkyv_btree_writer.specs.Writing.{position, last_end};
 
 use crate::tree::write_child;
 use rkyv_btree_archive::archive::{Archive, Serialize};
-use rkyv_btree_archive::items::{AnyOrder, Source, none_left, take_items};
+use rkyv_btree_archive::items::{AnyOrder, Source, last_key, none_left, take_items};
 use rkyv_btree_archive::node_writes::{Scratch, reserve_scratch};
 use rkyv_btree_portable::check::Portable;
 use rkyv_btree_shape::height::entries_to_height;
@@ -157,14 +157,19 @@ where
         items: iter,
         look: AnyOrder {},
     };
-    if !take_items(&mut lists.items, len, &mut source) {
+    if !take_items(
+        &mut lists.items,
+        len,
+        last_key::<&'x KU, &'x VU>(&[], None),
+        &mut source,
+    ) {
         return Err(Fault::Length(IteratorLengthMismatch {
             expected: len,
             actual: lists.items.len(),
         }));
     }
     let root = write_items::<KU, VU, K, V, W, A, E>(alloc, lists, writer)?;
-    if let Err(miscount) = none_left::<&'x KU, &'x VU, I, AnyOrder>(&mut source, len) {
+    if let Err(miscount) = none_left::<&'x KU, &'x VU, I, AnyOrder>(&mut source, None, len) {
         return Err(Fault::Length(miscount));
     }
     Ok(root.unwrap_or(0))
@@ -229,7 +234,7 @@ where
             items: iter,
             look: AnyOrder {},
         };
-        if let Err(miscount) = none_left::<&'x KU, &'x VU, I, AnyOrder>(&mut source, 0) {
+        if let Err(miscount) = none_left::<&'x KU, &'x VU, I, AnyOrder>(&mut source, None, 0) {
             return Err(Fault::Length(miscount));
         }
         return Ok(0);

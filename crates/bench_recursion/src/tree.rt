@@ -162,5 +162,6 @@ where
         last,
         writer,
     )?;
+    waiting.truncate(first);
     Ok(Some(root))
 }

@@ -62,7 +62,7 @@ module _ (native : Result (List (ℕ × ℕ)) EntryFault) (last : List (ℕ × �
   pub renewed_accepted : (from : Writing) (at : ℕ) (to : Writing) → from ≡ nothing_written → Migrates nat_cmp u32_kind u32_kind numbers numbers (model_both (λ n. n) (λ n. n)) native from at to
       → MigratesToStrict nat_cmp u32_kind u32_kind numbers numbers (model_both (λ n. n) (λ n. n)) native from at to → IsArchive to.contents last
   renewed_accepted from at to start m strict =
-      let s = strict (itself u32_kind) (itself u32_kind) (λ x y. refl) (ap (λ w. w.base) start) in
+      let s = strict (itself u32_kind) (itself u32_kind) (λ x y. refl) [] (sym (ap (λ w. w.base) start)) in
       let tree = tree_of m.entries m.root from m.mid start m.built in
       let here : at ≡ root_of to.contents = m.place ∙ omega (arith, archive_length m.mid to m.root (length m.entries) tree.wrote.done.base m.wrote) in
       let same : map (λ x. (x.0, x.1)) s.0 ≡ last = model_same s.0 ∙ native_last s.0 s.1 in

@@ -1,3 +1,4 @@
 pub mod Digits
 pub mod Once
+pub mod ReadingLines
 pub mod Splitting

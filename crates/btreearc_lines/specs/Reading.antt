@@ -1,5 +1,5 @@
 -- What reading from the left finds.
-use Rattle.std.specs.Prelude.{◌≡◌, ℕ, List, [], ◌∷◌, ◌++◌, length, ◌≤◌, Result, Ok, Err}
+use Rattle.std.specs.Prelude.{◌≡◌, ℕ, Bool, true, false, List, [], ◌∷◌, ◌++◌, length, ◌≤◌, Option, Some, None, Result, Ok, Err}
 use Rattle.btreearc_lines.specs.Grammar.{lines, AreEntries, LineEnds, IsDigit, IsNumber, BadLine}
 use Rattle.btreearc_lines.specs.declared.fault.ProgramFault.{ProgramFault}
 use Rattle.btreearc_lines.specs.declared.fault.ProgramFault.TheVariants.{Memory, Line}
@@ -53,3 +53,10 @@ GivesBadLine n (Ok found) = ⊥
 GivesBadLine n (Err Memory) = Unit {0}
 GivesBadLine n (Err (Line m)) = m ≡ n
 GivesBadLine n (Err _) = ⊥
+
+-- of known bytes the first line was read, and the rest is left; or there is no line
+abbrev pub ReadsLine : Option (List ℕ) → Bool → List ℕ → Option (List ℕ) → Type 0
+ReadsLine None is_line line new = Unit {0}
+ReadsLine (Some bytes) false line new = bytes ≡ []
+ReadsLine (Some bytes) true line None = ⊥
+ReadsLine (Some bytes) true line (Some rest) = lines bytes ≡ line ∷ lines rest

@@ -21,7 +21,7 @@ pub enum ProgramFault {
     NotBuilt(Fault<AllocError>),
     /// A read failed.
     InputFailed,
-    /// A write failed, and how much was written isn't known.
+    /// A write failed, or reading again what was tested failed, by the input or by memory. How much was written isn't known.
     OutputFailed,
     /// There is no memory for the input or the output.
     Memory,

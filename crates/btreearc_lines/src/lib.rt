@@ -5,4 +5,5 @@
 pub mod command;
 pub mod fault;
 pub mod lines;
+pub mod reopen;
 pub mod streams;

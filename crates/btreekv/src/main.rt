@@ -1,16 +1,24 @@
 //! Archived maps of texts to texts: built from lines, checked, listed and looked up in.
 #![tactic(auto)]
 
+mod files;
 mod progress;
 mod words;
 
 use btreearc_lines::fault::ProgramFault;
+use btreearc_lines::reopen::from_start;
 use btreekv_commands::command::Command;
 use btreekv_commands::program::run;
+use btreekv_commands::streaming;
+use files::{Bytes, Lines, read_bytes};
 use progress::Progress;
 use std::env;
 use std::fs::File;
+use std::io::{BufWriter, Read};
 use std::process::ExitCode;
+
+/// The number of bytes that one write of an archive has.
+const WRITE_LEN: usize = 65536;
 
 /// Writes the line of an error.
 fn say(rt: &HostRuntime, fault: &ProgramFault) {
@@ -25,8 +33,66 @@ fn say(rt: &HostRuntime, fault: &ProgramFault) {
     };
 }
 
+/// Opens a file.
+fn open(rt: &HostRuntime, path: &str) -> Result<File, ProgramFault> {
+    match File::open(rt, path) {
+        Ok(file) => Ok(file),
+        Err(_) => Err(ProgramFault::InputFailed),
+    }
+}
+
+/// Writes the archive of the lines of a file that can seek.
+fn build_lines(rt: &HostRuntime, is_strict: bool, file: File) -> Result<u8, ProgramFault> {
+    let Ok(output) = BufWriter::with_capacity(rt.alloc(), WRITE_LEN, rt.stdout()) else {
+        return Err(ProgramFault::Memory);
+    };
+    streaming::build(rt.alloc(), is_strict, &Lines::new(rt, file), output).0
+}
+
+/// Writes the archive of the lines of an input that can't seek.
+fn build_bytes<R: Read + Drop>(
+    rt: &HostRuntime,
+    is_strict: bool,
+    input: R,
+) -> Result<u8, ProgramFault> {
+    match read_bytes(rt, Progress::new(rt, input))? {
+        Bytes::Held(bytes) => {
+            let command = if is_strict {
+                Command::BuildStrict
+            } else {
+                Command::Build
+            };
+            run(
+                rt.alloc(),
+                &command,
+                &mut bytes.as_slice(),
+                &mut rt.stdout(),
+            )
+        }
+        Bytes::Spooled(file) => build_lines(rt, is_strict, file),
+    }
+}
+
+/// Writes the archive of the lines of a file, or of standard input.
+fn build(rt: &HostRuntime, is_strict: bool, path: Option<&str>) -> Result<u8, ProgramFault> {
+    let Some(path) = path else {
+        return build_bytes(rt, is_strict, rt.stdin());
+    };
+    let file = open(rt, path)?;
+    if from_start(&file).is_ok() {
+        build_lines(rt, is_strict, file)
+    } else {
+        build_bytes(rt, is_strict, file)
+    }
+}
+
 /// Runs a command over a file, or over standard input, and standard output.
 fn start(rt: &HostRuntime, command: &Command, file: Option<&str>) -> Result<u8, ProgramFault> {
+    match command {
+        Command::Build => return build(rt, false, file),
+        Command::BuildStrict => return build(rt, true, file),
+        _ => {}
+    }
     let mut output = rt.stdout();
     match file {
         None => {
@@ -34,10 +100,7 @@ fn start(rt: &HostRuntime, command: &Command, file: Option<&str>) -> Result<u8, 
             run(rt.alloc(), command, &mut input, &mut output)
         }
         Some(path) => {
-            let Ok(file) = File::open(rt, path) else {
-                return Err(ProgramFault::InputFailed);
-            };
-            let mut input = Progress::new(rt, file);
+            let mut input = Progress::new(rt, open(rt, path)?);
             run(rt.alloc(), command, &mut input, &mut output)
         }
     }

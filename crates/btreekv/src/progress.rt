@@ -23,10 +23,17 @@ impl<'a, R> Progress<'a, R> {
                 last = Some(now);
             }
         }
+        let mut progress = Progress::silent(rt, input);
+        progress.last = last;
+        progress
+    }
+
+    /// Returns a reader over a reader that writes no lines.
+    pub fn silent(rt: &'a HostRuntime, input: R) -> Progress<'a, R> {
         Progress {
             rt,
             input,
-            last,
+            last: None,
             bytes: 0,
             is_written: false,
         }

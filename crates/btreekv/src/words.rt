@@ -32,7 +32,7 @@ fn build<'a>(alloc: Global) -> Result<Command<'a>, AllocError> {
     let sort = flag(
         alloc,
         "sort",
-        "sort by keys; of equal keys the last value counts",
+        "sort by keys, in memory; of equal keys the last value counts",
     );
     Command::new(alloc, "build")
         .about("write the archive of lines KEY TAB VALUE")

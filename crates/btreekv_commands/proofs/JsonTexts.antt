@@ -2,7 +2,7 @@
 use Rattle.std.proofs.Common.{◌≡◌, ℕ, List, [], ◌∷◌, ◌++◌, map, refl, sym, ap, ◌∙◌, append_assoc, append-nil}
 use Rattle.std.proofs.lemmas.List.{map_push}
 use Rattle.std.specs.List.{flat_map}
-use Rattle.btreekv_commands.specs.Json.{escaped, json_object, json_string, member, members}
+use Rattle.btreekv_commands.specs.Json.{escaped, json_object, member, members}
 use Rattle.btreekv_commands.specs.Lines.{Entry}
 
 flat_push : {X : Type 0} (f : X → List ℕ) (xs : List X) (x : X) → flat_map f (xs ++ x ∷ []) ≡ flat_map f xs ++ f x

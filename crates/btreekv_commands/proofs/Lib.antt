@@ -1,9 +1,13 @@
-pub mod Built
+pub mod Causes
+pub mod Counting
 pub mod Fits
 pub mod Found
 pub mod JsonTexts
 pub mod Listed
+pub mod Ordering
 pub mod PrefixOrder
 pub mod Sorted
 pub mod Splitting
+pub mod Taken
+pub mod TextsWritten
 pub mod Unbuilt

@@ -14,7 +14,7 @@ use Rattle.rkyv_btree_walk.specs.Bounds.{IsRun, IsWithin}
 use Rattle.rkyv_btree_view.specs.Lookup.{found_at}
 use Rattle.btreearc_lines.specs.declared.fault.ProgramFault.{ProgramFault}
 use Rattle.btreearc_lines.specs.declared.fault.ProgramFault.TheVariants.{Line, Refused, NotBuilt, InputFailed, OutputFailed, Memory}
-use Rattle.btreekv_commands.specs.Building.{last_values, IsUnbuilt, IsUnbuiltInOrder}
+use Rattle.btreekv_commands.specs.Building.{last_values, IsUnbuilt, IsUnbuiltInOrder, IsUnbuiltMap}
 use Rattle.btreekv_commands.specs.Figures.{archive_nodes, figures}
 use Rattle.btreekv_commands.specs.Json.{json_object, json_string}
 use Rattle.btreekv_commands.specs.Lines.{Entry, AreLines, IsBadLine, text_of}
@@ -71,10 +71,12 @@ Outputs (Prefix prefix) input text status =
     (status ≡ 0) × ((entries within : List Entry) × IsArchive input entries
     × HasPrefix (string_bytes prefix) entries within × (text ≡ text_of within))
 
--- why an archive isn't built of an input: its first bad line, or why its entries have no archive; or there is no memory
+-- why an archive isn't built of an input: its first bad line, or why its entries have no archive; or reading it failed, or
+-- there is no memory
 abbrev pub FailsToBuild : (List Entry → Fault AllocError → Type 0) → List ℕ → ProgramFault → Type 0
 FailsToBuild Unbuilt input (Line n) = IsBadLine input n
 FailsToBuild Unbuilt input (NotBuilt fault) = (entries : List Entry) × AreLines input entries × Unbuilt entries fault
+FailsToBuild Unbuilt input InputFailed = Unit {0}
 FailsToBuild Unbuilt input Memory = Unit {0}
 FailsToBuild Unbuilt input _ = ⊥
 
@@ -88,7 +90,7 @@ FailsToRead Refuses input _ = ⊥
 abbrev pub Fails : Command → List ℕ → ProgramFault → Type 0
 Fails Build input fault = FailsToBuild IsUnbuilt input fault
 Fails BuildStrict input fault = FailsToBuild IsUnbuiltInOrder input fault
-Fails BuildSorted input fault = FailsToBuild (λ entries. IsUnbuilt (last_values entries)) input fault
+Fails BuildSorted input fault = FailsToBuild (λ entries. IsUnbuiltMap (last_values entries)) input fault
 Fails CheckStrict input fault = FailsToRead RefusesStrictArchive input fault
 Fails _ input fault = FailsToRead RefusesArchive input fault
 

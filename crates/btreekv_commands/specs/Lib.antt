@@ -5,4 +5,6 @@ pub mod Json
 pub mod Lines
 pub mod Opening
 pub mod Prefixes
+pub mod Reading
+pub mod Streaming
 pub mod Texts

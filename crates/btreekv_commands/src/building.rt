@@ -1,44 +1,31 @@
-//! Archives of entries: in their order, in increasing order of their keys, and sorted.
-ghost use Rattle.std.specs.Prelude.{◌≡◌, ◌⊎◌, IfOk, OnOk, IfErr, map};
+//! Archives of entries: in the order of their lines, and sorted.
+ghost use Rattle.std.specs.Prelude.{◌≡◌, ◌⊎◌, List, length, IfOk, OnOk, IfErr, IfSome, map};
 ghost use Rattle.std.specs.BTreeMap.{insert_entry};
-ghost use Rattle.std.specs.Iterator.{YieldsFirstBy, item_count};
 ghost use Rattle.std.specs.String.{string_cmp};
 ghost use Rattle.rkyv_btree_base.specs.Archiving.{IsArchived};
 ghost use Rattle.rkyv_btree_base.specs.Causes.{HasCauses};
-ghost use Rattle.btreekv_commands.specs.Building.{last_values, IsBuildFault, IsUnbuilt, IsUnbuiltInOrder};
+ghost use Rattle.rkyv_btree_base.specs.Whole.{fresh};
+ghost use Rattle.btreekv_commands.specs.Building.{last_values, IsBuildFault, IsReadOrBuildFault, IsReadTry, IsTried};
+ghost use Rattle.btreekv_commands.specs.Building.{IsUnbuilt, IsUnbuiltMap, in_memory, program_fault};
+ghost use Rattle.btreekv_commands.specs.Lines.{AreLines, Entry};
 ghost use Rattle.btreekv_commands.specs.Opening.{IsArchive, KeysIncrease};
 ghost use Rattle.btreekv_commands.specs.Texts.{texts_of};
 
+use crate::entries::Entries;
 use crate::opening::Texts;
+use crate::text::Text;
 use btreearc_lines::fault::ProgramFault;
 use rkyv_btree_base::archive::Archive;
+use rkyv_btree_base::fault::Fault;
 use rkyv_btree_base::laws::written_maps_are_held;
-use rkyv_btree_base::place::VecWriter;
+use rkyv_btree_base::place::{VecWriter, Writer};
 use rkyv_btree_base::text::ArchivedText;
+use rkyv_btree_base::try_build::TryFault;
 use rkyv_btree_base::whole::to_archive;
 use rkyv_btree_convert::native_map::last_values_count;
-use std::alloc::Global;
+use std::alloc::{AllocError, Global};
 use std::collections::BTreeMap;
-
-/// Entries in their order, each as references to its key and its value.
-#[derive(Drop)]
-struct Entries<'x> {
-    rest: &'x [(String, String)],
-}
-
-impl<'x> Iterator for Entries<'x> {
-    type Item = (&'x String, &'x String);
-
-    ghost next_gives = { YieldsFirstBy (λ e. (e.0.now, e.1.now)) (λ s. s.rest.now) };
-
-    ghost remaining = { item_count (λ s. s.rest.now) };
-
-    fn next(&mut self) -> Option<(&'x String, &'x String)> {
-        let (first, rest) = self.rest.split_first()?;
-        self.rest = rest;
-        Some((&first.0, &first.1))
-    }
-}
+use std::io::BufRead;
 
 /// States that archiving a type is lawful, and the causes of its errors are true ones.
 fn archiving_is_lawful<T: Archive>()
@@ -46,54 +33,83 @@ fn archiving_is_lawful<T: Archive>()
     ensures causes { HasCauses T.archival }
 {}
 
-/// Returns the archive of entries.
+/// Serializes the entries of the lines of a reader and then their map, from position 0 on. `count` is the number of lines.
 ///
 /// # Errors
 ///
-/// `NotBuilt` if the archive would be longer than 4 GiB, a pointer would reach over more than 2 GiB, or there is no memory.
+/// `Item` if a read fails, a line is no entry, there are fewer lines, or there is no memory for an entry. `Build` if the archive
+/// would be longer than 4 GiB, a pointer would reach over more than 2 GiB, the writer fails, or there is no memory.
 #[tactic(auto, using(crate::proofs::Fits::texts_fit))]
-pub fn archive(alloc: Global, entries: &[(String, String)]) -> Result<Vec<u8>, ProgramFault>
-    ensures ok { IfOk result (λ bytes. IsArchive bytes.items (map texts_of entries.now)) }
-    ensures err { IfErr result (IsBuildFault (IsUnbuilt (map texts_of entries.now))) }
+pub(crate) fn serialize_lines<B: BufRead + Drop, W: Writer>(
+    alloc: Global,
+    count: usize,
+    input: B,
+    writer: &mut W,
+) -> Result<(), TryFault<W::Error, ProgramFault>>
+    requires { W.state writer.old ≡ fresh }
+    ensures ok { OnOk result (IfSome (B.remaining input) (λ bytes. (entries : List Entry) →
+        AreLines bytes entries → count ≡ length entries →
+        IsArchive (W.state writer.new).contents entries)) }
+    ensures err { IfErr result (λ fault. IfSome (B.remaining input) (λ bytes.
+        (entries : List Entry) → AreLines bytes entries → count ≡ length entries →
+        IsTried entries fault)) }
+    ensures read { IfErr result IsReadTry }
 {
     written_maps_are_held();
-    archiving_is_lawful::<String>();
-    let mut writer = VecWriter::new(alloc);
-    let count = entries.len();
-    let items = Entries { rest: entries };
-    let root = match Texts::serialize_from_ordered_iter(alloc, count, items, &mut writer) {
+    archiving_is_lawful::<Text>();
+    let items = Entries::new(alloc, input, count);
+    let root = match Texts::try_serialize_from_ordered_iter(alloc, count, items, writer) {
         Ok(root) => root,
-        Err(fault) => return Err(ProgramFault::NotBuilt(fault)),
+        Err(fault) => return Err(fault),
     };
-    match Texts::write_root(count, root, &mut writer) {
-        Ok(_) => Ok(writer.into_vec()),
-        Err(fault) => Err(ProgramFault::NotBuilt(fault)),
+    match Texts::write_root(count, root, writer) {
+        Ok(_) => Ok(()),
+        Err(fault) => Err(TryFault::Build(fault)),
     }
 }
 
-/// Returns the archive of entries whose keys increase.
+/// Returns the program's error for one of building. A writer's own error is one of memory.
+pub(crate) fn program_fault<E: Drop>(fault: TryFault<E, ProgramFault>) -> ProgramFault
+    ensures { result ≡ program_fault fault }
+{
+    match fault {
+        TryFault::Item(fault) => fault,
+        TryFault::Build(fault) => ProgramFault::NotBuilt(in_memory(fault)),
+    }
+}
+
+/// Returns the same error, where a writer's own is one of memory.
+fn in_memory<E: Drop>(fault: Fault<E>) -> Fault<AllocError>
+    ensures { result ≡ in_memory fault }
+{
+    match fault {
+        Fault::Length(mismatch) => Fault::Length(mismatch),
+        Fault::LengthOverflow => Fault::LengthOverflow,
+        Fault::PositionOverflow => Fault::PositionOverflow,
+        Fault::OffsetOverflow => Fault::OffsetOverflow,
+        Fault::Writer(_) => Fault::Writer(AllocError),
+        Fault::Memory(error) => Fault::Memory(error),
+        Fault::Entry(fault) => Fault::Entry(fault),
+        Fault::OutOfOrder { index } => Fault::OutOfOrder { index },
+    }
+}
+
+/// Returns the archive of the entries of lines, of which there are `count`.
 ///
 /// # Errors
 ///
-/// As of `archive`, and `NotBuilt` with the index of the first entry whose key isn't greater than the key before it.
-#[tactic(auto, using(crate::proofs::Fits::texts_fit))]
-pub fn strict_archive(alloc: Global, entries: &[(String, String)]) -> Result<Vec<u8>, ProgramFault>
-    ensures ok { IfOk result (λ bytes. IsArchive bytes.items (map texts_of entries.now)) }
-    ensures increase { OnOk result (KeysIncrease (map texts_of entries.now)) }
-    ensures err { IfErr result (IsBuildFault (IsUnbuiltInOrder (map texts_of entries.now))) }
+/// `NotBuilt` if the archive would be longer than 4 GiB, a pointer would reach over more than 2 GiB, or there is no memory for the
+/// archive. `Memory` if there is none for an entry.
+pub fn archive(alloc: Global, text: &[u8], count: usize) -> Result<Vec<u8>, ProgramFault>
+    ensures ok { IfOk result (λ bytes. (entries : List Entry) → AreLines text.now entries →
+        count ≡ length entries → IsArchive bytes.items entries) }
+    ensures err { IfErr result (IsReadOrBuildFault (λ fault. (entries : List Entry) →
+        AreLines text.now entries → count ≡ length entries → IsUnbuilt entries fault)) }
 {
-    written_maps_are_held();
-    archiving_is_lawful::<String>();
     let mut writer = VecWriter::new(alloc);
-    let count = entries.len();
-    let items = Entries { rest: entries };
-    let root = match Texts::serialize_strict_from_ordered_iter(alloc, count, items, &mut writer) {
-        Ok(root) => root,
-        Err(fault) => return Err(ProgramFault::NotBuilt(fault)),
-    };
-    match Texts::write_root(count, root, &mut writer) {
-        Ok(_) => Ok(writer.into_vec()),
-        Err(fault) => Err(ProgramFault::NotBuilt(fault)),
+    match serialize_lines(alloc, count, text, &mut writer) {
+        Ok(()) => Ok(writer.into_vec()),
+        Err(fault) => Err(program_fault(fault)),
     }
 }
 
@@ -153,7 +169,7 @@ pub fn sorted_archive(
         IsArchive bytes.items (last_values (map texts_of entries.items))) }
     ensures increase { OnOk result (KeysIncrease (last_values (map texts_of entries.items))) }
     ensures err { IfErr result (λ fault. (fault ≡ ProgramFault.Memory)
-        ⊎ IsBuildFault (IsUnbuilt (last_values (map texts_of entries.items))) fault) }
+        ⊎ IsBuildFault (IsUnbuiltMap (last_values (map texts_of entries.items))) fault) }
 {
     let map = sorted(alloc, entries)?;
     match to_archive(alloc, &map) {

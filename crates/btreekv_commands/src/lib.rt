@@ -4,6 +4,7 @@
 
 pub mod building;
 pub mod command;
+mod entries;
 pub mod explaining;
 pub mod figures;
 pub mod json;
@@ -12,3 +13,5 @@ pub mod listing;
 pub mod opening;
 pub mod prefixes;
 pub mod program;
+pub mod streaming;
+mod text;

@@ -23,7 +23,7 @@ fn split_at_first(bytes: &[u8], byte: u8) -> Option<(&[u8], &[u8])>
 }
 
 /// Returns the key and the value of a line.
-fn entry_of(line: &[u8]) -> Option<(&str, &str)>
+pub(crate) fn entry_of(line: &[u8]) -> Option<(&str, &str)>
     ensures found { IfSome result (λ e. IsEntry line.now (e.0.now, e.1.now)) }
     ensures none { IfNone result ((x : Entry) → ¬ IsEntry line.now x) }
 {

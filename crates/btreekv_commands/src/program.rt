@@ -5,6 +5,7 @@ ghost use Rattle.btreekv_commands.specs.declared.command.Command.TheVariants.{Bu
 ghost use Rattle.btreekv_commands.specs.declared.command.Command.TheVariants.{Check, CheckStrict, Explain, Get, GetJson, ListJson, Prefix, Range, Stat};
 
 use crate::command::Command;
+use crate::entries::{check_order, count_lines};
 use crate::figures::figures_of;
 use crate::json::{push_object, push_string};
 use crate::lines::parse_lines;
@@ -176,8 +177,11 @@ fn build(alloc: Global, text: &[u8]) -> Result<Vec<u8>, ProgramFault>
     ensures ok { IfOk result (λ bytes. Outputs Build text.now bytes.items 0) }
     ensures err { IfErr result (Fails Build text.now) }
 {
-    let entries = parse_lines(alloc, text)?;
-    building::archive(alloc, &entries)
+    let mut lines = text;
+    match count_lines(alloc, &mut lines) {
+        Ok(count) => building::archive(alloc, text, count),
+        Err(fault) => Err(fault),
+    }
 }
 
 /// Returns the archive of lines whose keys increase.
@@ -185,8 +189,15 @@ fn build_strict(alloc: Global, text: &[u8]) -> Result<Vec<u8>, ProgramFault>
     ensures ok { IfOk result (λ bytes. Outputs BuildStrict text.now bytes.items 0) }
     ensures err { IfErr result (Fails BuildStrict text.now) }
 {
-    let entries = parse_lines(alloc, text)?;
-    building::strict_archive(alloc, &entries)
+    let mut lines = text;
+    let count = match count_lines(alloc, &mut lines) {
+        Ok(count) => count,
+        Err(fault) => return Err(fault),
+    };
+    match check_order(alloc, text, count) {
+        Ok(()) => building::archive(alloc, text, count),
+        Err(fault) => Err(fault),
+    }
 }
 
 /// Returns the archive of lines in increasing order of their keys.

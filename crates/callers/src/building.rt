@@ -45,3 +45,13 @@ pub fn squares(alloc: Global, count: u32) -> Result<Vec<u8>> {
     Squares::write_root(count as usize, tree, &mut writer)?;
     Ok(writer.into_vec())
 }
+
+/// Returns the archive of words and their lengths, in the order of the words. No word is copied before it is written.
+pub fn word_lengths(alloc: Global, words: &[&str]) -> Result<Vec<u8>> {
+    sizes_fit::<Prices>();
+    let items = words.iter().map(|word: &&str| (*word, word.len() as u64));
+    let mut writer = VecWriter::new(alloc);
+    let tree = Prices::serialize_from_exact_iter(alloc, items, &mut writer)?;
+    Prices::write_root(words.len(), tree, &mut writer)?;
+    Ok(writer.into_vec())
+}

@@ -102,6 +102,17 @@ pub fn first_above(map: View<'_, Prices>, limit: u64) -> Option<u64> {
     })
 }
 
+/// Adds up the prices of names, modulo 2 to the power of 64. A name without a price counts nothing.
+pub fn total_of(map: View<'_, Prices>, names: &[&str]) -> u64 {
+    let mut sum: u64 = 0;
+    for found in map.get_many_by(names) {
+        if let Some(price) = found {
+            sum = sum.wrapping_add(price.to_native());
+        }
+    }
+    sum
+}
+
 /// Counts the entries.
 pub fn count(map: View<'_, Prices>) -> usize
     ensures { result ≡ length (entries_of text_kind u64_kind 5 map.entry) }

@@ -1,11 +1,11 @@
 //! The callers, run once each on a list of two prices.
 
-use crate::building::{Squares, archive_of, squares};
+use crate::building::{Squares, archive_of, squares, word_lengths};
 use crate::editing::{double_all, double_along, raise_price, set_price};
 use crate::merging::merge;
 use crate::reading::{
     Prices, count, first_above, first_longer, price_in, price_in_strict, price_unverified,
-    price_with, total, total_between, total_between_unverified, total_unverified,
+    price_with, total, total_between, total_between_unverified, total_of, total_unverified,
 };
 use rkyv_btree::prelude::*;
 use rkyv_btree::set::open_strict as open_strict_set;
@@ -36,6 +36,7 @@ fn prices_are_read(rt: HostRuntime) -> Result<(), Fail> {
     assert_eq!(rt; first_above(map, 3), Some(5));
     assert_eq!(rt; total(map), 8);
     assert_eq!(rt; total_between(map, "b", "q"), 5);
+    assert_eq!(rt; total_of(map, &["pear", "plum", "apple", "pear"]), 13);
     assert_eq!(rt; count(map), 2);
     Ok(())
 }
@@ -54,6 +55,14 @@ fn prices_are_edited(rt: HostRuntime) -> Result<(), Fail> {
     assert_eq!(rt; price_unverified(bytes.as_slice(), "pear")?, Some(40));
     assert_eq!(rt; total_unverified(bytes.as_slice())?, 52);
     assert_eq!(rt; total_between_unverified(bytes.as_slice(), "b", "q")?, 40);
+    Ok(())
+}
+
+#[test]
+fn words_are_archived_where_they_are(rt: HostRuntime) -> Result<(), Fail> {
+    let bytes = word_lengths(rt.alloc(), &["", "bar", "foobar"])?;
+    assert_eq!(rt; price_in_strict(bytes.as_slice(), "")?, Some(0));
+    assert_eq!(rt; price_in_strict(bytes.as_slice(), "foobar")?, Some(6));
     Ok(())
 }
 

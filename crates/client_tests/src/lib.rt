@@ -12,6 +12,8 @@ mod round_trips;
 #[cfg(test)]
 mod shared;
 #[cfg(test)]
+mod streamed;
+#[cfg(test)]
 mod versions;
 #[cfg(test)]
 mod whole;

@@ -4,6 +4,7 @@
 
 pub mod editing;
 pub mod headline;
+pub mod many;
 pub mod round_trip;
 pub mod strict;
 pub mod version;

@@ -5,8 +5,10 @@ use crate::archives::{
     set_of, tens,
 };
 use anyhow::{Context, bail, ensure};
+use examples::version::Version;
 use rkyv_btree::prelude::*;
 use std::alloc::{AllocError, Global};
+use std::collections::BTreeMap;
 
 /// What comes of a call.
 #[derive(Clone, Copy)]
@@ -146,6 +148,22 @@ where
     Ok((first, second))
 }
 
+/// Returns versions in a std map. Equal ones aren't known to be the same, so they are deserialized one after another.
+fn versions(alloc: Global, count: u8) -> Result<BTreeMap<Version, u32>, AllocError> {
+    let mut map = BTreeMap::new(alloc);
+    for minor in 0..count {
+        let version = Version {
+            major: 1,
+            minor,
+            patch: 0,
+        };
+        if map.insert(version, u32::from(minor)).is_err() {
+            return Err(AllocError);
+        }
+    }
+    Ok(map)
+}
+
 /// Makes a call of the native value with a name.
 fn make_named(alloc: Global, call: Call, name: &str) -> anyhow::Result<(Answer, Answer)> {
     match name {
@@ -155,6 +173,7 @@ fn make_named(alloc: Global, call: Call, name: &str) -> anyhow::Result<(Answer, 
         "thirty-six keys" => make_twice(alloc, call, &map_of(alloc, tens(alloc, 36)?)?),
         "four texts" => make_twice(alloc, call, &four_texts(alloc)?),
         "a set of seven" => make_twice(alloc, call, &set_of(alloc, 7)?),
+        "seventeen versions" => make_twice(alloc, call, &versions(alloc, 17)?),
         "maps in a map" => make_twice(alloc, call, &maps_in_map(alloc)?),
         _ => bail!("no such value"),
     }

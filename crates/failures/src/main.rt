@@ -5,6 +5,7 @@ mod archives;
 mod growths;
 mod items;
 mod lending;
+mod owned;
 mod reads;
 mod rooms;
 mod streams;
@@ -35,6 +36,7 @@ fn show_all(alloc: Global, out: &mut String) -> anyhow::Result<()> {
     writes::show_orders(alloc, out)?;
     items::show(alloc, out)?;
     lending::show(alloc, out)?;
+    owned::show(alloc, out)?;
     rooms::show(alloc, out)?;
     streams::show(alloc, out)
 }

@@ -39,6 +39,11 @@ pub mod entry_type {
     pub use rkyv_btree_convert::entry_type::EntryType;
 }
 
+/// Lookups of many keys in a map, in one iterator.
+pub mod get_many {
+    pub use rkyv_btree_view::get_many::Lookups;
+}
+
 /// Iterators over the entries of a map.
 pub mod iter {
     pub use rkyv_btree_view::iter::Iter;

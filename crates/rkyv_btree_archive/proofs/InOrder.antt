@@ -32,15 +32,15 @@ module _ {A B M N P : Type 0} (order : M → M → Ordering) (total : IsTotalOrd
   abbrev IsLast : Option A → List (M × N) → Type 0
   IsLast last entries = MatchOption last (entries ≡ []) (λ key. (front : List (M × N)) × (e : M × N) × (entries ≡ front ++ e ∷ []) × (lends_key key ≡ e.0))
 
-  -- after these entries, of which the first are claimed
-  record After (before : List (M × N)) (s : InOrder A M) : Type 0 where
+  -- after these entries, of which the first are claimed, and the last of which has this key
+  record After (before : List (M × N)) (s : InOrder M) (key : Option A) : Type 0 where
     claimed : List (M × N)
     extra : List (M × N)
     parts : before ≡ claimed ++ extra
     count : s.left + length claimed ≡ claim
     over : (extra ≡ []) ⊎ (s.left ≡ 0)
     increase : Increasing order claimed
-    last : IsLast s.last claimed
+    last : extra ≡ [] → IsLast key claimed
 
   grown : (last : Option A) (claimed : List (M × N)) (x : M × N) → Increasing order claimed → IsLast last claimed → IfSome last (λ key. order (lends_key key) x.0 ≡ Less) → Increasing order (claimed ++ x ∷ [])
   grown None claimed x increase empty less = subst (λ (zs : List (M × N)). Increasing order (zs ++ x ∷ [])) (sym empty) (alone order x)
@@ -48,23 +48,23 @@ module _ {A B M N P : Type 0} (order : M → M → Ordering) (total : IsTotalOrd
       subst (λ (zs : List (M × N)). Increasing order (zs ++ x ∷ [])) (sym is)
       (increasing_snoc total front e x (subst (λ (zs : List (M × N)). Increasing order zs) is increase) (subst (λ z. order z x.0 ≡ Less) same less))
 
-  none_extra : (before : List (M × N)) (s : InOrder A M) → (a : After before s) → 0 < s.left → a.extra ≡ []
-  none_extra before s a more = elim a.over [ inl none ↦ none | inr zero ↦ absurd (omega (arith, zero, more)) ]
+  none_extra : (before : List (M × N)) (s : InOrder M) (key : Option A) → (a : After before s key) → 0 < s.left → a.extra ≡ []
+  none_extra before s key a more = elim a.over [ inl none ↦ none | inr zero ↦ absurd (omega (arith, zero, more)) ]
 
-  after_none : (s : InOrder A M) → s.left ≡ claim → s.last ≡ None → After [] s
-  after_none s left last = record {
+  after_none : (s : InOrder M) → s.left ≡ claim → After [] s None
+  after_none s left = record {
     claimed = [];
     extra = [];
     parts = refl;
     count = omega (arith, left);
     over = inl refl;
     increase = nothing N order;
-    last = subst (λ (l : Option A). IsLast l []) (sym last) refl;
+    last = λ none. refl;
   }
 
-  after_one : (before : List (M × N)) (s t : InOrder A M) (x : A × B) → After before s → IsNext order lends_key s x.0 t → After (before ++ lent x ∷ []) t
-  after_one before s t x a (same, inl (left, last, less)) =
-      let none = none_extra before s a (omega (arith, left)) in
+  after_one : (before : List (M × N)) (s t : InOrder M) (key : Option A) (x : A × B) → After before s key → IsNext order lends_key s key x.0 t → After (before ++ lent x ∷ []) t (Some x.0)
+  after_one before s t key x a (same, inl (left, less)) =
+      let none = none_extra before s key a (omega (arith, left)) in
       let own : before ≡ a.claimed = a.parts ∙ (ap (λ (zs : List (M × N)). a.claimed ++ zs) none ∙ append-nil a.claimed) in
       record {
         claimed = a.claimed ++ lent x ∷ [];
@@ -72,21 +72,21 @@ module _ {A B M N P : Type 0} (order : M → M → Ordering) (total : IsTotalOrd
         parts = ap (λ (zs : List (M × N)). zs ++ lent x ∷ []) own ∙ sym (append-nil (a.claimed ++ lent x ∷ []));
         count = omega (arith, length-append a.claimed (lent x ∷ []), a.count, left);
         over = inl refl;
-        increase = grown s.last a.claimed (lent x) a.increase a.last less;
-        last = subst (λ (l : Option A). IsLast l (a.claimed ++ lent x ∷ [])) (sym last) (a.claimed, lent x, refl, refl);
+        increase = grown key a.claimed (lent x) a.increase (a.last none) less;
+        last = λ _. (a.claimed, lent x, refl, refl);
       }
-  after_one before s t x a (same, inr (zero, zero2, last)) = record {
+  after_one before s t key x a (same, inr (zero, zero2)) = record {
     claimed = a.claimed;
     extra = a.extra ++ lent x ∷ [];
     parts = ap (λ (zs : List (M × N)). zs ++ lent x ∷ []) a.parts ∙ append_assoc a.claimed a.extra (lent x ∷ []);
     count = omega (arith, zero, zero2, a.count);
     over = inr zero2;
     increase = a.increase;
-    last = subst (λ (l : Option A). IsLast l a.claimed) (sym last) a.last;
+    last = λ none. absurd (omega (arith, length-append a.extra (lent x ∷ []), ap length none));
   }
 
-  all_increase : (before : List (M × N)) (s : InOrder A M) → After before s → length before ≤ claim → Increasing order before
-  all_increase before s a few = elim a.over [
+  all_increase : (before : List (M × N)) (s : InOrder M) (key : Option A) → After before s key → length before ≤ claim → Increasing order before
+  all_increase before s key a few = elim a.over [
     | inl none ↦ whole none
     | inr zero ↦ whole (nil_from_length a.extra (omega (arith, ap length a.parts, length-append a.claimed a.extra, a.count, zero, few)))
   ]
@@ -94,8 +94,8 @@ module _ {A B M N P : Type 0} (order : M → M → Ordering) (total : IsTotalOrd
       whole : a.extra ≡ [] → Increasing order before
       whole none = subst (λ (zs : List (M × N)). Increasing order zs) (sym (a.parts ∙ (ap (λ (zs : List (M × N)). a.claimed ++ zs) none ∙ append-nil a.claimed))) a.increase
 
-  first_increase : (before : List (M × N)) (s : InOrder A M) → After before s → Increasing order (take claim before)
-  first_increase before s a = elim a.over [
+  first_increase : (before : List (M × N)) (s : InOrder M) (key : Option A) → After before s key → Increasing order (take claim before)
+  first_increase before s key a = elim a.over [
     | inl none ↦
         let own : before ≡ a.claimed = a.parts ∙ (ap (λ (zs : List (M × N)). a.claimed ++ zs) none ∙ append-nil a.claimed) in
         let few : length before ≤ claim = omega (arith, ap length own, a.count) in
@@ -105,73 +105,78 @@ module _ {A B M N P : Type 0} (order : M → M → Ordering) (total : IsTotalOrd
         subst (λ (zs : List (M × N)). Increasing order zs) (sym (ap (λ (zs : List (M × N)). take claim zs) a.parts ∙ first)) a.increase
   ]
 
-  abbrev Steps : Source P (InOrder A M) → Option (A × B) → Source P (InOrder A M) → Type 0
+  abbrev From : Type 0
+  From = Source P (InOrder M) × Option A
+
+  abbrev Steps : From → Option (A × B) → From → Type 0
   Steps = Gives steps (IsNext order lends_key) (IsNotNext order lends_key)
 
   -- a run of the source is one of its iterator
-  run : (s : Source P (InOrder A M)) (items : List (A × B)) (t : Source P (InOrder A M)) (before : List (M × N)) → After before s.look → Yields Steps s items t
-      → Yields steps s.items items t.items × After (before ++ map lent items) t.look × (t.look.stopped ≡ s.look.stopped)
+  run : (s : From) (items : List (A × B)) (t : From) (before : List (M × N)) → After before s.0.look s.1 → Yields Steps s items t
+      → Yields steps s.0.items items t.0.items × After (before ++ map lent items) t.0.look t.1 × (t.0.look.stopped ≡ s.0.look.stopped)
   run s [] t before a y = (
-    ap (λ (z : Source P (InOrder A M)). z.items) y,
-    subst (λ (z : Source P (InOrder A M)). After (before ++ []) z.look) y (subst (λ (zs : List (M × N)). After zs s.look) (sym (append-nil before)) a),
-    ap (λ (z : Source P (InOrder A M)). z.look.stopped) (sym y),
+    ap (λ (z : From). z.0.items) y,
+    subst (λ (z : From). After (before ++ []) z.0.look z.1) y (subst (λ (zs : List (M × N)). After zs s.0.look s.1) (sym (append-nil before)) a),
+    ap (λ (z : From). z.0.look.stopped) (sym y),
   )
-  run s (x ∷ items) t before a (mid, (step, next), y) =
-      let r = run mid items t (before ++ lent x ∷ []) (after_one before s.look mid.look x a next) y in (
-        (mid.items, step, r.0),
-        subst (λ (zs : List (M × N)). After zs t.look) (append_assoc before (lent x ∷ []) (map lent items)) r.1,
+  run s (x ∷ items) t before a (mid, (step, next, key), y) =
+      let r = run mid items t (before ++ lent x ∷ []) (subst (λ (k : Option A). After (before ++ lent x ∷ []) mid.0.look k) (sym key) (after_one before s.0.look mid.0.look s.1 x a next)) y in (
+        (mid.0.items, step, r.0),
+        subst (λ (zs : List (M × N)). After zs t.0.look t.1) (append_assoc before (lent x ∷ []) (map lent items)) r.1,
         r.2 ∙ next.0,
       )
 
   -- from its beginning
-  pub record Begins (s : Source P (InOrder A M)) : Type 0 where
-    pub left : s.look.left ≡ claim
-    pub last : s.look.last ≡ None
-    pub stopped : s.look.stopped ≡ false
+  pub record Begins (s : From) : Type 0 where
+    pub left : s.0.look.left ≡ claim
+    pub first : s.1 ≡ None
+    pub stopped : s.0.look.stopped ≡ false
 
-  from_start : (s : Source P (InOrder A M)) (items : List (A × B)) (t : Source P (InOrder A M)) → Begins s → Yields Steps s items t
-      → Yields steps s.items items t.items × After (map lent items) t.look × (t.look.stopped ≡ false)
-  from_start s items t b y = let r = run s items t [] (after_none s.look b.left b.last) y in (r.0, r.1, r.2 ∙ b.stopped)
+  from_start : (s : From) (items : List (A × B)) (t : From) → Begins s → Yields Steps s items t
+      → Yields steps s.0.items items t.0.items × After (map lent items) t.0.look t.1 × (t.0.look.stopped ≡ false)
+  from_start s items t b y =
+      let r = run s items t [] (subst (λ (k : Option A). After [] s.0.look k) (sym b.first) (after_none s.0.look b.left)) y in
+      (r.0, r.1, r.2 ∙ b.stopped)
 
   -- no claimed item is left, where as many have come
-  none_claimed : (before : List (M × N)) (s : InOrder A M) → After before s → claim ≤ length before → 0 < s.left → ⊥
-  none_claimed before s a many more =
-      let none = none_extra before s a more in
+  none_claimed : (before : List (M × N)) (s : InOrder M) (key : Option A) → After before s key → claim ≤ length before → 0 < s.left → ⊥
+  none_claimed before s key a many more =
+      let none = none_extra before s key a more in
       absurd (omega (arith, ap length a.parts, length-append a.claimed a.extra, ap length none, a.count, many, more))
 
-  module _ {R S : Type 0} (K V : Kind) (E : ℕ) (KA : Archival M R) (VA : Archival N S) (s : Source P (InOrder A M)) (b : Begins s) (from : Writing) where
-    pub built_in_order : (root : ℕ) (t : Writing) → Serialised K V E KA VA lent Steps s claim from root t → SerialisedInOrder order K V E KA VA lent steps s.items claim from root t
+  module _ {R S : Type 0} (K V : Kind) (E : ℕ) (KA : Archival M R) (VA : Archival N S) (s : From) (b : Begins s) (from : Writing) where
+    pub built_in_order : (root : ℕ) (t : Writing) → Serialised K V E KA VA lent Steps s claim from root t → SerialisedInOrder order K V E KA VA lent steps s.0.items claim from root t
     built_in_order root t h =
         let r = from_start s h.items h.all.1.0 b h.all.1.1 in
         let n : length (map lent h.items) ≡ claim = length-map h.items lent ∙ h.count in (
           record {
             items = h.items;
-            all = (h.all.0.items, (h.all.1.0.items, r.0, ended r.1 n h.all.1.2));
+            all = (h.all.0.0.items, (h.all.1.0.0.items, r.0, ended r.1 n h.all.1.2));
             count = h.count;
             built = h.built;
             spelled = h.spelled;
           },
-          all_increase (map lent h.items) h.all.1.0.look r.1 (omega (arith, n)),
+          all_increase (map lent h.items) h.all.1.0.0.look h.all.1.0.1 r.1 (omega (arith, n)),
         )
       where
-        ended : After (map lent h.items) h.all.1.0.look → length (map lent h.items) ≡ claim → Steps h.all.1.0 None h.all.0 → steps h.all.1.0.items None h.all.0.items
+        ended : After (map lent h.items) h.all.1.0.0.look h.all.1.0.1 → length (map lent h.items) ≡ claim → Steps h.all.1.0 None h.all.0 → steps h.all.1.0.0.items None h.all.0.0.items
         ended a n (inl end) = end.0
-        ended a n (inr (x, step, (more, out, stopped))) = absurd (none_claimed (map lent h.items) h.all.1.0.look a (omega (arith, n)) more)
+        ended a n (inr (x, step, (more, out, stopped))) = absurd (none_claimed (map lent h.items) h.all.1.0.0.look h.all.1.0.1 a (omega (arith, n)) more)
 
-    stopped_in_order : {X : Type 0} (fault : Fault X) (t : Writing) → StoppedBuilding K V E KA VA lent Steps s claim from fault t → StoppedInOrder order K V E KA VA lent steps s.items claim from fault t
+    stopped_in_order : {X : Type 0} (fault : Fault X) (t : Writing) → StoppedBuilding K V E KA VA lent Steps s claim from fault t → StoppedInOrder order K V E KA VA lent steps s.0.items claim from fault t
     stopped_in_order fault t h =
         let r = from_start s h.items h.rest b h.taken in (
-          record { items = h.items; rest = h.rest.items; taken = r.0; entries = h.entries; claimed = h.claimed; stopped = h.stopped },
-          all_increase (map lent h.items) h.rest.look r.1 (omega (arith, ap length h.claimed.parts, length-append (map lent h.items) h.claimed.later, h.claimed.count)),
+          record { items = h.items; rest = h.rest.0.items; taken = r.0; entries = h.entries; claimed = h.claimed; stopped = h.stopped },
+          all_increase (map lent h.items) h.rest.0.look h.rest.1 r.1 (omega (arith, ap length h.claimed.parts, length-append (map lent h.items) h.claimed.later, h.claimed.count)),
         )
 
-    miscounted_in_order : (end : Source P (InOrder A M)) (expected actual : ℕ) (t : Writing) → end.look.stopped ≡ false → CountsTo K V E KA VA lent Steps s end claim expected actual from t
-        → (w : Miscounted K V E KA VA lent steps s.items claim expected actual from t) × Increasing order (take claim (map lent w.items))
+    miscounted_in_order : (end : From) (expected actual : ℕ) (t : Writing) → end.0.look.stopped ≡ false → CountsTo K V E KA VA lent Steps s end claim expected actual from t
+        → (w : Miscounted K V E KA VA lent steps s.0.items claim expected actual from t) × Increasing order (take claim (map lent w.items))
     miscounted_in_order end expected actual t whole (h, at) =
         let r = from_start s h.items h.all.1.0 b h.all.1.1 in (
           record {
             items = h.items;
-            all = (h.all.0.items, (h.all.1.0.items, r.0, ended h.all.1.2));
+            all = (h.all.0.0.items, (h.all.1.0.0.items, r.0, ended h.all.1.2));
             differs = h.differs;
             claimed = h.claimed;
             counted = h.counted;
@@ -179,16 +184,16 @@ module _ {A B M N P : Type 0} (order : M → M → Ordering) (total : IsTotalOrd
             few = h.few;
             many = h.many;
           },
-          first_increase (map lent h.items) h.all.1.0.look r.1,
+          first_increase (map lent h.items) h.all.1.0.0.look h.all.1.0.1 r.1,
         )
       where
-        ended : Steps h.all.1.0 None h.all.0 → steps h.all.1.0.items None h.all.0.items
+        ended : Steps h.all.1.0 None h.all.0 → steps h.all.1.0.0.items None h.all.0.0.items
         ended (inl end) = end.0
-        ended (inr (x, step, (more, out, stopped))) = let z : h.all.0.look.stopped ≡ false = ap (λ (z : Source P (InOrder A M)). z.look.stopped) at ∙ whole in absurd (cc (stopped, z))
+        ended (inr (x, step, (more, out, stopped))) = let z : h.all.0.0.look.stopped ≡ false = ap (λ (z : From). z.0.look.stopped) at ∙ whole in absurd (cc (stopped, z))
 
     -- each fault, where no key has stopped the source
-    pub fault_in_order : {X : Type 0} (fault : Fault X) (end : Source P (InOrder A M)) (t : Writing) → end.look.stopped ≡ false → FaultAt K V E KA VA lent Steps s claim from fault end t
-        → StrictFault order K V E KA VA lent steps s.items claim from fault t
+    pub fault_in_order : {X : Type 0} (fault : Fault X) (end : From) (t : Writing) → end.0.look.stopped ≡ false → FaultAt K V E KA VA lent Steps s claim from fault end t
+        → StrictFault order K V E KA VA lent steps s.0.items claim from fault t
     fault_in_order (Length m) end t whole h = miscounted_in_order end m.expected m.actual t whole h
     fault_in_order {X} LengthOverflow end t whole (inl past) = inl past
     fault_in_order {X} LengthOverflow end t whole (inr h) = inr (stopped_in_order {X = X} LengthOverflow t h)
@@ -219,27 +224,27 @@ module _ {A B M N P : Type 0} (order : M → M → Ordering) (total : IsTotalOrd
           omega (arith, n),
         )
 
-    count_out_of_order : (end : Source P (InOrder A M)) (expected actual : ℕ) (t : Writing) → end.look.stopped ≡ true → CountsTo K V E KA VA lent Steps s end claim expected actual from t → MetOutOfOrder order K V E KA VA lent steps s.items claim actual from t
+    count_out_of_order : (end : From) (expected actual : ℕ) (t : Writing) → end.0.look.stopped ≡ true → CountsTo K V E KA VA lent Steps s end claim expected actual from t → MetOutOfOrder order K V E KA VA lent steps s.0.items claim actual from t
     count_out_of_order end expected actual t stops (h, at) =
         let r = from_start s h.items h.all.1.0 b h.all.1.1 in
         go r.0 r.1 r.2 h.all.1.2
       where
-        go : Yields steps s.items h.items h.all.1.0.items → After (map lent h.items) h.all.1.0.look → h.all.1.0.look.stopped ≡ false → Steps h.all.1.0 None h.all.0 → MetOutOfOrder order K V E KA VA lent steps s.items claim actual from t
+        go : Yields steps s.0.items h.items h.all.1.0.0.items → After (map lent h.items) h.all.1.0.0.look h.all.1.0.1 → h.all.1.0.0.look.stopped ≡ false → Steps h.all.1.0 None h.all.0 → MetOutOfOrder order K V E KA VA lent steps s.0.items claim actual from t
         go y a whole (inl (none, same)) =
-            let z : h.all.0.look.stopped ≡ true = ap (λ (z : Source P (InOrder A M)). z.look.stopped) at ∙ stops in
-            let w : h.all.0.look.stopped ≡ false = ap (λ (z : InOrder A M). z.stopped) same ∙ whole in
+            let z : h.all.0.0.look.stopped ≡ true = ap (λ (z : From). z.0.look.stopped) at ∙ stops in
+            let w : h.all.0.0.look.stopped ≡ false = ap (λ (z : InOrder M). z.stopped) same ∙ whole in
             absurd (cc (z, w))
         go y a whole (inr (x, step, (more, out, stopped))) =
-            let none = none_extra (map lent h.items) h.all.1.0.look a more in
+            let none = none_extra (map lent h.items) h.all.1.0.0.look h.all.1.0.1 a more in
             let own : map lent h.items ≡ a.claimed = a.parts ∙ (ap (λ (zs : List (M × N)). a.claimed ++ zs) none ∙ append-nil a.claimed) in
             let few : length h.items < claim = omega (arith, length-map h.items lent, ap length own, a.count, more) in
-            let o = out_after h.items h.all.1.0.look.last a.claimed x actual own a.increase a.last out h.counted in
+            let o = out_after h.items h.all.1.0.1 a.claimed x actual own a.increase (a.last none) out h.counted in
             let one : take actual (h.items ++ x ∷ []) ≡ h.items = take_at h.items (x ∷ []) actual (sym h.counted) in
             let begun = h.few o.1 few in
             record {
               items = h.items ++ x ∷ [];
-              rest = h.all.0.items;
-              taken = Yields-more steps s.items h.items h.all.1.0.items x h.all.0.items y step;
+              rest = h.all.0.0.items;
+              taken = Yields-more steps s.0.items h.items h.all.1.0.0.items x h.all.0.0.items y step;
               claimed = omega (arith, h.counted, few);
               last = omega (arith, length-append h.items (x ∷ []), h.counted);
               out = o.0;
@@ -247,8 +252,8 @@ module _ {A B M N P : Type 0} (order : M → M → Ordering) (total : IsTotalOrd
             }
 
     -- each fault, where a key has stopped the source
-    pub fault_out_of_order : {X : Type 0} (fault : Fault X) (end : Source P (InOrder A M)) (t : Writing) → end.look.stopped ≡ true → FaultAt K V E KA VA lent Steps s claim from fault end t
-        → StrictFault order K V E KA VA lent steps s.items claim from (met_out_of_order fault) t
+    pub fault_out_of_order : {X : Type 0} (fault : Fault X) (end : From) (t : Writing) → end.0.look.stopped ≡ true → FaultAt K V E KA VA lent Steps s claim from fault end t
+        → StrictFault order K V E KA VA lent steps s.0.items claim from (met_out_of_order fault) t
     fault_out_of_order (Length m) end t stops h = count_out_of_order end m.expected m.actual t stops h
     fault_out_of_order {X} LengthOverflow end t stops (inl past) = inl past
     fault_out_of_order {X} LengthOverflow end t stops (inr h) = inr (stopped_in_order {X = X} LengthOverflow t h)
@@ -261,7 +266,7 @@ module _ {A B M N P : Type 0} (order : M → M → Ordering) (total : IsTotalOrd
     fault_out_of_order (OutOfOrder index) end t stops h = absurd h
 
     -- with a claim of nothing no key is out of order
-    pub none_met : {X : Type 0} (fault : Fault X) (t : Writing) → claim ≡ 0 → IsMiscount fault → StrictFault order K V E KA VA lent steps s.items claim from (met_out_of_order fault) t → IsMiscount (met_out_of_order fault)
+    pub none_met : {X : Type 0} (fault : Fault X) (t : Writing) → claim ≡ 0 → IsMiscount fault → StrictFault order K V E KA VA lent steps s.0.items claim from (met_out_of_order fault) t → IsMiscount (met_out_of_order fault)
     none_met (Length m) t none is h = absurd (let late = h.claimed in omega (arith, late, none))
     none_met LengthOverflow t none is h = absurd is
     none_met PositionOverflow t none is h = absurd is

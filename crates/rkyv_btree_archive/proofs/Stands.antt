@@ -211,6 +211,14 @@ module _ {I M N R S P : Type 0} (s : NodeLayout) (K : Archival M R) (V : Archiva
       go (f ∷ fs) d e = absurd (omega (arith, length-append (starts_of fs) (length (waiting_of fs) ∷ []), ap length e))
 
 module _ {I M N R S P : Type 0} (s : NodeLayout) (K : Archival M R) (V : Archival N S) (borrowed : I → M × N) (steps : P → Option I → P → Type 0) (G L : ℕ) (iter0 : P) (from0 : Writing) where
+  -- none waits then
+  pub stands_none : (g left taken : ℕ) (waiting : List I) (children : List (Option ℕ)) (starts : List ℕ) (root : Option ℕ) (rest : P) (to : Writing) → Stands s K V borrowed steps G L iter0 from0 g left taken waiting children starts root rest to → starts ≡ [] → waiting ≡ []
+  stands_none g left taken waiting children starts root rest to h none = go h.frames h.waiting_is (sym h.starts_is ∙ none)
+    where
+      go : (frames : List (Frame I)) → waiting ≡ waiting_of frames → starts_of frames ≡ [] → waiting ≡ []
+      go [] is e = is
+      go (f ∷ fs) is e = absurd (omega (arith, length-append (starts_of fs) (length (waiting_of fs) ∷ []), ap length e))
+
   -- all have come then
   pub stands_taken : (g left taken : ℕ) (waiting : List I) (children : List (Option ℕ)) (starts : List ℕ) (root : Option ℕ) (rest : P) (to : Writing) → Stands s K V borrowed steps G L iter0 from0 g left taken waiting children starts root rest to → starts ≡ [] → taken + 1 ≡ (s.E + 1) ^ G + min L (most s.E G)
   stands_taken g left taken waiting children starts root rest to h none = go h.frames h.done (sym h.starts_is ∙ none)

@@ -21,54 +21,54 @@ use Rattle.rkyv_btree_archive.specs.mirror.Source.{Gives}
 use Rattle.rkyv_btree_archive.specs.mirror.UntilError.{GivesUntilError, tried, tried_fault}
 
 module _ {A B X P L : Type 0} (steps : P → Option (Result (A × B) X) → P → Type 0) where
-  abbrev Steps : Source (UntilError P X) L → Option (A × B) → Source (UntilError P X) L → Type 0
-  Steps = Gives (GivesUntilError steps) (λ (s : L) (key : A) (t : L). ⊤) (λ (s : L) (key : A) (t : L). ⊥)
+  abbrev Steps : Source (UntilError P X) L × Option A → Option (A × B) → Source (UntilError P X) L × Option A → Type 0
+  Steps = Gives (GivesUntilError steps) (λ (s : L) (last : Option A) (key : A) (t : L). ⊤) (λ (s : L) (last : Option A) (key : A) (t : L). ⊥)
 
   -- a run of the source is one of its iterator, without an error
-  run : (s : Source (UntilError P X) L) (items : List (A × B)) (t : Source (UntilError P X) L) → Yields Steps s items t
-      → Yields (OkSteps steps) s.items.items items t.items.items × (t.items.error ≡ s.items.error)
-  run s [] t y = (ap (λ (z : Source (UntilError P X) L). z.items.items) y, ap (λ (z : Source (UntilError P X) L). z.items.error) (sym y))
-  run s (x ∷ items) t (mid, (step, passes), y) = let r = run mid items t y in ((mid.items.items, step.0, r.0), r.1 ∙ step.1)
+  run : (s : Source (UntilError P X) L × Option A) (items : List (A × B)) (t : Source (UntilError P X) L × Option A) → Yields Steps s items t
+      → Yields (OkSteps steps) s.0.items.items items t.0.items.items × (t.0.items.error ≡ s.0.items.error)
+  run s [] t y = (ap (λ (z : Source (UntilError P X) L × Option A). z.0.items.items) y, ap (λ (z : Source (UntilError P X) L × Option A). z.0.items.error) (sym y))
+  run s (x ∷ items) t (mid, (step, passes, key), y) = let r = run mid items t y in ((mid.0.items.items, step.0, r.0), r.1 ∙ step.1)
 
   -- its last call is the iterator's: it gave nothing if no error is kept, and the error if one is
-  ended : (s t : Source (UntilError P X) L) → s.items.error ≡ None → t.items.error ≡ None → Steps s None t → steps s.items.items None t.items.items
+  ended : (s t : Source (UntilError P X) L × Option A) → s.0.items.error ≡ None → t.0.items.error ≡ None → Steps s None t → steps s.0.items.items None t.0.items.items
   ended s t before none (inl (inl (step, same), look)) = step
   ended s t before none (inl (inr (x, step, kept), look)) = absurd (cc (kept, none))
   ended s t before none (inr (x, step, stops)) = absurd stops
 
-  failed : (s t : Source (UntilError P X) L) (error : X) → s.items.error ≡ None → t.items.error ≡ Some error → Steps s None t → steps s.items.items (Some (Err error)) t.items.items
+  failed : (s t : Source (UntilError P X) L × Option A) (error : X) → s.0.items.error ≡ None → t.0.items.error ≡ Some error → Steps s None t → steps s.0.items.items (Some (Err error)) t.0.items.items
   failed s t error before is (inl (inl (step, same), look)) = absurd (cc (before, same, is))
   failed s t error before is (inl (inr (x, step, kept), look)) =
       let one : x ≡ error = cc (kept, is) in
-      subst (λ z. steps s.items.items (Some (Err z)) t.items.items) one step
+      subst (λ z. steps s.0.items.items (Some (Err z)) t.0.items.items) one step
   failed s t error before is (inr (x, step, stops)) = absurd stops
 
-  module _ {M N R S : Type 0} (K V : Kind) (E : ℕ) (KA : Archival M R) (VA : Archival N S) (lent : A × B → M × N) (s : Source (UntilError P X) L) (fresh : s.items.error ≡ None) (claim : ℕ) (from : Writing) where
-    error_at : (z end : Source (UntilError P X) L) (error : Option X) → z ≡ end → end.items.error ≡ error → z.items.error ≡ error
-    error_at z end error at is = ap (λ (y : Source (UntilError P X) L). y.items.error) at ∙ is
+  module _ {M N R S : Type 0} (K V : Kind) (E : ℕ) (KA : Archival M R) (VA : Archival N S) (lent : A × B → M × N) (s : Source (UntilError P X) L × Option A) (fresh : s.0.items.error ≡ None) (claim : ℕ) (from : Writing) where
+    error_at : (z end : Source (UntilError P X) L × Option A) (error : Option X) → z ≡ end → end.0.items.error ≡ error → z.0.items.error ≡ error
+    error_at z end error at is = ap (λ (y : Source (UntilError P X) L × Option A). y.0.items.error) at ∙ is
 
-    serialised : (root : ℕ) (end : Source (UntilError P X) L) (t : Writing) → end.items.error ≡ None → SerialisedTo K V E KA VA lent Steps s claim from root end t
-        → Serialised K V E KA VA lent (OkSteps steps) s.items.items claim from root t
+    serialised : (root : ℕ) (end : Source (UntilError P X) L × Option A) (t : Writing) → end.0.items.error ≡ None → SerialisedTo K V E KA VA lent Steps s claim from root end t
+        → Serialised K V E KA VA lent (OkSteps steps) s.0.items.items claim from root t
     serialised root end t none (h, at) =
         let r = run s h.items h.all.1.0 h.all.1.1 in
         record {
           items = h.items;
-          all = (h.all.0.items.items, (h.all.1.0.items.items, r.0, ended h.all.1.0 h.all.0 (r.1 ∙ fresh) (error_at h.all.0 end None at none) h.all.1.2));
+          all = (h.all.0.0.items.items, (h.all.1.0.0.items.items, r.0, ended h.all.1.0 h.all.0 (r.1 ∙ fresh) (error_at h.all.0 end None at none) h.all.1.2));
           count = h.count;
           built = h.built;
           spelled = h.spelled;
         }
 
-    met_behind : (root : ℕ) (end : Source (UntilError P X) L) (t : Writing) (error : X) → end.items.error ≡ Some error → SerialisedTo K V E KA VA lent Steps s claim from root end t
-        → MetError K V E KA VA lent steps s.items.items claim from t error
+    met_behind : (root : ℕ) (end : Source (UntilError P X) L × Option A) (t : Writing) (error : X) → end.0.items.error ≡ Some error → SerialisedTo K V E KA VA lent Steps s claim from root end t
+        → MetError K V E KA VA lent steps s.0.items.items claim from t error
     met_behind root end t error is (h, at) =
         let r = run s h.items h.all.1.0 h.all.1.1 in
         let place = h.built.place in
         let whole : ChildWritten (layout_of K V E) KA VA from (planned_alone E (map lent h.items)) place t = h.built.written in
         record {
           items = h.items;
-          rest = h.all.1.0.items.items;
-          end = h.all.0.items.items;
+          rest = h.all.1.0.0.items.items;
+          end = h.all.0.0.items.items;
           taken = r.0;
           met = failed h.all.1.0 h.all.0 error (r.1 ∙ fresh) (error_at h.all.0 end (Some error) at is) h.all.1.2;
           none = λ empty. (subst (λ (zs : List (A × B)). ChildWritten (layout_of K V E) KA VA from (planned_alone E (map lent zs)) place t) empty whole).1;
@@ -76,13 +76,13 @@ module _ {A B X P L : Type 0} (steps : P → Option (Result (A × B) X) → P �
           enough = λ more. (place, subst (λ (zs : List (A × B)). ChildWritten (layout_of K V E) KA VA from (planned_alone E (map lent zs)) place t) (sym (take_all claim h.items (let n = h.count in omega (arith, n)))) whole);
         }
 
-    counted : (end : Source (UntilError P X) L) (expected actual : ℕ) (t : Writing) → end.items.error ≡ None → CountsTo K V E KA VA lent Steps s end claim expected actual from t
-        → Miscounted K V E KA VA lent (OkSteps steps) s.items.items claim expected actual from t
+    counted : (end : Source (UntilError P X) L × Option A) (expected actual : ℕ) (t : Writing) → end.0.items.error ≡ None → CountsTo K V E KA VA lent Steps s end claim expected actual from t
+        → Miscounted K V E KA VA lent (OkSteps steps) s.0.items.items claim expected actual from t
     counted end expected actual t none (h, at) =
         let r = run s h.items h.all.1.0 h.all.1.1 in
         record {
           items = h.items;
-          all = (h.all.0.items.items, (h.all.1.0.items.items, r.0, ended h.all.1.0 h.all.0 (r.1 ∙ fresh) (error_at h.all.0 end None at none) h.all.1.2));
+          all = (h.all.0.0.items.items, (h.all.1.0.0.items.items, r.0, ended h.all.1.0 h.all.0 (r.1 ∙ fresh) (error_at h.all.0 end None at none) h.all.1.2));
           differs = h.differs;
           claimed = h.claimed;
           counted = h.counted;
@@ -91,14 +91,14 @@ module _ {A B X P L : Type 0} (steps : P → Option (Result (A × B) X) → P �
           many = h.many;
         }
 
-    met_counted : (end : Source (UntilError P X) L) (expected actual : ℕ) (t : Writing) (error : X) → end.items.error ≡ Some error → CountsTo K V E KA VA lent Steps s end claim expected actual from t
-        → MetError K V E KA VA lent steps s.items.items claim from t error
+    met_counted : (end : Source (UntilError P X) L × Option A) (expected actual : ℕ) (t : Writing) (error : X) → end.0.items.error ≡ Some error → CountsTo K V E KA VA lent Steps s end claim expected actual from t
+        → MetError K V E KA VA lent steps s.0.items.items claim from t error
     met_counted end expected actual t error is (h, at) =
         let r = run s h.items h.all.1.0 h.all.1.1 in
         record {
           items = h.items;
-          rest = h.all.1.0.items.items;
-          end = h.all.0.items.items;
+          rest = h.all.1.0.0.items.items;
+          end = h.all.0.0.items.items;
           taken = r.0;
           met = failed h.all.1.0 h.all.0 error (r.1 ∙ fresh) (error_at h.all.0 end (Some error) at is) h.all.1.2;
           none = h.none;
@@ -106,14 +106,14 @@ module _ {A B X P L : Type 0} (steps : P → Option (Result (A × B) X) → P �
           enough = λ more. ⊎_elim (λ past. h.many past) (λ few. absurd (h.differs (omega (arith, more, few)))) (cases_lt claim (length h.items));
         }
 
-    stopped : {Y : Type 0} (fault : Fault Y) (t : Writing) → StoppedBuilding K V E KA VA lent Steps s claim from fault t → StoppedBuilding K V E KA VA lent (OkSteps steps) s.items.items claim from fault t
+    stopped : {Y : Type 0} (fault : Fault Y) (t : Writing) → StoppedBuilding K V E KA VA lent Steps s claim from fault t → StoppedBuilding K V E KA VA lent (OkSteps steps) s.0.items.items claim from fault t
     stopped fault t h =
         let r = run s h.items h.rest h.taken in
-        record { items = h.items; rest = h.rest.items.items; taken = r.0; entries = h.entries; claimed = h.claimed; stopped = h.stopped }
+        record { items = h.items; rest = h.rest.0.items.items; taken = r.0; entries = h.entries; claimed = h.claimed; stopped = h.stopped }
 
     -- each fault, with the error that is kept
-    try_fault : {Y : Type 0} (error : Option X) (fault : Fault Y) (end : Source (UntilError P X) L) (t : Writing) → end.items.error ≡ error → FaultAt K V E KA VA lent Steps s claim from fault end t
-        → TryFaulted K V E KA VA lent steps s.items.items claim from t (tried_fault error fault)
+    try_fault : {Y : Type 0} (error : Option X) (fault : Fault Y) (end : Source (UntilError P X) L × Option A) (t : Writing) → end.0.items.error ≡ error → FaultAt K V E KA VA lent Steps s claim from fault end t
+        → TryFaulted K V E KA VA lent steps s.0.items.items claim from t (tried_fault error fault)
     try_fault None (Length m) end t is h = counted end m.expected m.actual t is h
     try_fault {Y} None LengthOverflow end t is (inl past) = inl past
     try_fault {Y} None LengthOverflow end t is (inr h) = inr (stopped {Y = Y} LengthOverflow t h)
@@ -136,16 +136,16 @@ module _ {A B X P L : Type 0} (steps : P → Option (Result (A × B) X) → P �
     try_fault (Some met) (OutOfOrder index) end t is h = absurd h
 
     -- what is returned
-    pub try_ok : {Y : Type 0} (error : Option X) (built : Result ℕ (Fault Y)) (end : Source (UntilError P X) L) (t : Writing) → end.items.error ≡ error
-        → IfOk built (λ root. SerialisedTo K V E KA VA lent Steps s claim from root end t) → IfOk (tried error built) (λ root. Serialised K V E KA VA lent (OkSteps steps) s.items.items claim from root t)
+    pub try_ok : {Y : Type 0} (error : Option X) (built : Result ℕ (Fault Y)) (end : Source (UntilError P X) L × Option A) (t : Writing) → end.0.items.error ≡ error
+        → IfOk built (λ root. SerialisedTo K V E KA VA lent Steps s claim from root end t) → IfOk (tried error built) (λ root. Serialised K V E KA VA lent (OkSteps steps) s.0.items.items claim from root t)
     try_ok None (Ok root) end t is h = serialised root end t is h
     try_ok (Some error) (Ok root) end t is h = tt
     try_ok None (Err fault) end t is h = tt
     try_ok (Some error) (Err fault) end t is h = tt
 
-    pub try_err : {Y : Type 0} (error : Option X) (built : Result ℕ (Fault Y)) (end : Source (UntilError P X) L) (t : Writing) → end.items.error ≡ error
+    pub try_err : {Y : Type 0} (error : Option X) (built : Result ℕ (Fault Y)) (end : Source (UntilError P X) L × Option A) (t : Writing) → end.0.items.error ≡ error
         → IfOk built (λ root. SerialisedTo K V E KA VA lent Steps s claim from root end t) → IfErr built (λ fault. FaultAt K V E KA VA lent Steps s claim from fault end t)
-        → IfErr (tried error built) (λ fault. TryFaulted K V E KA VA lent steps s.items.items claim from t fault)
+        → IfErr (tried error built) (λ fault. TryFaulted K V E KA VA lent steps s.0.items.items claim from t fault)
     try_err None (Ok root) end t is whole h = tt
     try_err (Some error) (Ok root) end t is whole h = met_behind root end t error is whole
     try_err None (Err fault) end t is whole h = try_fault None fault end t is h

@@ -1,6 +1,6 @@
 //! Building archived maps.
 ghost use Rattle.rkyv_btree_writing_laws.specs.Entries.{both_borrowed};
-ghost use Rattle.std.specs.Prelude.{◌≡◌, ℕ, ◌+◌, ◌-◌, ◌*◌, ◌^◌, ◌<◌, ◌≤◌, ◌↔◌, length, map, true, alloc_error, IsOk, OnOk, OnErr, IfOk, IfErr, IsErrOf, IsTrue};
+ghost use Rattle.std.specs.Prelude.{◌≡◌, ℕ, ◌+◌, ◌-◌, ◌*◌, ◌^◌, ◌<◌, ◌≤◌, ◌↔◌, length, map, true, None, alloc_error, IsOk, OnOk, OnErr, IfOk, IfErr, IsErrOf, IsTrue};
 ghost use Rattle.std.specs.Iterator.{UpTo};
 ghost use Rattle.rkyv_btree_writer.specs.Archiving.{BeginsWith};
 ghost use Rattle.rkyv_btree_writing_laws.specs.Archives.{SerialisedIsAccepted, EmptyIsAccepted, WrittenIsHeld};
@@ -24,7 +24,7 @@ use crate::borrow::Borrow;
 use crate::items::{AnyOrder, Look, Source, none_left};
 use crate::map_type::ArchivedBTreeMap;
 use crate::node_writes::reserve_scratch;
-use crate::tree::{Lists, write_tree};
+use crate::tree::{Lists, Written, write_tree};
 use rkyv_btree_format::layout;
 use rkyv_btree_portable::check::Portable;
 use rkyv_btree_shape::height::entries_to_height;
@@ -119,12 +119,13 @@ where
     requires ends { UpTo (I.remaining source.old.items) 18446744073709551615 }
     ensures ok { IfOk result (λ resolver.
         SerialisedTo K.kind V.kind E KU.archival VU.archival
-        (both_borrowed BKU.borrowed BVU.borrowed) (Gives I.next_gives L.passes L.stops) source.old
-        len (W.state writer.old) resolver source.new (W.state writer.new)) }
+        (both_borrowed BKU.borrowed BVU.borrowed) (Gives I.next_gives L.passes L.stops)
+        (source.old, None) len (W.state writer.old) resolver (source.new, None)
+        (W.state writer.new)) }
     ensures err { IfErr result (λ fault.
         FaultAt K.kind V.kind E KU.archival VU.archival (both_borrowed BKU.borrowed BVU.borrowed)
-        (Gives I.next_gives L.passes L.stops) source.old len (W.state writer.old) fault source.new
-        (W.state writer.new)) }
+        (Gives I.next_gives L.passes L.stops) (source.old, None) len (W.state writer.old) fault
+        (source.new, None) (W.state writer.new)) }
     ensures went { OnOk result (OnlyAppended (W.state writer.old) (W.state writer.new)) }
     ensures memory { NeverGrows KU.archival → NeverGrows VU.archival →
         IsErrOf result (Fault.Memory alloc_error) → W.state writer.new ≡ W.state writer.old }
@@ -135,10 +136,10 @@ where
     let Ok(lists) = reserve::<BKU, BVU, KU, VU, K, V, A, E>(alloc, above) else {
         return Err(Fault::Memory(AllocError));
     };
-    let root = write_tree::<BKU, BVU, KU, VU, K, V, W, A, I, L, E>(
+    let Written { root, last } = write_tree::<BKU, BVU, KU, VU, K, V, W, A, I, L, E>(
         alloc, above, on_last, len, lists, source, writer,
     )?;
-    if let Err(miscount) = none_left::<BKU, BVU, I, L>(source, len) {
+    if let Err(miscount) = none_left::<BKU, BVU, I, L>(source, last, len) {
         return Err(Fault::Length(miscount));
     }
     Ok(BTreeMapResolver {
@@ -170,12 +171,13 @@ where
     requires ends { UpTo (I.remaining source.old.items) 18446744073709551615 }
     ensures ok { IfOk result (λ resolver.
         SerialisedTo K.kind V.kind E KU.archival VU.archival
-        (both_borrowed BKU.borrowed BVU.borrowed) (Gives I.next_gives L.passes L.stops) source.old
-        len (W.state writer.old) resolver source.new (W.state writer.new)) }
+        (both_borrowed BKU.borrowed BVU.borrowed) (Gives I.next_gives L.passes L.stops)
+        (source.old, None) len (W.state writer.old) resolver (source.new, None)
+        (W.state writer.new)) }
     ensures err { IfErr result (λ fault.
         FaultAt K.kind V.kind E KU.archival VU.archival (both_borrowed BKU.borrowed BVU.borrowed)
-        (Gives I.next_gives L.passes L.stops) source.old len (W.state writer.old) fault source.new
-        (W.state writer.new)) }
+        (Gives I.next_gives L.passes L.stops) (source.old, None) len (W.state writer.old) fault
+        (source.new, None) (W.state writer.new)) }
     ensures end { OnOk result (0 < len → position (W.state writer.new) ≤ last_end) }
     ensures went { OnOk result (OnlyAppended (W.state writer.old) (W.state writer.new)) }
     ensures kept { OnErr result (BeginsWith (W.state writer.new) (W.state writer.old)) }
@@ -190,7 +192,7 @@ where
         return Err(Fault::LengthOverflow);
     }
     if len == 0 {
-        if let Err(miscount) = none_left::<BKU, BVU, I, L>(source, 0) {
+        if let Err(miscount) = none_left::<BKU, BVU, I, L>(source, None, 0) {
             return Err(Fault::Length(miscount));
         }
         return Ok(BTreeMapResolver { root: 0 });

@@ -166,8 +166,7 @@ impl<K: Portable, const E: usize> ArchivedBTreeSet<K, E> {
     }
 
     /// Serializes the items of an iterator, which must increase, as the tree of a set, and returns the position of its root node.
-    /// `len` is the declared number of items. It is the map's call with a `()` for each key, so an item is a reference or another
-    /// `Copy` type.
+    /// `len` is the declared number of items. It is the map's call with a `()` for each key.
     ///
     /// # Errors
     ///
@@ -180,7 +179,7 @@ impl<K: Portable, const E: usize> ArchivedBTreeSet<K, E> {
         writer: &mut W,
     ) -> Result<BTreeSetResolver, Fault<W::Error>>
     where
-        BKU: Borrow<KU> + Copy,
+        BKU: Borrow<KU> + Drop,
         KU: Archive<Archived = K> + Serialize<W, A> + Ord,
         W: Writer,
         A: Allocator + Copy,

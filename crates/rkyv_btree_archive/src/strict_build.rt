@@ -3,6 +3,7 @@ ghost use Rattle.rkyv_btree_writing_laws.specs.Entries.{both_borrowed};
 ghost use Rattle.std.specs.Prelude.{◌≡◌, ◌<◌, ◌≤◌, alloc_error, OnOk, OnErr, IfOk, IfErr, IfSome, IsErrOf, IsTrue, MatchBool, MatchOption};
 ghost use Rattle.std.specs.declared.cmp.Ordering.TheVariants.{Less};
 ghost use Rattle.std.specs.Iterator.{UpTo};
+ghost use Rattle.std.specs.Option.{option_copied};
 ghost use Rattle.rkyv_btree_format.specs.Layout.{are_fitting};
 ghost use Rattle.rkyv_btree_writing_laws.specs.Kept.{NeverGrows, OnlyAppended};
 ghost use Rattle.rkyv_btree_writing_laws.specs.Miscounts.{IsMiscount};
@@ -26,22 +27,21 @@ use std::marker::PhantomData;
 
 /// Passes keys that increase, as far as their items are claimed.
 #[derive(Drop)]
-pub(crate) struct InOrder<B, M> {
+pub(crate) struct InOrder<M> {
     /// How many claimed items are to come.
     left: usize,
-    /// The key of the last claimed item, as it came.
-    last: Option<B>,
     /// Whether a key was out of order.
     stopped: bool,
     of: PhantomData<M>,
 }
 
 /// Returns whether a key is greater than the last one, if there is a last one.
-fn is_next<B: Borrow<M> + Copy, M: Ord>(last: Option<B>, key: &B) -> bool
+fn is_next<B: Borrow<M>, M: Ord>(last: Option<&B>, key: &B) -> bool
     ensures { MatchBool result
-        (IfSome last (λ last. M.cmp (B.borrowed last) (B.borrowed key.now) ≡ Less))
-        (MatchOption last ⊥ (λ last.
-        ¬ (M.cmp (B.borrowed last) (B.borrowed key.now) ≡ Less))) }
+        (IfSome (option_copied last.entry)
+        (λ last. M.cmp (B.borrowed last) (B.borrowed key.now) ≡ Less))
+        (MatchOption (option_copied last.entry) ⊥
+        (λ last. ¬ (M.cmp (B.borrowed last) (B.borrowed key.now) ≡ Less))) }
 {
     match last {
         Some(last) => last.borrow().cmp(key.borrow()).is_lt(),
@@ -49,18 +49,17 @@ fn is_next<B: Borrow<M> + Copy, M: Ord>(last: Option<B>, key: &B) -> bool
     }
 }
 
-impl<B: Borrow<M> + Copy, M: Ord> Look<B> for InOrder<B, M> {
+impl<B: Borrow<M>, M: Ord> Look<B> for InOrder<M> {
     ghost passes = { IsNext M.cmp B.borrowed };
 
     ghost stops = { IsNotNext M.cmp B.borrowed };
 
-    fn look(&mut self, key: &B) -> bool {
+    fn look(&mut self, last: Option<&B>, key: &B) -> bool {
         if self.left > 0 {
-            if !is_next::<B, M>(self.last, key) {
+            if !is_next::<B, M>(last, key) {
                 self.stopped = true;
                 return false;
             }
-            self.last = Some(*key);
             self.left -= 1;
         }
         true
@@ -88,8 +87,7 @@ fn out_of_order<E: Drop>(fault: Fault<E>) -> Fault<E>
 impl<K: Portable, V: Portable, const E: usize> ArchivedBTreeMap<K, V, E> {
     /// Serializes the items of an iterator, whose keys must increase, as the tree of a map, and returns the position of its root
     /// node. It does what `serialize_from_ordered_iter` does. It compares each key with the key before it, by `Ord`, when it takes
-    /// the item, and keeps a copy of the item's key for it. So an item's key is a reference or another `Copy` type: an owned `String`
-    /// is none. It counts the items past the declared length, and doesn't compare them.
+    /// the item. It counts the items past the declared length, and doesn't compare them.
     ///
     /// # Errors
     ///
@@ -102,7 +100,7 @@ impl<K: Portable, V: Portable, const E: usize> ArchivedBTreeMap<K, V, E> {
         writer: &mut W,
     ) -> Result<BTreeMapResolver, Fault<W::Error>>
     where
-        BKU: Borrow<KU> + Copy,
+        BKU: Borrow<KU> + Drop,
         BVU: Borrow<VU> + Drop,
         KU: Archive<Archived = K> + Serialize<W, A> + Ord,
         VU: Archive<Archived = V> + Serialize<W, A>,
@@ -156,12 +154,11 @@ impl<K: Portable, V: Portable, const E: usize> ArchivedBTreeMap<K, V, E> {
             items: iter,
             look: InOrder {
                 left: len,
-                last: None,
                 stopped: false,
                 of: PhantomData,
             },
         };
-        let built = build_from::<BKU, BVU, KU, VU, K, V, W, A, I, InOrder<BKU, KU>, E>(
+        let built = build_from::<BKU, BVU, KU, VU, K, V, W, A, I, InOrder<KU>, E>(
             alloc,
             len,
             &mut source,

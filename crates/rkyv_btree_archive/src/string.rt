@@ -1,8 +1,9 @@
 //! Text, archived as its bytes, and after them an offset to these and their number.
-ghost use Rattle.std.specs.Prelude.{◌≡◌, ℕ, ◌+◌, ◌≤◌, ◌<◌, length, string_bytes, IfSome, IfNone, OnOk, IfErr, IsErrOf, ◌↔◌};
+ghost use Rattle.std.specs.Prelude.{◌≡◌, ℕ, ◌+◌, ◌≤◌, ◌<◌, length, string_bytes, IfSome, IfNone, OnOk, OnErr, IfOk, IfErr, IsErrOf, ◌↔◌};
 ghost use Rattle.std.specs.declared.alloc.Global.{Global};
-ghost use Rattle.rkyv_btree_writer.specs.Archiving.{IsUnresolved, itself};
+ghost use Rattle.rkyv_btree_writer.specs.Archiving.{BeginsWith, IsUnresolved, IsUnserialised, Serialises, itself};
 ghost use Rattle.rkyv_btree_writing_laws.specs.Determined.{IsDetermined};
+ghost use Rattle.rkyv_btree_writing_laws.specs.Kept.{OnlyAppended};
 ghost use Rattle.rkyv_btree_writer.specs.Pointers.{FitsOffset};
 ghost use Rattle.rkyv_btree_portable.specs.Refusing.{RefusesWhole};
 ghost use Rattle.rkyv_btree_portable.specs.Text.{IsTextRange, text_kind};
@@ -65,20 +66,72 @@ impl Archive for String {
     ghost causes = { text_causes string_bytes };
 }
 
+/// Writes the bytes of a text in one write, with no padding before them, and returns the position where they start. The empty
+/// text makes no write.
+///
+/// # Errors
+///
+/// `PositionOverflow` if the text would start or end past position 4294967295, and the writer's own. The writer's contents are
+/// unchanged after the first.
+fn write_text<W: Writer>(text: &str, writer: &mut W) -> Result<u32, Fault<W::Error>>
+    ensures ok { IfOk result (Serialises (text_archival (λ bytes. bytes)) text.now
+        (W.state writer.old) (W.state writer.new)) }
+    ensures err { IfErr result (λ fault.
+        IsUnserialised (text_archival (λ bytes. bytes)) text.now (W.state writer.old) fault
+        (W.state writer.new)) }
+    ensures went { OnOk result (OnlyAppended (W.state writer.old) (W.state writer.new)) }
+    ensures kept { OnErr result (BeginsWith (W.state writer.new) (W.state writer.old)) }
+{
+    let start = writer.pos();
+    if start > LAST_END {
+        return Err(Fault::PositionOverflow);
+    }
+    if text.is_empty() {
+        return Ok(start as u32);
+    }
+    put(writer, text.as_bytes())?;
+    Ok(start as u32)
+}
+
 impl<W: Writer, A: Drop> Serialize<W, A> for String {
-    /// Writes the text's bytes in one write, with no padding before them, and returns the position where they start. The empty
-    /// text makes no write. If a text would start or end past position 4294967295, the error is `PositionOverflow`, and the
-    /// writer is unchanged.
     fn serialize(&self, _alloc: A, writer: &mut W) -> Result<u32, Fault<W::Error>> {
-        let start = writer.pos();
-        if start > LAST_END {
-            return Err(Fault::PositionOverflow);
-        }
-        if self.is_empty() {
-            return Ok(start as u32);
-        }
-        put(writer, self.as_bytes())?;
-        Ok(start as u32)
+        write_text(self.as_str(), writer)
+    }
+}
+
+impl<'t> Archive for &'t str {
+    type Archived = ArchivedText;
+
+    /// The position of the text's first byte.
+    type Resolver = u32;
+
+    ghost archival = { text_archival (λ text. text.now) };
+
+    /// Writes what `String` writes.
+    fn resolve(&self, start: u32, out: Place<'_, ArchivedText>) -> Result<(), ResolveFault>
+        requires { length out.bytes.now ≡ 8 }
+        ensures ok { OnOk result
+            (FitsText out.entry.pos start (length self.now.now)
+            × (out.exit.1.0.now ≡ text_own out.entry.pos start (length self.now.now))) }
+        ensures err { IfErr result
+            (IsUnresolved (text_archival (λ text. text.now)) self.now start out.entry.pos) }
+    {
+        let Place { pos, bytes, of: _ } = out;
+        fill_text(pos, bytes, start, self.len())
+    }
+
+    ghost same_kind = { itself text_kind };
+
+    ghost lawful = { text_laws };
+
+    ghost archived = { text_archived (λ text. text.now) };
+
+    ghost causes = { text_causes (λ text. text.now) };
+}
+
+impl<'t, W: Writer, A: Drop> Serialize<W, A> for &'t str {
+    fn serialize(&self, _alloc: A, writer: &mut W) -> Result<u32, Fault<W::Error>> {
+        write_text(*self, writer)
     }
 }
 

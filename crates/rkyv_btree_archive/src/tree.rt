@@ -2,20 +2,21 @@
 //! above the last, and those of one leaf.
 ghost use Rattle.rkyv_btree_writing_laws.specs.Entries.{both_borrowed};
 ghost use Rattle.std.specs.Prelude.{◌≡◌, ℕ, ◌+◌, ◌*◌, ◌-◌, ◌^◌, ◌≤◌, ◌<◌, ◌↔◌, List, [], ◌∷◌, ◌++◌, length, replicate};
-ghost use Rattle.std.specs.Prelude.{vec_capacity, OnOk, IfOk, IfErr, IfSome, IfNone, IsTrue};
+ghost use Rattle.std.specs.Prelude.{None, vec_capacity, OnOk, IfOk, IfErr, IfSome, IfNone, IsTrue};
 ghost use Rattle.std.specs.Iterator.{IsFinite, size};
 ghost use Rattle.rkyv_btree_format.specs.Layout.{layout_of, are_fitting};
 ghost use Rattle.rkyv_btree_archive.specs.mirror.Scratch.{IsFree, IsReserved};
 ghost use Rattle.rkyv_btree_shape.specs.mirror.Filled.{most, IsLeafOf};
 ghost use Rattle.rkyv_btree_archive.specs.mirror.Passing.{NextWritten, NextFault};
-ghost use Rattle.rkyv_btree_archive.specs.mirror.Source.{Gives};
+ghost use Rattle.rkyv_btree_archive.specs.mirror.Source.{Gives, key_of, last_taken};
+ghost use Rattle.std.specs.Option.{option_copied};
 ghost use Rattle.rkyv_btree_writer.specs.Writing.{position, last_end};
 
 use crate::archive::{Archive, Serialize};
 use crate::borrow::Borrow;
-use crate::items::{Look, Source, take_items};
+use crate::items::{Look, Source, last_key, take_items};
 use crate::node_writes::{Scratch, write_leaf};
-use crate::waiting::{push, wait, write_above};
+use crate::waiting::{keep_last, push, wait, write_above};
 use rkyv_btree_portable::check::Portable;
 use rkyv_btree_writer::fault::{Fault, IteratorLengthMismatch};
 use rkyv_btree_writer::place::Writer;
@@ -83,8 +84,23 @@ pub(crate) struct Lists<BKU, BVU, KU: Archive, VU: Archive, A: Allocator> {
     pub(crate) leaf: Vec<(BKU, BVU), A>,
 }
 
-/// Takes the items of a tree, writes the tree, and returns the position of its root node. The tree has `above` levels above its
-/// last one, which has `on_last` entries.
+/// Returns the key of the last item that was taken: that of the leaf's last item, or else of the last one that waits.
+#[inline(always)]
+fn key_taken<'a, B, C>(waiting: &'a [(B, C)], leaf: &'a [(B, C)]) -> Option<&'a B>
+    ensures { option_copied result ≡ last_taken waiting.now leaf.now }
+{
+    last_key(leaf, last_key(waiting, None))
+}
+
+/// A tree that was written: the position of its root node, and its last item.
+#[derive(Drop)]
+pub(crate) struct Written<B, C> {
+    pub(crate) root: Option<u32>,
+    pub(crate) last: Option<(B, C)>,
+}
+
+/// Takes the items of a tree, writes the tree, and returns the position of its root node and its last item. The tree has `above`
+/// levels above its last one, which has `on_last` entries.
 pub(crate) fn write_tree<BKU, BVU, KU, VU, K, V, W, A, I, L, const E: usize>(
     alloc: A,
     above: usize,
@@ -93,7 +109,7 @@ pub(crate) fn write_tree<BKU, BVU, KU, VU, K, V, W, A, I, L, const E: usize>(
     lists: Lists<BKU, BVU, KU, VU, A>,
     source: &mut Source<I, L>,
     writer: &mut W,
-) -> Result<Option<u32>, Fault<W::Error>>
+) -> Result<Written<BKU, BVU>, Fault<W::Error>>
 where
     BKU: Borrow<KU> + Drop,
     BVU: Borrow<VU> + Drop,
@@ -117,14 +133,16 @@ where
     requires leaf { IsReserved lists.leaf E }
     requires can { I.can_next source.old.items }
     requires ends { IsFinite (I.remaining source.old.items) }
-    ensures ok { IfOk result (λ root.
+    ensures ok { IfOk result (λ tree.
         NextWritten (layout_of K.kind V.kind E) KU.archival VU.archival
         (both_borrowed BKU.borrowed BVU.borrowed) (Gives I.next_gives L.passes L.stops) above
-        on_last source.old (W.state writer.old) root source.new (W.state writer.new)) }
+        on_last (source.old, None) (W.state writer.old) tree.root (source.new, key_of tree.last)
+        (W.state writer.new)) }
     ensures err { IfErr result (λ fault.
         NextFault (layout_of K.kind V.kind E) KU.archival VU.archival
         (both_borrowed BKU.borrowed BVU.borrowed) (Gives I.next_gives L.passes L.stops) claim 0
-        above on_last source.old (W.state writer.old) fault source.new (W.state writer.new)) }
+        above on_last (source.old, None) (W.state writer.old) fault (source.new, None)
+        (W.state writer.new)) }
     ensures left { OnOk result
         (size (I.remaining source.new.items) + claim ≤ size (I.remaining source.old.items)) }
     ensures last { OnOk result (position (W.state writer.new) ≤ last_end) }
@@ -140,7 +158,7 @@ where
     } = lists;
     let mut levels = open_nodes(above, on_last, &mut starts, 0);
     let first_len = leaf_len::<E>(levels, on_last);
-    if !take_items(&mut leaf, first_len, source) {
+    if !take_items(&mut leaf, first_len, last_key(&waiting, None), source) {
         return Err(Fault::Length(IteratorLengthMismatch {
             expected: claim,
             actual: leaf.len(),
@@ -155,18 +173,19 @@ where
             let root = write_above::<BKU, BVU, KU, VU, K, V, W, A, E>(
                 alloc,
                 &mut scratch,
-                &mut waiting,
+                &waiting,
                 &mut children,
                 first,
                 first,
                 child,
                 writer,
             )?;
+            keep_last(&mut waiting, first, &mut leaf);
             child = Some(root);
             starts.truncate(starts.len() - 1);
             levels += 1;
         } else {
-            let Some(entry) = source.next::<BKU, BVU>() else {
+            let Some(entry) = source.next::<BKU, BVU>(key_taken(&waiting, &leaf)) else {
                 return Err(Fault::Length(IteratorLengthMismatch {
                     expected: claim,
                     actual: taken,
@@ -176,11 +195,11 @@ where
             wait(&mut waiting, &mut children, child, entry);
             levels = open_nodes(levels, left, &mut starts, waiting.len());
             let len = leaf_len::<E>(levels, left);
+            leaf.clear();
             if len == 0 {
                 child = None;
             } else {
-                leaf.clear();
-                if !take_items(&mut leaf, len, source) {
+                if !take_items(&mut leaf, len, last_key(&waiting, None), source) {
                     return Err(Fault::Length(IteratorLengthMismatch {
                         expected: claim,
                         actual: taken + leaf.len(),
@@ -198,5 +217,8 @@ where
             }
         }
     }
-    Ok(child)
+    Ok(Written {
+        root: child,
+        last: leaf.pop(),
+    })
 }

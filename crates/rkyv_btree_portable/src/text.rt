@@ -1,5 +1,5 @@
 //! Archived text.
-ghost use Rattle.std.specs.Prelude.{◌≡◌, ℕ, ◌+◌, ◌≤◌, ◌<◌, length, string_bytes, IfSome, IfNone, OnOk, IfErr, IsErrOf, ◌↔◌};
+ghost use Rattle.std.specs.Prelude.{◌≡◌, ℕ, ◌+◌, ◌≤◌, ◌<◌, length, string_bytes, IfSome, IfNone, OnOk, IfErr, IsErrOf, IsUtf8, MatchBool, ◌↔◌};
 ghost use Rattle.rkyv_btree_portable.specs.Refusing.{RefusesWhole};
 ghost use Rattle.rkyv_btree_portable.specs.Text.{IsTextRange, text_kind};
 ghost use Rattle.rkyv_btree_portable.specs.laws.Refusing.{whole_refusals};
@@ -49,6 +49,15 @@ pub fn text_range(buf: &[u8], pos: u32, window: Window) -> Option<Window>
     Some(Window { lo, hi })
 }
 
+/// Returns whether bytes are valid UTF-8.
+// Most texts are ASCII, which is tested a word at a time.
+#[inline(always)]
+pub fn is_utf8(bytes: &[u8]) -> bool
+    ensures { MatchBool result (IsUtf8 bytes.now) (¬ IsUtf8 bytes.now) }
+{
+    bytes.is_ascii() || from_utf8(bytes).is_ok()
+}
+
 impl CheckBytes for ArchivedText {
     ghost Refuses = { RefusesWhole text_kind };
 
@@ -57,13 +66,13 @@ impl CheckBytes for ArchivedText {
         let Some(text) = text_range(buf, pos, window) else {
             return Err(Refusal::BadEntry { pos });
         };
-        match from_utf8(&buf[text.lo as usize..text.hi as usize]) {
-            Ok(_) => Ok(Window {
-                lo: text.hi,
-                hi: window.hi,
-            }),
-            Err(_) => Err(Refusal::BadEntry { pos }),
+        if !is_utf8(&buf[text.lo as usize..text.hi as usize]) {
+            return Err(Refusal::BadEntry { pos });
         }
+        Ok(Window {
+            lo: text.hi,
+            hi: window.hi,
+        })
     }
 
     ghost refusals = { λ _. whole_refusals text_laws };

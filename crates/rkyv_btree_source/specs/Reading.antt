@@ -34,6 +34,13 @@ IsOfReading P (Read e) = Unit {0}
 IsOfReading P (NoRoom n) = ⊥
 IsOfReading P OverBudget = P
 
+-- the source failed, or the bytes are refused, and then P holds of the refusal
+abbrev pub IsOfSize : {E : Type 0} → (Refusal → Type 0) → SourceFault E → Type 0
+IsOfSize P (Refused e) = P e
+IsOfSize P (Read e) = Unit {0}
+IsOfSize P (NoRoom n) = ⊥
+IsOfSize P OverBudget = ⊥
+
 -- P holds of the result, whose value is taken by a map, or it is a fault of reading, of which P says nothing
 abbrev pub GivesBy : {A B E : Type 0} → (A → B) → (Result B Refusal → Type 0) → Result A (SourceFault E) → Type 0
 GivesBy f P (Ok a) = P (Ok (f a))

@@ -22,8 +22,8 @@ use rkyv_btree_base::text::ArchivedText;
 use rkyv_btree_base::util::Entry;
 use rkyv_btree_portable::bytes::num32;
 use rkyv_btree_portable::little_endian::LittleEndian;
+use rkyv_btree_portable::text::is_utf8;
 use rkyv_btree_writer::place::write_offset;
-use std::str::from_utf8;
 
 /// An archived type whose values can be brought from a source into a lent buffer: numbers, truth values, characters, `()`, pairs of
 /// such, and text.
@@ -242,9 +242,8 @@ impl Fetch for ArchivedText {
             Ok(()) => {}
             Err(fault) => return Err(fault),
         }
-        match from_utf8(text) {
-            Ok(_) => {}
-            Err(_) => return Err(SourceFault::Refused(Refusal::BadEntry { pos })),
+        if !is_utf8(text) {
+            return Err(SourceFault::Refused(Refusal::BadEntry { pos }));
         }
         write_own(&mut back[..8], place as u32, len);
         Ok(place as u32)

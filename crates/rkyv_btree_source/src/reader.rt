@@ -50,6 +50,9 @@ impl<S: ReadAt> Reader<S> {
         ensures counts { OnOk result (self.old.left ≡ self.new.left + length part.old) }
         ensures left { self.new.left ≤ self.old.left }
         ensures spent { self.old.left ≤ self.new.left + length part.old }
+        // A read that fails takes its bytes of the budget too.
+        ensures failed { IfErr result (IfRead (λ _.
+            self.old.left ≡ self.new.left + length part.old)) }
         ensures fault { IfErr result (IsOfReading
             ((self.old.left < length part.old) × (self.new.left ≡ self.old.left))) }
     {

@@ -8,7 +8,7 @@ ghost use Rattle.rkyv_btree_base.specs.Layout.{are_fitting, layout_of, inner_siz
 ghost use Rattle.rkyv_btree_base.specs.Map.{map_kind};
 ghost use Rattle.rkyv_btree_base.specs.Refusal.TheVariants.{TooLong};
 ghost use Rattle.rkyv_btree_base.specs.Whole.{own_at};
-ghost use Rattle.rkyv_btree_source.specs.Reading.{IfRead, IfRefused, IsCaused, most_read};
+ghost use Rattle.rkyv_btree_source.specs.Reading.{IfRead, IfRefused, IsCaused, IsOfSize, most_read};
 ghost use Rattle.rkyv_btree_source.specs.Reads.{EachFits, Lacks, Reads, Takes};
 ghost use Rattle.rkyv_btree_unverified.specs.Lookups.{FindsAt, LookupGives};
 ghost use Rattle.rkyv_btree_unverified.specs.Steps.{value_place};
@@ -89,6 +89,9 @@ impl<S: ReadAt, K: Portable, V: Portable, M: ArchivedMap<Key = K, Mapped = V>> U
             IfOk result (λ map. map.pos ≡ own_at (map_kind K.kind V.kind M.E) b) }
         ensures refused { (b : List ℕ) → AreOf (S.known source) b →
             IfErr result (IfRefused (λ refusal. (refusal ≡ TooLong) × (4294967295 < length b))) }
+        // No budget is too small to open a source.
+        ensures caused { IfErr result (IsOfSize (λ refusal. refusal ≡ TooLong)) }
+        ensures fails { IfErr result (IfRead (S.Fails (S.known source))) }
     {
         let mut reader = Reader {
             source,

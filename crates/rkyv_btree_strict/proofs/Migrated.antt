@@ -3,7 +3,7 @@ use Rattle.std.proofs.Common.{◌≡◌, ℕ, ◌+◌, ◌≤◌, ◌⊎◌, Lis
 use Rattle.std.specs.Map.Iter.{TakesFirst, deref_pair}
 use Rattle.std.specs.List.Sorted.{IsStrictlySortedBy}
 use Rattle.std.specs.declared.cmp.Ordering.{Ordering}
-use Rattle.rkyv_btree_base.specs.Archives.{HoldsArchive, WrittenIsHeld}
+use Rattle.rkyv_btree_base.specs.Archives.{HoldsArchive}
 use Rattle.rkyv_btree_base.specs.Archiving.{Archival, Matches, BeginsWith}
 use Rattle.rkyv_btree_base.specs.EntryFault.{EntryFault}
 use Rattle.rkyv_btree_base.specs.Entries.{now_of}
@@ -16,6 +16,7 @@ use Rattle.rkyv_btree_base.specs.Rounding.{round_up}
 use Rattle.rkyv_btree_base.specs.Serialising.{Built, Serialised, BuildFault, RootFault}
 use Rattle.rkyv_btree_base.specs.SmallestMaps.{IsSmallestArchive, entry_value}
 use Rattle.rkyv_btree_base.specs.Writing.{Writing, position, Wrote, Appended, last_end}
+use Rattle.rkyv_btree_base.proofs.Accepting.{written_is_held_after}
 use Rattle.rkyv_btree_base.proofs.TreeSerialised.{entries_drained}
 use Rattle.rkyv_btree_convert.specs.StdMaps.{OrdersAlike}
 use Rattle.rkyv_btree_convert.proofs.StdMaps.{ascending_meant}
@@ -77,12 +78,13 @@ module _ {T U A B R S : Type 0} (cmp : T → T → Ordering) (K V : Kind) (KA : 
     unrooted root mid to (Ok at) h failed = tt
     unrooted root mid to (Err fault) h failed = inr (entries, are, inr (root, mid, built_of root mid h, subst (λ n. RootFault root n mid fault to) count failed))
 
-  -- what a writer from position 0 on holds then
-  pub strict_of : WrittenIsHeld → (from : Writing) (at : ℕ) (to : Writing) → Migrates cmp K V KA VA model native from at to → MigratesToStrict cmp K V KA VA model native from at to
-  strict_of held from at to m key value alike zero =
-      let holds : HoldsArchive to.contents from m.mid m.root at (length m.entries) =
-      subst (λ p. HoldsArchive to.contents from m.mid m.root p (length m.entries)) (sym m.place) (held from m.mid to m.root (length m.entries) zero m.went m.wrote m.end) in
-      let is = m.smallest key value to.contents at holds in (
+  -- what the writer holds then, at its positions
+  pub strict_of : (from : Writing) (at : ℕ) (to : Writing) → Migrates cmp K V KA VA model native from at to → MigratesToStrict cmp K V KA VA model native from at to
+  strict_of from at to m key value alike front base =
+      let b = front ++ to.contents in
+      let holds : HoldsArchive b from m.mid m.root at (length m.entries) =
+      subst (λ p. HoldsArchive b from m.mid m.root p (length m.entries)) (sym m.place) (written_is_held_after front from m.mid to m.root (length m.entries) base m.went m.wrote m.end) in
+      let is = m.smallest key value b at holds in (
         m.entries,
         m.are,
         record {

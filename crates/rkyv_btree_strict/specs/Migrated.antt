@@ -1,5 +1,5 @@
 -- Migration: the map of a view, made native and archived again.
-use Rattle.std.specs.Prelude.{◌≡◌, ℕ, ◌≤◌, ◌⊎◌, List, length, map, Result, Ok, Err}
+use Rattle.std.specs.Prelude.{◌≡◌, ℕ, ◌≤◌, ◌⊎◌, List, ◌++◌, length, map, Result, Ok, Err}
 use Rattle.std.specs.List.Sorted.{IsStrictlySortedBy}
 use Rattle.std.specs.Map.{keys_of}
 use Rattle.std.specs.Map.Iter.{TakesFirst, deref_pair}
@@ -46,11 +46,11 @@ module _ {T U A B R S : Type 0} (cmp : T → T → Ordering) (K V : Kind) (KA : 
   IsNativeStrict key value b at =
       (entries : List (T × U)) × AreNative entries × IsStrictMap K V 5 b at (map (entry_value K V 5 KA VA key value) entries)
 
-  -- where native keys are ordered as what they mean, what a writer from position 0 on holds is such a buffer
+  -- where native keys are ordered as what they mean, the bytes of the writer, after as many bytes as its base, are such a buffer
   abbrev pub MigratesToStrict : Writing → ℕ → Writing → Type 0
   MigratesToStrict from at to =
-      (key : Matches KA.kind K) (value : Matches VA.kind V) → OrdersAlike cmp K.order (λ x. key.to (KA.meaning x)) → from.base ≡ 0
-      → IsNativeStrict key value to.contents at
+      (key : Matches KA.kind K) (value : Matches VA.kind V) → OrdersAlike cmp K.order (λ x. key.to (KA.meaning x))
+      → (front : List ℕ) → length front ≡ from.base → IsNativeStrict key value (front ++ to.contents) at
 
   -- why no native map is made
   abbrev pub IsUnmade : {X : Type 0} → Fault X → Type 0

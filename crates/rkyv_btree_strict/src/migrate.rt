@@ -9,7 +9,6 @@ ghost use Rattle.rkyv_btree_strict.specs.Migrated.{FailsToMigrate, Migrates, Mig
 
 use rkyv_btree_base::archive::{Archive, Serialize};
 use rkyv_btree_base::fault::Fault;
-use rkyv_btree_base::laws::written_maps_are_held;
 use rkyv_btree_base::map::ArchivedBTreeMap;
 use rkyv_btree_base::place::Writer;
 use rkyv_btree_convert::deserialize::{Deserialize, DeserializeFault};
@@ -37,8 +36,8 @@ where
     V: Deserialize<U>,
     W: Writer,
     requires fitting { IsTrue (are_fitting K.kind V.kind 5) }
-    // A writer from position 0 on holds a strict map at the returned position. It means the entries of the native map, if native
-    // keys are ordered as what they mean.
+    // The writer's bytes are a strict map at the returned position, after as many bytes as the writer's base. It means the entries
+    // of the native map, if native keys are ordered as what they mean.
     ensures strict { IfOk result (λ at.
         MigratesToStrict T.cmp K.kind V.kind T.archival U.archival (model_both K.model V.model)
         (native_map K.kind V.kind 5 K.decoded V.decoded K.model_order view.now.buf.now view.now.pos)
@@ -65,7 +64,6 @@ where
     };
     // The contract of `len` says that the keys of the map increase.
     let len = map.len();
-    written_maps_are_held();
     let root = ArchivedBTreeMap::<K, V, 5>::serialize_from_ordered_iter(
         alloc,
         len,

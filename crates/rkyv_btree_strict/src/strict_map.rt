@@ -4,12 +4,13 @@ ghost use Rattle.std.specs.Iterator.{IsFinite};
 ghost use Rattle.std.specs.List.Sorted.{IsStrictlySortedBy-prop};
 ghost use Rattle.std.specs.Map.{keys_of, lookup, lookup_entry};
 ghost use Rattle.std.specs.Option.{option_map};
-ghost use Rattle.std.specs.Prelude.{◌≡◌, ◌≤◌, ◌↔◌, [], length, is_some, IsTrue, IsOk, IfOk, IfErr, Err, ℕ, ⊤};
+ghost use Rattle.std.specs.Prelude.{◌≡◌, ◌≤◌, ◌↔◌, [], length, map, is_some, IsTrue, IsOk, IfOk, IfErr, Err, ℕ, ⊤};
 ghost use Rattle.std.specs.Range.Bound.{bound_map};
 ghost use Rattle.rkyv_btree_base.specs.Refusal.TheVariants.{OutOfOrder};
 ghost use Rattle.rkyv_btree_base.specs.Increasing.{Increasing, IsOutOfOrder};
 ghost use Rattle.rkyv_btree_view.specs.Items.{ShowsAll};
 ghost use Rattle.rkyv_btree_view.specs.Lookup.{ByNative};
+ghost use Rattle.rkyv_btree_view.specs.ManyLookups.{looked_up_in};
 ghost use Rattle.rkyv_btree_view.specs.View.{view_value, view_entry, entries_of};
 ghost use Rattle.rkyv_btree_walk.specs.Bounds.{entries_within};
 
@@ -19,6 +20,7 @@ use rkyv_btree_base::map::ArchivedBTreeMap;
 use rkyv_btree_base::refusal::Refusal;
 use rkyv_btree_view::compare::ViewOrd;
 use rkyv_btree_view::compare_native::CompareWith;
+use rkyv_btree_view::get_many::Lookups;
 use rkyv_btree_view::iter::Iter;
 use rkyv_btree_view::map_view::ShowsEntries;
 use rkyv_btree_view::native::ToNative;
@@ -159,6 +161,33 @@ impl<'a, K: ViewOrd, V: Portable, M: ArchivedMap<Key = K, Mapped = V> + StrictEn
             ≡ is_some (lookup (is_at comparison) (entries_of K.kind V.kind M.E self.entry.view))) }
     {
         self.view.contains_by(key)
+    }
+}
+
+impl<'a, K: ViewOrd, V: Portable, M: ArchivedMap<Key = K, Mapped = V> + StrictEntries> Strict<
+    'a,
+    M,
+> {
+    ghost use Rattle.rkyv_btree_view.specs.ManyLeft.{lookups_left};
+
+    /// Returns an iterator over the results of `get_by` for these keys, in the order of the keys.
+    ///
+    /// It searches sixteen keys side by side. No memory is allocated, by the iterator either.
+    pub fn get_many_by<'k, T>(self, keys: &'k [T]) -> Lookups<'a, 'k, M, T>
+    where
+        K: CompareWith<T>,
+        ensures yields { ShowsAll ⟦<Lookups<'a, 'k, M, T> as Iterator>⟧.next_gives
+            (option_map view_value) result
+            (map (looked_up_in K.kind V.kind M.E self.entry.view K.compared_at) keys.now) }
+        // Each result is what `get_by` returns for its key.
+        ensures each { (key : T) → ByNative K.kind K.compared_at key (λ comparison.
+            looked_up_in K.kind V.kind M.E self.entry.view K.compared_at key
+            ≡ lookup (is_at comparison) (entries_of K.kind V.kind M.E self.entry.view)) }
+        ensures left { lookups_left K.compared_at result
+            ≡ map (looked_up_in K.kind V.kind M.E self.entry.view K.compared_at) keys.now }
+        ensures ends { IsFinite (⟦<Lookups<'a, 'k, M, T> as Iterator>⟧.remaining result) }
+    {
+        self.view.get_many_by(keys)
     }
 }
 

@@ -1,5 +1,6 @@
 -- The lemmas of lookups and walks in bytes that nobody has validated.
 pub mod Along
+pub mod AtOnce
 pub mod Chains
 pub mod Counted
 pub mod Entered

@@ -202,7 +202,7 @@ impl<'a, K: CheckBytes, V: CheckBytes, M: ArchivedMap<Key = K, Mapped = V>> Unve
         let compare = |query: &Q, key: W| Compared::of(cmp(query, key));
         let (mut steps, mut nodes) = (StepCounter::new(), StepCounter::new());
         match search::<Q, K, V, M, W, _>(
-            self.buf, self.pos, key, &compare, &mut steps, &mut nodes,
+            self.buf, self.pos, key, &compare, &mut steps, &mut nodes, false,
         ) {
             Err(refusal) => Err(refusal),
             Ok(found) => Ok(self.entry_found(found)),
@@ -235,6 +235,9 @@ impl<'a, K: CheckBytes, V: CheckBytes, M: ArchivedMap<Key = K, Mapped = V>> Unve
             ≡ option_map (entry_places K.kind V.kind M.E) entry))) }
         ensures few { steps.new ≤ steps.old + M.E * 32 }
         ensures more { steps.old ≤ steps.new }
+        // Where the own bytes say that there is no entry, no key and no node is read.
+        ensures none { map_len K.kind V.kind M.E self.entry.buf.now self.entry.pos ≡ 0 →
+            (steps.new ≡ steps.old) × (nodes.new ≡ nodes.old) }
         // On a map they are those of a lookup in a view of it.
         ensures counts { (m : _) →
             IsMap K.kind V.kind M.E self.entry.buf.now self.entry.pos m →
@@ -273,7 +276,7 @@ impl<'a, K: CheckBytes, V: CheckBytes, M: ArchivedMap<Key = K, Mapped = V>> Unve
             self.entry.pos (Err refusal) → result ≡ Err refusal) }
     {
         let compare = |query: &Q, key: W| Compared::of(cmp(query, key));
-        match search::<Q, K, V, M, W, _>(self.buf, self.pos, key, &compare, steps, nodes) {
+        match search::<Q, K, V, M, W, _>(self.buf, self.pos, key, &compare, steps, nodes, false) {
             Err(refusal) => Err(refusal),
             Ok(found) => Ok(self.entry_found(found)),
         }
@@ -328,10 +331,11 @@ impl<
             LookupGives K.kind V.kind M.E self.entry.buf.now comparison K.Refuses V.Refuses
             self.entry.pos (Err refusal) → result ≡ Err refusal) }
     {
+        let all = K::is_plain();
         let compare = |query: &T, key: View<K>| K::compared(query, &key);
         let (mut steps, mut nodes) = (StepCounter::new(), StepCounter::new());
         match search::<_, K, V, M, _, _>(
-            self.buf, self.pos, &key, &compare, &mut steps, &mut nodes,
+            self.buf, self.pos, &key, &compare, &mut steps, &mut nodes, all,
         ) {
             Err(refusal) => Err(refusal),
             Ok(found) => Ok(self.entry_found(found)),
@@ -469,7 +473,7 @@ impl<
         let compare = |query: &View<'_, K>, key: View<K>| Compared::of(K::compare(query, &key));
         let (mut steps, mut nodes) = (StepCounter::new(), StepCounter::new());
         match search::<_, K, V, M, _, _>(
-            self.buf, self.pos, &key, &compare, &mut steps, &mut nodes,
+            self.buf, self.pos, &key, &compare, &mut steps, &mut nodes, false,
         ) {
             Err(refusal) => Err(refusal),
             Ok(found) => Ok(self.entry_found(found)),

@@ -3,6 +3,7 @@ ghost use Rattle.std.specs.Prelude.{◌≡◌, ◌+◌, ◌-◌, ◌*◌, ◌^�
 ghost use Rattle.std.specs.declared.cmp.Ordering.{Ordering as Comparison};
 ghost use Rattle.std.specs.declared.cmp.Ordering.TheVariants.{Equal};
 ghost use Rattle.rkyv_btree_base.specs.Layout.{layout_of, are_fitting, leaf_size, inner_size};
+ghost use Rattle.rkyv_btree_base.specs.Refusals.{map_len};
 ghost use Rattle.rkyv_btree_base.specs.Views.{stands};
 ghost use Rattle.rkyv_btree_walk.specs.Search.{compared_of, shown_value};
 ghost use Rattle.rkyv_btree_walk.specs.mirror.Node.{EntryStands, RunStands};
@@ -21,7 +22,7 @@ use rkyv_btree_base::steps::StepCounter;
 use rkyv_btree_portable::check::check_own_bytes;
 use rkyv_btree_walk::archived_map::ArchivedMap;
 use rkyv_btree_walk::node::{key_pos, value_pos};
-use rkyv_btree_walk::search::Compared;
+use rkyv_btree_walk::search::{Compared, NEAR, is_searched_at_once};
 use rkyv_btree_walk::shows::Shows;
 
 /// Where the search of a node stops: at an entry that gives Equal, or before the first that gives Less, or after all.
@@ -109,6 +110,109 @@ fn search_keys<
     Ok(Halt::Below(count))
 }
 
+/// Compares the query with all keys of a node, so that no jump depends on a key but on one that is equal. If a key is at fault, it
+/// does what `search_keys` does, which may end before that key.
+#[inline(always)]
+fn search_keys_at_once<
+    'a,
+    Q,
+    K: CheckBytes,
+    V: CheckBytes,
+    M: ArchivedMap<Key = K, Mapped = V>,
+    W: Shows<'a, K>,
+    C: Fn(&Q, W) -> Compared,
+>(
+    buf: &'a [u8],
+    node: u32,
+    count: u32,
+    key: &Q,
+    cmp: &C,
+    steps: &mut StepCounter,
+) -> Result<Halt, Refusal>
+    requires callable { C.IsAlwaysCallable cmp.now }
+    requires fitting { IsTrue (are_fitting K.kind V.kind M.E) }
+    requires short { length buf.now ≤ 4294967295 }
+    requires inside { node + leaf_size (layout_of K.kind V.kind M.E) ≤ length buf.now }
+    requires few { count ≤ M.E }
+    requires steps { steps.old + count < 2 ^ 64 }
+    ensures few { steps.new ≤ steps.old + count }
+    ensures more { steps.old ≤ steps.new }
+    ensures counts { IfOk result (λ halt. steps.new ≡ steps.old + comparisons_by count halt) }
+    ensures stands { IfOk result (HaltStands K.kind V.kind M.E buf.now node count) }
+    ensures accepts { ((i : ℕ) → i < count → EntryStands K.kind V.kind M.E buf.now
+        (node, i)) → IsOk result }
+    ensures gives { (c : Q → K.kind.Value → Comparison)
+        → IsComparedBy (C.post cmp.now) (shown_value K.kind W.Shows) c
+        → KeysGive K.kind V.kind M.E buf.now (c key.now) K.Refuses V.Refuses node count result }
+{
+    let mut next = 0;
+    let mut past = true;
+    let mut equal = false;
+    for number in 0..count {
+        let pos = key_pos::<K, V, M>(node, number as usize);
+        let compared = match compare_at::<Q, K, W, C>(buf, pos, key, cmp) {
+            Ok(compared) => compared,
+            Err(_) => return search_keys::<Q, K, V, M, W, C>(buf, node, count, key, cmp, steps),
+        };
+        equal |= past & compared.equal;
+        past &= compared.past;
+        next += u32::from(past);
+    }
+    if next == count {
+        steps.add(u64::from(count));
+        return Ok(Halt::Below(count));
+    }
+    steps.add(u64::from(next + 1));
+    if !equal {
+        return Ok(Halt::Below(next));
+    }
+    match check_at::<V>(buf, value_pos::<K, V, M>(node, next as usize)) {
+        Ok(_) => Ok(Halt::Found(next)),
+        Err(refusal) => Err(refusal),
+    }
+}
+
+/// Compares the query with the keys of a node. Where it may compare them all, and they are numbers, it does that at once.
+#[inline(always)]
+fn halt_of_node<
+    'a,
+    Q,
+    K: CheckBytes,
+    V: CheckBytes,
+    M: ArchivedMap<Key = K, Mapped = V>,
+    W: Shows<'a, K>,
+    C: Fn(&Q, W) -> Compared,
+>(
+    buf: &'a [u8],
+    node: u32,
+    count: u32,
+    key: &Q,
+    cmp: &C,
+    steps: &mut StepCounter,
+    all: bool,
+) -> Result<Halt, Refusal>
+    requires callable { C.IsAlwaysCallable cmp.now }
+    requires fitting { IsTrue (are_fitting K.kind V.kind M.E) }
+    requires short { length buf.now ≤ 4294967295 }
+    requires inside { node + leaf_size (layout_of K.kind V.kind M.E) ≤ length buf.now }
+    requires few { count ≤ M.E }
+    requires steps { steps.old + count < 2 ^ 64 }
+    ensures few { steps.new ≤ steps.old + count }
+    ensures more { steps.old ≤ steps.new }
+    ensures counts { IfOk result (λ halt. steps.new ≡ steps.old + comparisons_by count halt) }
+    ensures stands { IfOk result (HaltStands K.kind V.kind M.E buf.now node count) }
+    ensures accepts { ((i : ℕ) → i < count → EntryStands K.kind V.kind M.E buf.now
+        (node, i)) → IsOk result }
+    ensures gives { (c : Q → K.kind.Value → Comparison)
+        → IsComparedBy (C.post cmp.now) (shown_value K.kind W.Shows) c
+        → KeysGive K.kind V.kind M.E buf.now (c key.now) K.Refuses V.Refuses node count result }
+{
+    if all && is_searched_at_once::<K, V, M>() {
+        return search_keys_at_once::<Q, K, V, M, W, C>(buf, node, count, key, cmp, steps);
+    }
+    search_keys::<Q, K, V, M, W, C>(buf, node, count, key, cmp, steps)
+}
+
 /// Where the search of a tree goes on after a node: it has found an entry of the node, or ends, or
 /// goes down to a node.
 #[derive(Clone, Copy)]
@@ -135,6 +239,7 @@ fn search_node<
     key: &Q,
     cmp: &C,
     steps: &mut StepCounter,
+    all: bool,
 ) -> Result<Next, Refusal>
     requires callable { C.IsAlwaysCallable cmp.now }
     requires fitting { IsTrue (are_fitting K.kind V.kind M.E) }
@@ -173,7 +278,7 @@ fn search_node<
         Ok(count) => count,
         Err(refusal) => return Err(refusal),
     };
-    match search_keys::<Q, K, V, M, W, C>(buf, node, count, key, cmp, steps) {
+    match halt_of_node::<Q, K, V, M, W, C>(buf, node, count, key, cmp, steps, all) {
         Err(refusal) => Err(refusal),
         Ok(Halt::Found(i)) => Ok(Next::Hit(i)),
         Ok(Halt::Below(i)) => {
@@ -210,6 +315,7 @@ fn search_tree<
     cmp: &C,
     steps: &mut StepCounter,
     nodes: &mut StepCounter,
+    all: bool,
 ) -> Result<Option<(u32, u32)>, Refusal>
     requires callable { C.IsAlwaysCallable cmp.now }
     requires fitting { IsTrue (are_fitting K.kind V.kind M.E) }
@@ -256,7 +362,8 @@ fn search_tree<
             });
         }
         nodes.step();
-        match search_node::<Q, K, V, M, W, C>(buf, node, end, key, cmp, steps) {
+        let near = levels > 32 - NEAR;
+        match search_node::<Q, K, V, M, W, C>(buf, node, end, key, cmp, steps, all && near) {
             Err(refusal) => return Err(refusal),
             Ok(Next::Hit(i)) => return Ok(Some((node, i))),
             Ok(Next::Miss) => return Ok(None),
@@ -286,6 +393,7 @@ pub(crate) fn search<
     cmp: &C,
     steps: &mut StepCounter,
     nodes: &mut StepCounter,
+    all: bool,
 ) -> Result<Option<(u32, u32)>, Refusal>
     requires callable { C.IsAlwaysCallable cmp.now }
     requires fitting { IsTrue (are_fitting K.kind V.kind M.E) }
@@ -294,6 +402,8 @@ pub(crate) fn search<
     ensures few { steps.new ≤ steps.old + M.E * 32 }
     ensures more { steps.old ≤ steps.new }
     ensures nodes { nodes.new ≤ nodes.old + 32 }
+    ensures none { map_len K.kind V.kind M.E buf.now pos ≡ 0
+        → (steps.new ≡ steps.old) × (nodes.new ≡ nodes.old) }
     ensures counts { (m : _) → IsMap K.kind V.kind M.E buf.now pos m
         → (c : Q → K.kind.Value → Comparison)
         → IsComparedBy (C.post cmp.now) (shown_value K.kind W.Shows) c
@@ -329,7 +439,7 @@ pub(crate) fn search<
             }
             match node_place::<K, V, M>(buf, pos, pos) {
                 Ok(root) => {
-                    search_tree::<Q, K, V, M, W, C>(buf, root, pos, key, cmp, steps, nodes)
+                    search_tree::<Q, K, V, M, W, C>(buf, root, pos, key, cmp, steps, nodes, all)
                 }
                 Err(refusal) => Err(refusal),
             }

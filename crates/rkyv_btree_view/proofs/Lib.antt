@@ -3,6 +3,7 @@ pub mod Agreed
 pub mod Bounds
 pub mod Drained
 pub mod Lookups
+pub mod ManyFound
 pub mod Ordered
 pub mod LookedUp
 pub mod Remaining

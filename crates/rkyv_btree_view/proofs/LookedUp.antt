@@ -1,11 +1,11 @@
 -- In a map whose keys increase a lookup finds what std's lookup finds in the list.
 use Rattle.std.proofs.Common.{◌≡◌, ℕ, ◌+◌, zero, suc, List, [], ◌∷◌, Option, Some, None, Bool, true, false, refl, sym, ap, ◌∙◌, arith}
 use Rattle.std.specs.BTreeMap.{is_at}
-use Rattle.std.specs.List.{find}
+use Rattle.std.specs.List.{find, slice_get}
 use Rattle.std.specs.Map.{keys_of, lookup, lookup_entry}
 use Rattle.std.specs.Option.{option_map}
 use Rattle.std.specs.Ordering.{is_eq}
-use Rattle.std.specs.Prelude.{MatchOption, IfSome, IsSome, IsTrue, is_some, cond, map, ◌↔◌}
+use Rattle.std.specs.Prelude.{MatchOption, IfSome, IsSome, IsTrue, Contains, is_some, cond, map, ◌↔◌}
 use Rattle.std.specs.declared.cmp.Ordering.{Ordering}
 use Rattle.std.specs.declared.cmp.Ordering.TheVariants.{Less, Equal, Greater}
 use Rattle.rkyv_btree_base.specs.Kind.{Kind}
@@ -18,6 +18,7 @@ use Rattle.rkyv_btree_view.specs.Query.{IsCut, ComparesAs}
 use Rattle.rkyv_btree_view.proofs.Lookups.{some_mapped}
 use Rattle.rkyv_btree_view.specs.laws.Increasing.{increasing_finds}
 use Rattle.rkyv_btree_walk.proofs.Hits.{probe_finds}
+use Rattle.rkyv_btree_walk.specs.mirror.Search.{IsListed}
 use Rattle.rkyv_btree_walk.specs.Search.{AnyHit, IsHit, OrderedBy, probe}
 use mathlib.Core.Path.{fun_ext}
 
@@ -85,6 +86,17 @@ alike means s t same (p ∷ ps) = rw (same p, alike means s t same ps) refl
 pub found_hit : {Y : Type 0} (comparison : Y → Ordering) (m : List Y) (found : Option Y) → IfSome found (IsHit comparison m) → IsTrue (is_some found) → AnyHit comparison m
 found_hit comparison m None hit some = absurd (cc some)
 found_hit comparison m (Some e) hit some = (hit.1, hit.2, λ d. rw (hit.3 d) hit.0)
+
+-- the image of an element is one of the images
+contains_image : {X Y : Type 0} (f : X → Y) (x : X) (xs : List X) (i : ℕ) → slice_get xs i ≡ Some x → Contains (map f xs) (f x)
+contains_image f x [] i e = absurd (grind (arith, e))
+contains_image f x (y ∷ ys) zero e = (zero, omega arith, ap f (grind (arith, e)))
+contains_image f x (y ∷ ys) (suc i) e = let c = contains_image f x ys i e in let l = c.1 in (suc c.0, omega arith, c.2)
+
+-- so what is read of a listed entry is read of the list
+pub listed_read : {X Y : Type 0} (f : X → Y) (xs : List X) (found : Option X) → IfSome found (λ x. IsListed x xs) → IfSome (option_map f found) (Contains (map f xs))
+listed_read f xs None h = h
+listed_read f xs (Some x) h = contains_image f x xs h.0 h.1
 
 -- an option that reads as what the search of a map finds
 module _ (K V : Kind) (E : ℕ) (b : List ℕ) (at : ℕ) (comparison : K.Value → Ordering) {T : Type 0} (view_value : T → K.Value × V.Value) (r : Option T) (found : option_map view_value r ≡ found_at K V E b at comparison) where

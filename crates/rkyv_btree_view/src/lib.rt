@@ -5,6 +5,7 @@ pub mod compare;
 pub mod compare_native;
 pub mod debug;
 pub mod entry_view;
+pub mod get_many;
 pub mod iter;
 pub mod keys;
 pub mod lookup;

@@ -5,7 +5,7 @@
 ghost use Rattle.std.specs.BTreeMap.{is_at};
 ghost use Rattle.std.specs.Map.{lookup, lookup_entry};
 ghost use Rattle.std.specs.Option.{option_map};
-ghost use Rattle.std.specs.Prelude.{◌≡◌, ◌+◌, ◌*◌, ◌≤◌, [], IsTrue, IsSome, IfSome, Some, is_some};
+ghost use Rattle.std.specs.Prelude.{◌≡◌, ◌+◌, ◌*◌, ◌≤◌, [], Contains, IsTrue, IsSome, IfSome, Some, is_some};
 ghost use Rattle.rkyv_btree_base.specs.Increasing.{Increasing};
 ghost use Rattle.rkyv_btree_base.specs.Read.{entry_at};
 ghost use Rattle.rkyv_btree_view.specs.Lookup.{found_in, comparisons_in, height_of, IsComplete, IsValueOfEqualKey};
@@ -34,7 +34,7 @@ use std::cmp::Ordering;
 impl<'a, K: Portable, V: Portable, M: ArchivedMap<Key = K, Mapped = V>> View<'a, M> {
     /// The views of the entry at which a search ended, by its node and number.
     #[inline(always)]
-    fn entry_found(self, found: Option<(u32, u32)>) -> Option<(View<'a, K>, View<'a, V>)>
+    pub(crate) fn entry_found(self, found: Option<(u32, u32)>) -> Option<(View<'a, K>, View<'a, V>)>
         requires { IfSome found (λ e.
             RunStands K.kind V.kind M.E self.buf.now e.0 e.1 (e.1 + 1)) }
         ensures { option_map view_entry result
@@ -70,7 +70,10 @@ impl<'a, K: Portable, V: Portable, M: ArchivedMap<Key = K, Mapped = V>> View<'a,
         cmp: C,
     ) -> Option<(View<'a, K>, View<'a, V>)>
         requires { C.IsAlwaysCallable cmp }
-        // A result is an entry of the list whose key is equal.
+        // A result is an entry of the list, whatever the comparison returns.
+        ensures listed { IfSome (option_map view_entry result)
+            (Contains (entries_of K.kind V.kind M.E self.entry)) }
+        // Its key is equal.
         ensures member { ByComparison (C.post cmp) (shown_value K.kind W.Shows) key.now (λ comparison.
             IfSome (option_map view_entry result)
             (IsHit (λ e. comparison e.0) (entries_of K.kind V.kind M.E self.entry))) }
@@ -102,7 +105,10 @@ impl<'a, K: Portable, V: Portable, M: ArchivedMap<Key = K, Mapped = V>> View<'a,
     ) -> Option<(View<'a, K>, View<'a, V>)>
         requires callable { C.IsAlwaysCallable cmp }
         requires room { steps.old ≤ 9223372036854775807 }
-        // A result is an entry of the list whose key is equal.
+        // A result is an entry of the list, whatever the comparison returns.
+        ensures listed { IfSome (option_map view_entry result)
+            (Contains (entries_of K.kind V.kind M.E self.entry)) }
+        // Its key is equal.
         ensures member { ByComparison (C.post cmp) (shown_value K.kind W.Shows) key.now (λ comparison.
             IfSome (option_map view_entry result)
             (IsHit (λ e. comparison e.0) (entries_of K.kind V.kind M.E self.entry))) }

@@ -1,4 +1,5 @@
 -- The lemmas of walks.
+pub mod AtOnce
 pub mod Below
 pub mod BelowKept
 pub mod Hits
@@ -15,3 +16,4 @@ pub mod Searches
 pub mod Seeks
 pub mod Stops
 pub mod Visits
+pub mod Ways

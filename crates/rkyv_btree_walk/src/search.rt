@@ -148,11 +148,19 @@ const AT_ONCE: usize = 16;
 
 /// So many levels are searched at once. Nodes further down are seldom in a processor's cache, where a search in turn is faster:
 /// the processor foresees the child that it goes to, and begins to read it.
-const NEAR: u32 = 5;
+pub const NEAR: u32 = 5;
+
+/// Returns whether the keys of a node are numbers, and few enough, to be compared at once.
+#[inline(always)]
+pub fn is_searched_at_once<K: Portable, V: Portable, M: ArchivedMap<Key = K, Mapped = V>>() -> bool
+    requires { IsTrue K.kind.is_fitting }
+{
+    is_one_number::<K>() && M::entries_per_node() <= AT_ONCE
+}
 
 /// Compares the query with the keys of a node. Where it may compare them all, and they are numbers, it does that at once.
 #[inline(always)]
-fn search_node<
+pub(crate) fn search_node<
     'a,
     Q,
     K: Portable,
@@ -168,7 +176,7 @@ fn search_node<
         → IsComparedBy (C.post cmp.now) (shown_value K.kind W.Shows) c
         → StopsAt (λ i. comparison_at K.kind V.kind M.E buf.now (c key.now) (node, i)) count result }
 {
-    if all && is_one_number::<K>() && M::entries_per_node() <= AT_ONCE {
+    if all && is_searched_at_once::<K, V, M>() {
         return search_at_once::<Q, K, V, M, W, C>(buf, node, count, key, cmp);
     }
     search_in_turn::<Q, K, V, M, W, C>(buf, node, count, key, cmp)

@@ -8,6 +8,7 @@ use Rattle.rkyv_btree_portable.specs.Bytes.{number_at, place_at, Holds}
 use Rattle.rkyv_btree_writer.specs.Padding.{padding}
 use Rattle.rkyv_btree_writing_laws.specs.Archives.{HoldsArchive, HoldsRoot, WrittenIsHeld}
 use Rattle.rkyv_btree_writing_laws.specs.Image.{root_bytes, root_reaches, root_image}
+use Rattle.rkyv_btree_writing_laws.specs.Kept.{OnlyAppended}
 use Rattle.rkyv_btree_portable.specs.Kind.{Kind, IsLawful}
 use Rattle.rkyv_btree_format.specs.Layout.{layout_of}
 use Rattle.rkyv_btree_writer.specs.Pointers.{FitsOffset, offset_fits, pointer, no_pointer}
@@ -105,9 +106,9 @@ module _ (K V : Kind) (E : ℕ) where
 pub held_between : (xs ys zs : List ℕ) (at : ℕ) → length xs ≡ at → Holds (xs ++ (ys ++ zs)) at ys
 held_between xs ys zs at e = ap (take (length ys)) (drop_at xs (ys ++ zs) at e) ∙ take_at ys zs (length ys) refl
 
--- the map is the last eight bytes of what a writer in memory holds from position 0 on
-pub archive_length : (mid to : Writing) (root n : ℕ) → mid.base ≡ 0 → Wrote mid (root_image (position mid) root n) to → length to.contents ≡ round_up (position mid) 4 + 8
-archive_length mid to root n zero wrote =
+-- the map is the last eight bytes of what a writer holds
+archive_end : (mid to : Writing) (root n : ℕ) → Wrote mid (root_image (position mid) root n) to → mid.base + length to.contents ≡ round_up (position mid) 4 + 8
+archive_end mid to root n wrote =
     let at = round_up (position mid) 4 in
     let pad = padding 4 (position mid) in
     let own = root_bytes at root n in
@@ -123,8 +124,12 @@ archive_length mid to root n zero wrote =
       length-padding 4 (position mid) (omega arith),
     )
 
--- what a writer in memory holds from position 0 on, once a map was written after state `mid`
-module _ (mid to : Writing) (root n : ℕ) (zero : mid.base ≡ 0) (wrote : Wrote mid (root_image (position mid) root n) to) where
+-- those of a writer from position 0 on
+pub archive_length : (mid to : Writing) (root n : ℕ) → mid.base ≡ 0 → Wrote mid (root_image (position mid) root n) to → length to.contents ≡ round_up (position mid) 4 + 8
+archive_length mid to root n zero wrote = omega (arith, zero, archive_end mid to root n wrote)
+
+-- a buffer that holds the bytes of a writer at their positions, after others, once a map was written after state `mid`
+module _ (front : List ℕ) (mid to : Writing) (root n : ℕ) (base : length front ≡ mid.base) (wrote : Wrote mid (root_image (position mid) root n) to) where
   abbrev at : ℕ
   at = round_up (position mid) 4
 
@@ -137,30 +142,38 @@ module _ (mid to : Writing) (root n : ℕ) (zero : mid.base ≡ 0) (wrote : Wrot
   abbrev write : Write
   write = record { bytes = own; reaches = root_reaches at root n }
 
-  split : to.contents ≡ mid.contents ++ (appended pad ++ (own ++ []))
-  split = wrote.done.contents ∙ ap (λ z. mid.contents ++ z) (appended-append pad (write ∷ []))
+  split : front ++ to.contents ≡ (front ++ mid.contents) ++ (appended pad ++ (own ++ []))
+  split =
+      ap (λ z. front ++ z) (wrote.done.contents ∙ ap (λ z. mid.contents ++ z) (appended-append pad (write ∷ [])))
+      ∙ sym (append_assoc front mid.contents (appended pad ++ (own ++ [])))
+
+  long : length (front ++ to.contents) ≡ at + 8
+  long = omega (arith, base, length-append front to.contents, archive_end mid to root n wrote)
 
   -- the map
-  map_held : position to ≤ last_end → HoldsRoot to.contents at root n
+  map_held : position to ≤ last_end → HoldsRoot (front ++ to.contents) at root n
   map_held end =
-      let total : length to.contents ≡ at + 8 = archive_length mid to root n zero wrote in
       let up = le-round_up (position mid) 4 (omega arith) in
-      let grouped : to.contents ≡ (mid.contents ++ appended pad) ++ (own ++ []) = split ∙ sym (append_assoc mid.contents (appended pad) (own ++ [])) in
-      let front : length (mid.contents ++ appended pad) ≡ at = omega (arith, length-append mid.contents (appended pad), length-padding 4 (position mid) (omega arith)) in
+      let before = front ++ mid.contents in
+      let grouped : front ++ to.contents ≡ (before ++ appended pad) ++ (own ++ []) = split ∙ sym (append_assoc before (appended pad) (own ++ [])) in
+      let reach : length (before ++ appended pad) ≡ at = omega (arith, base, length-append front mid.contents, length-append before (appended pad), length-padding 4 (position mid) (omega arith)) in
       record {
-        short = omega (arith, wrote.done.base);
+        short = omega (arith, base, wrote.done.base, length-append front to.contents);
         aligned = round_up-aligned (position mid) 4;
-        room = omega (arith, total);
-        held = subst (λ (z : List ℕ). Holds z at own) (sym grouped) (held_between (mid.contents ++ appended pad) own [] at front);
+        room = omega (arith, long);
+        held = subst (λ (z : List ℕ). Holds z at own) (sym grouped) (held_between (before ++ appended pad) own [] at reach);
       }
 
   -- what was appended before it
-  tree_held : (from : Writing) (xs : List ℕ) → from.base ≡ 0 → mid.contents ≡ from.contents ++ xs → Holds to.contents (position from) xs
+  tree_held : (from : Writing) (xs : List ℕ) → length front ≡ from.base → mid.contents ≡ from.contents ++ xs → Holds (front ++ to.contents) (position from) xs
   tree_held from xs start is =
-      let there : to.contents ≡ from.contents ++ (xs ++ (appended pad ++ (own ++ []))) = split ∙ (ap (λ z. z ++ (appended pad ++ (own ++ []))) is ∙ append_assoc from.contents xs (appended pad ++ (own ++ []))) in
-      subst (λ (z : List ℕ). Holds z (position from) xs) (sym there) (held_between from.contents xs (appended pad ++ (own ++ [])) (position from) (omega arith))
+      let rest = appended pad ++ (own ++ []) in
+      let before = front ++ from.contents in
+      let there : front ++ to.contents ≡ before ++ (xs ++ rest) =
+      split ∙ (ap (λ z. (front ++ z) ++ rest) is ∙ (ap (λ z. z ++ rest) (sym (append_assoc front from.contents xs)) ∙ append_assoc before xs rest)) in
+      subst (λ (z : List ℕ). Holds z (position from) xs) (sym there) (held_between before xs rest (position from) (omega (arith, start, length-append front from.contents)))
 
-  archive_held : (from : Writing) (xs : List ℕ) → from.base ≡ 0 → mid.contents ≡ from.contents ++ xs → position to ≤ last_end → HoldsArchive to.contents from mid root at n
+  archive_held : (from : Writing) (xs : List ℕ) → length front ≡ from.base → mid.contents ≡ from.contents ++ xs → position to ≤ last_end → HoldsArchive (front ++ to.contents) from mid root at n
   archive_held from xs start is end = record {
     appended = xs;
     contents = is;
@@ -170,17 +183,23 @@ module _ (mid to : Writing) (root n : ℕ) (zero : mid.base ≡ 0) (wrote : Wrot
     map = map_held end;
   }
 
+-- what was appended is held after as many bytes as the writer's base
+pub written_is_held_after : (front : List ℕ) (from mid to : Writing) (root n : ℕ) → length front ≡ from.base → OnlyAppended from mid → Wrote mid (root_image (position mid) root n) to → position to ≤ last_end
+    → HoldsArchive (front ++ to.contents) from mid root (round_up (position mid) 4) n
+written_is_held_after front from mid to root n start only wrote end =
+    archive_held front mid to root n (omega (arith, start, only.1.base)) wrote from only.0 start only.1.contents end
+
 pub written_is_held : WrittenIsHeld
-written_is_held from mid to root n start only wrote end = archive_held mid to root n (omega (arith, only.1.base)) wrote from only.0 start only.1.contents end
+written_is_held from mid to root n zero only wrote end = written_is_held_after [] from mid to root n (sym zero) only wrote end
 
 module _ (K V : Kind) (E : ℕ) (k : IsLawful K) (v : IsLawful V) where
   -- it is accepted where the map was written
   pub accepted_archive : (from mid to : Writing) (m : List (K.Value × V.Value)) (root : ℕ) → from.base ≡ 0 → mid.base ≡ 0 → (0 < length m → Spelled K V E from m root mid) → length m ≤ last_end → Wrote mid (root_image (position mid) root (length m)) to → position to ≤ last_end →
       (left : ℕ) × Accepted K V E to.contents 0 (round_up (position mid) 4) (round_up (position mid) 4) left m
   accepted_archive from mid to [] root start zero spelled few wrote end =
-      let own = map_held mid to root 0 zero wrote end in
+      let own = map_held [] mid to root 0 (sym zero) wrote end in
       (0, accepted_empty K V E to.contents root (round_up (position mid) 4) own.short own.aligned own.room own.held)
   accepted_archive from mid to (x ∷ m) root start zero spelled few wrote end =
       let s = spelled (omega arith) in
-      let h = archive_held mid to root (length (x ∷ m)) zero wrote from s.appended start s.contents end in
-      accepted_over K V E k v to.contents from mid (x ∷ m) root (round_up (position mid) 4) s (omega arith) few h.reaches h.map.short (tree_held mid to root (length (x ∷ m)) zero wrote from s.appended start s.contents) h.behind h.map.aligned h.map.room h.map.held
+      let h = archive_held [] mid to root (length (x ∷ m)) (sym zero) wrote from s.appended (sym start) s.contents end in
+      accepted_over K V E k v to.contents from mid (x ∷ m) root (round_up (position mid) 4) s (omega arith) few h.reaches h.map.short (tree_held [] mid to root (length (x ∷ m)) (sym zero) wrote from s.appended (sym start) s.contents) h.behind h.map.aligned h.map.room h.map.held

@@ -32,6 +32,8 @@ mod lookups_counted;
 #[cfg(test)]
 mod lookups_learnt;
 #[cfg(test)]
+mod lookups_many;
+#[cfg(test)]
 mod lookups_types;
 #[cfg(test)]
 mod native_maps;

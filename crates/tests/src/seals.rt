@@ -14,6 +14,8 @@ use rkyv_btree_base::layout;
 use rkyv_btree_base::map::ArchivedBTreeMap;
 use rkyv_btree_base::numbers::ArchivedU32;
 use rkyv_btree_base::place::VecWriter;
+use rkyv_btree_base::signed::ArchivedI32;
+use rkyv_btree_base::text::ArchivedText;
 use std::alloc::Global;
 use std::ops::{Bound, ControlFlow};
 use std::process::Abort;
@@ -130,4 +132,32 @@ fn a_visit_that_breaks_writes_no_more(rt: HostRuntime) -> Result<(), Fail> {
     let (want, _) = archived::<2>(&rt, rt.alloc(), &changed)?;
     same(&rt, bytes.as_slice(), want.as_slice());
     Ok(())
+}
+
+/// The archive of the texts bar, bat, baz and foo, whose numbers 20, 80, 40 and 10 are at 56, 60, 64 and 68. The map is at 80.
+const FOUR_TEXTS: [u8; 88] = [
+    98, 97, 114, 98, 97, 116, 98, 97, 122, 102, 111, 111, 0, 0, 0, 0, 240, 255, 255, 255, 3, 0, 0,
+    0, 235, 255, 255, 255, 3, 0, 0, 0, 230, 255, 255, 255, 3, 0, 0, 0, 225, 255, 255, 255, 3, 0, 0,
+    0, 0, 0, 0, 0, 0, 0, 0, 0, 20, 0, 0, 0, 80, 0, 0, 0, 40, 0, 0, 0, 10, 0, 0, 0, 0, 0, 0, 0, 4,
+    0, 0, 0, 188, 255, 255, 255, 4, 0, 0, 0,
+];
+
+#[test]
+fn a_visit_adds_to_the_values_of_texts(rt: HostRuntime) {
+    let mut bytes = FOUR_TEXTS;
+    assert!(rt; layout::fits::<ArchivedText, ArchivedI32, 5>());
+    let map = access_mut::<ArchivedText, ArchivedI32, 5>(&mut bytes, 80);
+    let mut map = map.expect(&rt, "a map");
+    let broken = map.visit_seal(|_: LentKey<ArchivedText>, value: &mut Seal<ArchivedI32>| {
+        let old = value.read();
+        value.write(old.wrapping_add(10));
+        ControlFlow::<(), ()>::Continue(())
+    });
+    same(&rt, broken, None);
+    let mut want = FOUR_TEXTS;
+    want[56] = 30;
+    want[60] = 90;
+    want[64] = 50;
+    want[68] = 20;
+    same(&rt, bytes, want);
 }

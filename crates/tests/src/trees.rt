@@ -1,5 +1,9 @@
 //! How high trees are and how many nodes they have, and the sizes of nodes.
 
+ghost use Rattle.std.specs.Prelude.{◌≡◌, ℕ, length};
+ghost use Rattle.rkyv_btree_base.specs.Smallest.{IsSmallest};
+ghost use Rattle.rkyv_btree_base.specs.Tree.{Tree, list, nodes};
+
 use crate::convert::opened;
 use crate::numbers::{Numbers, archive, tens};
 use crate::same::same;
@@ -9,8 +13,14 @@ use rkyv_btree_base::numbers::{ArchivedU32, ArchivedU64};
 use rkyv_btree_base::place::VecWriter;
 use std::test::Fail;
 
+/// States that a smallest tree of one entry a node has as many nodes as entries: 4294967295 where the map is full.
+fn smallest_trees_of_one_entry_a_node()
+    ensures { (t : Tree ℕ) → IsSmallest 1 t → nodes t ≡ length (list t) }
+{}
+
 #[test]
 fn trees_have_their_heights(rt: HostRuntime) {
+    smallest_trees_of_one_entry_a_node();
     let rows = [
         (1, 1),
         (5, 1),

@@ -49,6 +49,12 @@ module _ (K V : Kind) (E : ℕ) (b : List ℕ) where
   TreeStands zero p = ⊥
   TreeStands (suc levels) p = NodeStands p × ((i q : ℕ) → i ≤ E → child_place (layout_of K V E) b p i ≡ Some q → TreeStands levels q)
 
+  -- the node at p can be read where the layout says that its parts stand
+  pub record NodeCanBeRead (p : ℕ) : Type 0 where
+    pub fitting : IsTrue (are_fitting K V E)
+    pub short : length b ≤ 4294967295
+    pub node : NodeStands p
+
   -- a tree stands at p, whose nodes can be read where the layout says that they stand
   pub record TreeCanBeRead (p : ℕ) : Type 0 where
     pub fitting : IsTrue (are_fitting K V E)

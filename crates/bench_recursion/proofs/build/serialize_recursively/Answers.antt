@@ -1,6 +1,6 @@
 -- What was built of a list is the smallest of its maps.
 use Rattle.rkyv_btree_writing_laws.specs.Entries.{now_of}
-use Rattle.std.proofs.Common.{ℕ, ◌<◌, ◌≤◌, [], Bor, inl, refl, arith}
+use Rattle.std.proofs.Common.{ℕ, ◌<◌, ◌≤◌, [], Option, None, Bor, inl, refl, arith}
 use Rattle.std.specs.Prelude.{⊤}
 use Rattle.std.proofs.lemmas.Result.{IfOk-weaker, on_ok_weaker}
 use Rattle.rkyv_btree_writing_laws.proofs.Kept.{same_begins, went_nowhere}
@@ -27,7 +27,7 @@ pub returns-then-len-eq0-clause-ok : goal.returns-then-len-eq0-clause-ok
 returns-then-len-eq0-clause-ok g c =
     builds_none g.K.Portable.kind g.V.Portable.kind g.row.E g.met.K.Portable.laws g.met.V.Portable.laws c.requires.fitting
     g.KU.Archive.archival g.VU.Archive.archival g.met.KU.Archive.archived g.met.VU.Archive.archived
-    now_of g.I.Iterator.next_gives c.args.iter c.args.len g.W.Writer.state c.args.writer.now [] (drains_within (Gives g.I.Iterator.next_gives (λ (s : AnyOrder) (key : Bor g.row.KU.Denot) (t : AnyOrder). ⊤) (λ (s : AnyOrder) (key : Bor g.row.KU.Denot) (t : AnyOrder). ⊥)) g.I.Iterator.next_gives (λ s. s.items) (any_within g.I.Iterator.next_gives) _ [] (c.none_left.new.source, c.in_default.ensures.ok)) (omega arith) refl
+    now_of g.I.Iterator.next_gives c.args.iter c.args.len g.W.Writer.state c.args.writer.now [] (drains_within (Gives g.I.Iterator.next_gives (λ (s : AnyOrder) (last : Option (Bor g.row.KU.Denot)) (key : Bor g.row.KU.Denot) (t : AnyOrder). ⊤) (λ (s : AnyOrder) (last : Option (Bor g.row.KU.Denot)) (key : Bor g.row.KU.Denot) (t : AnyOrder). ⊥)) g.I.Iterator.next_gives (λ s. s.0.items) (any_within g.I.Iterator.next_gives) _ [] ((c.none_left.new.source, None), c.in_default.ensures.ok)) (omega arith) refl
 
 pub returns-then-len-eq0-clause-smallest : goal.returns-then-len-eq0-clause-smallest
 returns-then-len-eq0-clause-smallest g c =
@@ -81,7 +81,7 @@ pub returns-in-Err-clause-err : goal.returns-in-Err-clause-err
 returns-in-Err-clause-err g c =
     let left = c.in-Err.ensures.actual in
     unclaimed g.K.Portable.kind g.V.Portable.kind g.row.E g.KU.Archive.archival g.VU.Archive.archival g.I.Iterator.next_gives c.args.iter c.args.len _ _ (g.W.Writer.state c.args.writer.now) left.0 c.if-len-eq0.true
-    (drains_within (Gives g.I.Iterator.next_gives (λ (s : AnyOrder) (key : Bor g.row.KU.Denot) (t : AnyOrder). ⊤) (λ (s : AnyOrder) (key : Bor g.row.KU.Denot) (t : AnyOrder). ⊥)) g.I.Iterator.next_gives (λ s. s.items) (any_within g.I.Iterator.next_gives) _ left.0 (c.none_left.new.source, left.1))
+    (drains_within (Gives g.I.Iterator.next_gives (λ (s : AnyOrder) (last : Option (Bor g.row.KU.Denot)) (key : Bor g.row.KU.Denot) (t : AnyOrder). ⊤) (λ (s : AnyOrder) (last : Option (Bor g.row.KU.Denot)) (key : Bor g.row.KU.Denot) (t : AnyOrder). ⊥)) g.I.Iterator.next_gives (λ s. s.0.items) (any_within g.I.Iterator.next_gives) _ left.0 ((c.none_left.new.source, None), left.1))
     c.in-Err.ensures.expected c.in-Err.ensures.more left.2
 
 pub returns-in-Err-clause-kept : goal.returns-in-Err-clause-kept

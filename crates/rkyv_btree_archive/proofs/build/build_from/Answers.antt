@@ -56,7 +56,7 @@ returns-clause-err g c = c.build_some.ensures.err
 
 pub returns-then-len-eq0-clause-ok : goal.returns-then-len-eq0-clause-ok
 returns-then-len-eq0-clause-ok g c =
-    none_serialised g.K.Portable.kind g.V.Portable.kind g.row.E g.KU.Archive.archival g.VU.Archive.archival (both_borrowed g.BKU.Borrow.borrowed g.BVU.Borrow.borrowed) (Gives g.I.Iterator.next_gives g.L.Look.passes g.L.Look.stops) c.args.source.now c.none_left.new.source c.args.len (g.W.Writer.state c.args.writer.now) (omega arith) c.in_default.ensures.ok
+    none_serialised g.K.Portable.kind g.V.Portable.kind g.row.E g.KU.Archive.archival g.VU.Archive.archival (both_borrowed g.BKU.Borrow.borrowed g.BVU.Borrow.borrowed) (Gives g.I.Iterator.next_gives g.L.Look.passes g.L.Look.stops) (c.args.source.now, None) (c.none_left.new.source, None) c.args.len (g.W.Writer.state c.args.writer.now) (omega arith) c.in_default.ensures.ok
 
 pub returns-clause-ok : goal.returns-clause-ok
 returns-clause-ok g c = c.build_some.ensures.ok
@@ -127,5 +127,5 @@ returns-then-len-eq0-clause-none_kept g c = λ none. refl
 pub returns-in-Err-clause-err : goal.returns-in-Err-clause-err
 returns-in-Err-clause-err g c =
     let left = c.in-Err.ensures.actual in
-    uncalled g.K.Portable.kind g.V.Portable.kind g.row.E g.KU.Archive.archival g.VU.Archive.archival (both_borrowed g.BKU.Borrow.borrowed g.BVU.Borrow.borrowed) (Gives g.I.Iterator.next_gives g.L.Look.passes g.L.Look.stops) c.args.source.now c.none_left.new.source c.args.len _ _ (g.W.Writer.state c.args.writer.now) left.0
+    uncalled g.K.Portable.kind g.V.Portable.kind g.row.E g.KU.Archive.archival g.VU.Archive.archival (both_borrowed g.BKU.Borrow.borrowed g.BVU.Borrow.borrowed) (Gives g.I.Iterator.next_gives g.L.Look.passes g.L.Look.stops) (c.args.source.now, None) (c.none_left.new.source, None) c.args.len _ _ (g.W.Writer.state c.args.writer.now) left.0
     c.if-len-eq0.true left.1 c.in-Err.ensures.expected c.in-Err.ensures.more left.2

@@ -1,11 +1,12 @@
 use Rattle.std.proofs.Common.{◌+◌, ◌-◌, ◌≤◌, length, vec_capacity}
 use Rattle.std.specs.Iterator.{Yields, IsFinite, size}
-use Rattle.rkyv_btree_archive.specs.mirror.Source.{Gives}
+use Rattle.std.specs.Option.{option_copied}
+use Rattle.rkyv_btree_archive.specs.mirror.Source.{Gives, key_before}
 use Rattle.rkyv_btree_archive.proofs.items.take_items.Given as goal
 
 abbrev pub invariant-loop-source : goal.invariant-loop-source
 invariant-loop-source g l = record {
-  given : Yields (Gives g.I.Iterator.next_gives g.L.Look.passes g.L.Look.stops) l.fn.source l.items.items l.source;
+  given : Yields (Gives g.I.Iterator.next_gives g.L.Look.passes g.L.Look.stops) (l.fn.source, option_copied l.before) l.items.items (l.source, key_before (option_copied l.before) l.items.items);
   can : g.I.Iterator.can_next l.source.items;
   ends : IsFinite (g.I.Iterator.remaining l.source.items);
   left : size (g.I.Iterator.remaining l.source.items) + length l.items.items ≤ size (g.I.Iterator.remaining l.fn.source.items);

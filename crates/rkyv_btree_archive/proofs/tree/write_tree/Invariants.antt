@@ -1,9 +1,9 @@
 use Rattle.rkyv_btree_writing_laws.specs.Entries.{both_borrowed}
-use Rattle.std.proofs.Common.{◌+◌, ◌*◌, ◌-◌, ◌≤◌, length, vec_capacity}
+use Rattle.std.proofs.Common.{◌+◌, ◌*◌, ◌-◌, ◌≤◌, None, length, vec_capacity}
 use Rattle.std.specs.Iterator.{IsFinite, size}
 use Rattle.rkyv_btree_format.specs.Layout.{layout_of}
 use Rattle.rkyv_btree_archive.specs.mirror.Scratch.{IsFree}
-use Rattle.rkyv_btree_archive.specs.mirror.Source.{Gives}
+use Rattle.rkyv_btree_archive.specs.mirror.Source.{Gives, last_taken}
 use Rattle.rkyv_btree_archive.proofs.Stands.{Stands}
 use Rattle.rkyv_btree_writer.specs.Writing.{position, last_end}
 use Rattle.rkyv_btree_archive.proofs.tree.write_tree.Given as goal
@@ -12,8 +12,8 @@ abbrev pub invariant-loop-first : goal.invariant-loop-first
 invariant-loop-first g l =
     let E = g.row.E in
     record {
-      stands : Stands (layout_of g.K.Portable.kind g.V.Portable.kind E) g.KU.Archive.archival g.VU.Archive.archival (both_borrowed g.BKU.Borrow.borrowed g.BVU.Borrow.borrowed) (Gives g.I.Iterator.next_gives g.L.Look.passes g.L.Look.stops) l.above l.fn.on_last l.fn.source (g.W.Writer.state l.fn.writer)
-          l.levels l.left l.taken l.waiting.items l.children.items l.starts.items l.child l.source (g.W.Writer.state l.writer);
+      stands : Stands (layout_of g.K.Portable.kind g.V.Portable.kind E) g.KU.Archive.archival g.VU.Archive.archival (both_borrowed g.BKU.Borrow.borrowed g.BVU.Borrow.borrowed) (Gives g.I.Iterator.next_gives g.L.Look.passes g.L.Look.stops) l.above l.fn.on_last (l.fn.source, None) (g.W.Writer.state l.fn.writer)
+          l.levels l.left l.taken l.waiting.items l.children.items l.starts.items l.child (l.source, last_taken l.waiting.items l.leaf.items) (g.W.Writer.state l.writer);
       free : IsFree (layout_of g.K.Portable.kind g.V.Portable.kind E) l.scratch;
       waiting_room : E * l.above ≤ vec_capacity l.waiting;
       child_room : E * l.above ≤ vec_capacity l.children;

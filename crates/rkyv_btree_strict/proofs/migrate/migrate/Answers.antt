@@ -19,7 +19,7 @@ returns-clause-ok g c =
 pub returns-clause-strict : goal.returns-clause-strict
 returns-clause-strict g c =
     IfOk-weaker c.write_root.result _ _ (λ at done.
-    strict_of g.T.Ord.cmp g.K.Portable.kind g.V.Portable.kind g.T.Archive.archival g.U.Archive.archival (model_both g.K.Deserialize.model g.V.Deserialize.model) _ c.written_maps_are_held.ensures (g.W.Writer.state c.args.writer.now) at (g.W.Writer.state c.write_root.new.writer) done) (returns-clause-ok g c)
+    strict_of g.T.Ord.cmp g.K.Portable.kind g.V.Portable.kind g.T.Archive.archival g.U.Archive.archival (model_both g.K.Deserialize.model g.V.Deserialize.model) _ (g.W.Writer.state c.args.writer.now) at (g.W.Writer.state c.write_root.new.writer) done) (returns-clause-ok g c)
 
 pub returns-clause-err : goal.returns-clause-err
 returns-clause-err g c =

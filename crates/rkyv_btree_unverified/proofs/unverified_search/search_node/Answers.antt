@@ -16,8 +16,8 @@ bounds-buf-node g c =
     let room = room_of _ _ _ g.met.K.Portable.laws g.met.V.Portable.laws c.requires.fitting in
     omega (arith, room.eight)
 
-pub returns-in-Err-search_keys-clause-accepts : goal.returns-in-Err-search_keys-clause-accepts
-returns-in-Err-search_keys-clause-accepts g c m h = c.in-Err-search_keys.ensures.accepts (root_entries g.K.Portable.kind g.V.Portable.kind g.M.ArchivedMap.E c.args.buf.now m c.args.hi c.args.node _ h c.in-Ok.ensures.counted)
+pub returns-in-Err-halt_of_node-clause-accepts : goal.returns-in-Err-halt_of_node-clause-accepts
+returns-in-Err-halt_of_node-clause-accepts g c m h = c.in-Err-halt_of_node.ensures.accepts (root_entries g.K.Portable.kind g.V.Portable.kind g.M.ArchivedMap.E c.args.buf.now m c.args.hi c.args.node _ h c.in-Ok.ensures.counted)
 
 pub returns-in-Ok-Found-clause-found : goal.returns-in-Ok-Found-clause-found
 returns-in-Ok-Found-clause-found g c m h f p =
@@ -63,13 +63,13 @@ returns-in-Err-clause-gives g c f p m =
     let KR = g.K.CheckBytes.Refuses in let VR = g.V.CheckBytes.Refuses in
     node_refuses K V E b comparison KR VR m c.args.hi c.args.node _ c.in-Err.ensures.gives
 
-pub returns-in-Err-search_keys-clause-gives : goal.returns-in-Err-search_keys-clause-gives
-returns-in-Err-search_keys-clause-gives g c f p m =
+pub returns-in-Err-halt_of_node-clause-gives : goal.returns-in-Err-halt_of_node-clause-gives
+returns-in-Err-halt_of_node-clause-gives g c f p m =
     let K = g.K.Portable.kind in let V = g.V.Portable.kind in let E = g.M.ArchivedMap.E in
     let b = c.args.buf.now in
     let comparison = f c.args.key.now in
     let KR = g.K.CheckBytes.Refuses in let VR = g.V.CheckBytes.Refuses in
-    keys_refuse K V E b comparison KR VR m c.args.hi c.args.node c.in-Ok.count c.in-Ok.ensures.gives _ (c.in-Err-search_keys.ensures.gives f p)
+    keys_refuse K V E b comparison KR VR m c.args.hi c.args.node c.in-Ok.count c.in-Ok.ensures.gives _ (c.in-Err-halt_of_node.ensures.gives f p)
 
 pub returns-in-Ok-Found-clause-gives : goal.returns-in-Ok-Found-clause-gives
 returns-in-Ok-Found-clause-gives g c f p m =

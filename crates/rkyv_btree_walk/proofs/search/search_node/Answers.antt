@@ -2,5 +2,5 @@
 use Rattle.rkyv_btree_base.proofs.Sizes.{fitting_parts}
 use Rattle.rkyv_btree_walk.proofs.search.search_node.Goals as goal
 
-pub is_one_number-requires : goal.is_one_number-requires
-is_one_number-requires g c = (fitting_parts _ _ _ c.requires.node.fitting).key
+pub is_searched_at_once-requires : goal.is_searched_at_once-requires
+is_searched_at_once-requires g c = (fitting_parts _ _ _ c.requires.node.fitting).key

@@ -1,6 +1,6 @@
 -- What was built of a list is the smallest of its maps.
 use Rattle.rkyv_btree_writing_laws.specs.Entries.{both_borrowed}
-use Rattle.std.proofs.Common.{⊎_elim}
+use Rattle.std.proofs.Common.{None, ⊎_elim}
 use Rattle.std.proofs.lemmas.Bool.{cases_lt}
 use Rattle.std.proofs.lemmas.Result.{IfOk-weaker, IfErr-weaker}
 use Rattle.rkyv_btree_format.proofs.Sizes.{room_of}
@@ -15,13 +15,13 @@ use Rattle.rkyv_btree_archive.proofs.map_type.ArchivedBTreeMap.serialize_from_or
 pub returns-clause-written : goal.returns-clause-written
 returns-clause-written g c =
     IfOk-weaker c.build_from.result _ _ (λ root built.
-    serialised_within g.K.Portable.kind g.V.Portable.kind g.row.E g.KU.Archive.archival g.VU.Archive.archival (both_borrowed g.BKU.Borrow.borrowed g.BVU.Borrow.borrowed) _ g.I.Iterator.next_gives (λ s. s.items) (any_within g.I.Iterator.next_gives) _ c.args.len (g.W.Writer.state c.args.writer.now) root (g.W.Writer.state c.build_from.new.writer) built.0) c.build_from.ensures.ok
+    serialised_within g.K.Portable.kind g.V.Portable.kind g.row.E g.KU.Archive.archival g.VU.Archive.archival (both_borrowed g.BKU.Borrow.borrowed g.BVU.Borrow.borrowed) _ g.I.Iterator.next_gives (λ s. s.0.items) (any_within g.I.Iterator.next_gives) _ c.args.len (g.W.Writer.state c.args.writer.now) root (g.W.Writer.state c.build_from.new.writer) built.0) c.build_from.ensures.ok
 
 pub returns-clause-err : goal.returns-clause-err
 returns-clause-err g c =
     IfErr-weaker c.build_from.result _ _ (λ fault failed.
-    fault_within g.K.Portable.kind g.V.Portable.kind g.row.E g.KU.Archive.archival g.VU.Archive.archival (both_borrowed g.BKU.Borrow.borrowed g.BVU.Borrow.borrowed) _ g.I.Iterator.next_gives (λ s. s.items) (any_within g.I.Iterator.next_gives) _ c.args.len (g.W.Writer.state c.args.writer.now) fault (g.W.Writer.state c.build_from.new.writer)
-    (fault_of_ended g.K.Portable.kind g.V.Portable.kind g.row.E g.KU.Archive.archival g.VU.Archive.archival (both_borrowed g.BKU.Borrow.borrowed g.BVU.Borrow.borrowed) _ _ c.args.len (g.W.Writer.state c.args.writer.now) fault c.build_from.new.source (g.W.Writer.state c.build_from.new.writer) failed)) c.build_from.ensures.err
+    fault_within g.K.Portable.kind g.V.Portable.kind g.row.E g.KU.Archive.archival g.VU.Archive.archival (both_borrowed g.BKU.Borrow.borrowed g.BVU.Borrow.borrowed) _ g.I.Iterator.next_gives (λ s. s.0.items) (any_within g.I.Iterator.next_gives) _ c.args.len (g.W.Writer.state c.args.writer.now) fault (g.W.Writer.state c.build_from.new.writer)
+    (fault_of_ended g.K.Portable.kind g.V.Portable.kind g.row.E g.KU.Archive.archival g.VU.Archive.archival (both_borrowed g.BKU.Borrow.borrowed g.BVU.Borrow.borrowed) _ _ c.args.len (g.W.Writer.state c.args.writer.now) fault (c.build_from.new.source, None) (g.W.Writer.state c.build_from.new.writer) failed)) c.build_from.ensures.err
 
 pub returns-clause-smallest : goal.returns-clause-smallest
 returns-clause-smallest g c =

@@ -1,6 +1,6 @@
 -- What was built of items whose keys increase.
 use Rattle.rkyv_btree_writing_laws.specs.Entries.{both_borrowed}
-use Rattle.std.proofs.Common.{refl, ⊎_elim}
+use Rattle.std.proofs.Common.{None, refl, ⊎_elim}
 use Rattle.std.proofs.lemmas.Bool.{cases_lt}
 use Rattle.rkyv_btree_format.proofs.Sizes.{room_of}
 use Rattle.rkyv_btree_writing_laws.proofs.OneTree.{builds_one_tree}
@@ -11,7 +11,7 @@ use Rattle.rkyv_btree_archive.proofs.map_type.ArchivedBTreeMap.serialize_strict_
 
 pub returns-in-Ok-clause-written : goal.returns-in-Ok-clause-written
 returns-in-Ok-clause-written g c =
-    built_in_order g.KU.Ord.cmp g.met.KU.Ord.total g.BKU.Borrow.borrowed g.BVU.Borrow.borrowed g.I.Iterator.next_gives c.args.len g.K.Portable.kind g.V.Portable.kind g.row.E g.KU.Archive.archival g.VU.Archive.archival _ (record { left = refl; last = refl; stopped = refl }) (g.W.Writer.state c.args.writer.now) c.in-Ok.resolver (g.W.Writer.state c.build_from-built.new.writer) c.in-Ok.ensures.ok.0
+    built_in_order g.KU.Ord.cmp g.met.KU.Ord.total g.BKU.Borrow.borrowed g.BVU.Borrow.borrowed g.I.Iterator.next_gives c.args.len g.K.Portable.kind g.V.Portable.kind g.row.E g.KU.Archive.archival g.VU.Archive.archival _ (record { left = refl; first = refl; stopped = refl }) (g.W.Writer.state c.args.writer.now) c.in-Ok.resolver (g.W.Writer.state c.build_from-built.new.writer) c.in-Ok.ensures.ok.0
 
 pub returns-in-Ok-clause-smallest : goal.returns-in-Ok-clause-smallest
 returns-in-Ok-clause-smallest g c =
@@ -30,19 +30,19 @@ returns-in-Ok-clause-one_tree g c =
 pub returns-then-source-clause-err : goal.returns-then-source-clause-err
 returns-then-source-clause-err g c =
     rw c.out_of_order.ensures
-    (fault_out_of_order g.KU.Ord.cmp g.met.KU.Ord.total g.BKU.Borrow.borrowed g.BVU.Borrow.borrowed g.I.Iterator.next_gives c.args.len g.K.Portable.kind g.V.Portable.kind g.row.E g.KU.Archive.archival g.VU.Archive.archival _ (record { left = refl; last = refl; stopped = refl }) (g.W.Writer.state c.args.writer.now) c.in-Err.fault c.build_from-built.new.source (g.W.Writer.state c.build_from-built.new.writer) c.if-source.true c.in-Err.ensures.err)
+    (fault_out_of_order g.KU.Ord.cmp g.met.KU.Ord.total g.BKU.Borrow.borrowed g.BVU.Borrow.borrowed g.I.Iterator.next_gives c.args.len g.K.Portable.kind g.V.Portable.kind g.row.E g.KU.Archive.archival g.VU.Archive.archival _ (record { left = refl; first = refl; stopped = refl }) (g.W.Writer.state c.args.writer.now) c.in-Err.fault (c.build_from-built.new.source, None) (g.W.Writer.state c.build_from-built.new.writer) c.if-source.true c.in-Err.ensures.err)
 
 pub returns-then-source-clause-none : goal.returns-then-source-clause-none
 returns-then-source-clause-none g c = λ none. (
   rw c.out_of_order.ensures
-      (none_met g.KU.Ord.cmp g.met.KU.Ord.total g.BKU.Borrow.borrowed g.BVU.Borrow.borrowed g.I.Iterator.next_gives c.args.len g.K.Portable.kind g.V.Portable.kind g.row.E g.KU.Archive.archival g.VU.Archive.archival _ (record { left = refl; last = refl; stopped = refl }) (g.W.Writer.state c.args.writer.now) c.in-Err.fault (g.W.Writer.state c.build_from-built.new.writer) none (c.in-Err.ensures.none none)
-      (fault_out_of_order g.KU.Ord.cmp g.met.KU.Ord.total g.BKU.Borrow.borrowed g.BVU.Borrow.borrowed g.I.Iterator.next_gives c.args.len g.K.Portable.kind g.V.Portable.kind g.row.E g.KU.Archive.archival g.VU.Archive.archival _ (record { left = refl; last = refl; stopped = refl }) (g.W.Writer.state c.args.writer.now) c.in-Err.fault c.build_from-built.new.source (g.W.Writer.state c.build_from-built.new.writer) c.if-source.true c.in-Err.ensures.err)),
+      (none_met g.KU.Ord.cmp g.met.KU.Ord.total g.BKU.Borrow.borrowed g.BVU.Borrow.borrowed g.I.Iterator.next_gives c.args.len g.K.Portable.kind g.V.Portable.kind g.row.E g.KU.Archive.archival g.VU.Archive.archival _ (record { left = refl; first = refl; stopped = refl }) (g.W.Writer.state c.args.writer.now) c.in-Err.fault (g.W.Writer.state c.build_from-built.new.writer) none (c.in-Err.ensures.none none)
+      (fault_out_of_order g.KU.Ord.cmp g.met.KU.Ord.total g.BKU.Borrow.borrowed g.BVU.Borrow.borrowed g.I.Iterator.next_gives c.args.len g.K.Portable.kind g.V.Portable.kind g.row.E g.KU.Archive.archival g.VU.Archive.archival _ (record { left = refl; first = refl; stopped = refl }) (g.W.Writer.state c.args.writer.now) c.in-Err.fault (c.build_from-built.new.source, None) (g.W.Writer.state c.build_from-built.new.writer) c.if-source.true c.in-Err.ensures.err)),
   c.in-Err.ensures.none_kept none,
 )
 
 pub returns-clause-err : goal.returns-clause-err
 returns-clause-err g c =
-    fault_in_order g.KU.Ord.cmp g.met.KU.Ord.total g.BKU.Borrow.borrowed g.BVU.Borrow.borrowed g.I.Iterator.next_gives c.args.len g.K.Portable.kind g.V.Portable.kind g.row.E g.KU.Archive.archival g.VU.Archive.archival _ (record { left = refl; last = refl; stopped = refl }) (g.W.Writer.state c.args.writer.now) c.in-Err.fault c.build_from-built.new.source (g.W.Writer.state c.build_from-built.new.writer) c.if-source.false c.in-Err.ensures.err
+    fault_in_order g.KU.Ord.cmp g.met.KU.Ord.total g.BKU.Borrow.borrowed g.BVU.Borrow.borrowed g.I.Iterator.next_gives c.args.len g.K.Portable.kind g.V.Portable.kind g.row.E g.KU.Archive.archival g.VU.Archive.archival _ (record { left = refl; first = refl; stopped = refl }) (g.W.Writer.state c.args.writer.now) c.in-Err.fault (c.build_from-built.new.source, None) (g.W.Writer.state c.build_from-built.new.writer) c.if-source.false c.in-Err.ensures.err
 
 pub returns-in-Ok-clause-past : goal.returns-in-Ok-clause-past
 returns-in-Ok-clause-past g c = λ late. absurd (cc (c.in-Ok.ensures.past late))

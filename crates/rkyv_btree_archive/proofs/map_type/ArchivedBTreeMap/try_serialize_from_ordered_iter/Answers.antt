@@ -1,5 +1,5 @@
 -- What was built of the items of an iterator that can fail.
-use Rattle.std.proofs.Common.{refl, ⊎_elim}
+use Rattle.std.proofs.Common.{None, refl, ⊎_elim}
 use Rattle.std.proofs.lemmas.Bool.{cases_lt}
 use Rattle.std.proofs.lemmas.Result.{IfOk-weaker}
 use Rattle.rkyv_btree_format.proofs.Sizes.{room_of}
@@ -13,11 +13,11 @@ use Rattle.rkyv_btree_archive.proofs.map_type.ArchivedBTreeMap.try_serialize_fro
 
 pub returns-clause-written : goal.returns-clause-written
 returns-clause-written g c =
-    rw c.tried.ensures (try_ok g.I.Iterator.next_gives g.K.Portable.kind g.V.Portable.kind g.row.E g.KU.Archive.archival g.VU.Archive.archival (both_borrowed g.BKU.Borrow.borrowed g.BVU.Borrow.borrowed) _ refl c.args.len (g.W.Writer.state c.args.writer.now) _ c.build_from-built.result c.build_from-built.new.source (g.W.Writer.state c.build_from-built.new.writer) refl c.build_from-built.ensures.ok)
+    rw c.tried.ensures (try_ok g.I.Iterator.next_gives g.K.Portable.kind g.V.Portable.kind g.row.E g.KU.Archive.archival g.VU.Archive.archival (both_borrowed g.BKU.Borrow.borrowed g.BVU.Borrow.borrowed) _ refl c.args.len (g.W.Writer.state c.args.writer.now) _ c.build_from-built.result (c.build_from-built.new.source, None) (g.W.Writer.state c.build_from-built.new.writer) refl c.build_from-built.ensures.ok)
 
 pub returns-clause-err : goal.returns-clause-err
 returns-clause-err g c =
-    rw c.tried.ensures (try_err g.I.Iterator.next_gives g.K.Portable.kind g.V.Portable.kind g.row.E g.KU.Archive.archival g.VU.Archive.archival (both_borrowed g.BKU.Borrow.borrowed g.BVU.Borrow.borrowed) _ refl c.args.len (g.W.Writer.state c.args.writer.now) _ c.build_from-built.result c.build_from-built.new.source (g.W.Writer.state c.build_from-built.new.writer) refl c.build_from-built.ensures.ok c.build_from-built.ensures.err)
+    rw c.tried.ensures (try_err g.I.Iterator.next_gives g.K.Portable.kind g.V.Portable.kind g.row.E g.KU.Archive.archival g.VU.Archive.archival (both_borrowed g.BKU.Borrow.borrowed g.BVU.Borrow.borrowed) _ refl c.args.len (g.W.Writer.state c.args.writer.now) _ c.build_from-built.result (c.build_from-built.new.source, None) (g.W.Writer.state c.build_from-built.new.writer) refl c.build_from-built.ensures.ok c.build_from-built.ensures.err)
 
 pub returns-clause-smallest : goal.returns-clause-smallest
 returns-clause-smallest g c =

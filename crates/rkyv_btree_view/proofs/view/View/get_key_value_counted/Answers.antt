@@ -6,8 +6,10 @@ use Rattle.rkyv_btree_walk.specs.mirror.Search.{comparison_at}
 use Rattle.rkyv_btree_walk.proofs.Roots.{map_compared_bound}
 use Rattle.rkyv_btree_view.proofs.Lookups.{count_room}
 use Rattle.std.specs.Option.{option_map}
-use Rattle.rkyv_btree_base.specs.Read.{entry_at}
-use Rattle.rkyv_btree_view.proofs.LookedUp.{found_member, found_complete, found_is}
+use Rattle.rkyv_btree_base.specs.Layout.{layout_of}
+use Rattle.rkyv_btree_base.specs.Read.{entry_at, map_tree}
+use Rattle.rkyv_btree_base.specs.Tree.{list}
+use Rattle.rkyv_btree_view.proofs.LookedUp.{found_member, found_complete, found_is, listed_read}
 use Rattle.rkyv_btree_view.specs.View.{view_entry}
 use Rattle.rkyv_btree_view.proofs.view.View.get_key_value_counted.Goals as goal
 
@@ -31,6 +33,12 @@ pub returns-clause-found : goal.returns-clause-found
 returns-clause-found g c f p =
     let found = c.search-found.ensures.found f (λ q w r e. let by = p q w in search rules) in
     c.entry_found.ensures ∙ ap (λ r. option_map (entry_at g.K.Portable.kind g.V.Portable.kind g.M.ArchivedMap.E c.args.self.buf.now) r.0) found
+
+pub returns-clause-listed : goal.returns-clause-listed
+returns-clause-listed g c =
+    let K = g.K.Portable.kind in let V = g.V.Portable.kind in let E = g.M.ArchivedMap.E in
+    let b = c.args.self.buf.now in
+    rw c.entry_found.ensures (listed_read (entry_at K V E b) (list (map_tree (layout_of K V E) b c.args.self.pos)) _ c.search-found.ensures.listed)
 
 pub returns-clause-member : goal.returns-clause-member
 returns-clause-member g c f p = found_member g.K.Portable.kind g.V.Portable.kind g.M.ArchivedMap.E c.args.self.buf.now c.args.self.pos (f c.args.key.now) view_entry _ (returns-clause-found g c f p)

@@ -1,0 +1,127 @@
+//! Archives of lines that are written as they are built, into memory, also of an input that changes while it is read.
+ghost use Rattle.std.specs.Prelude.{None};
+
+use crate::shared::same;
+use btreearc_lines::fault::ProgramFault;
+use btreearc_lines::reopen::Reopen;
+use btreekv_commands::command::Command;
+use btreekv_commands::program::run;
+use btreekv_commands::streaming::build;
+use std::alloc::Global;
+use std::cell::Cell;
+use std::io;
+use std::io::{BufReader, Read};
+use std::process::Abort;
+use std::test::Fail;
+
+/// Builds of lines do what the command does: the same archive, or no byte and the same error.
+fn builds_the_same(
+    rt: &impl Abort,
+    alloc: Global,
+    is_strict: bool,
+    lines: &[u8],
+) -> Result<(), Fail> {
+    let command = if is_strict {
+        Command::BuildStrict
+    } else {
+        Command::Build
+    };
+    let mut input = lines;
+    let mut whole = Vec::new(alloc);
+    let told = run(alloc, &command, &mut input, &mut whole);
+    let (streamed, output) = build(alloc, is_strict, &lines, Vec::new(alloc));
+    same(rt, output.as_slice(), whole.as_slice());
+    same(rt, fault_of(alloc, streamed)?, fault_of(alloc, told)?);
+    Ok(())
+}
+
+/// The line of an error, or nothing.
+fn fault_of(alloc: Global, answer: Result<u8, ProgramFault>) -> Result<String, Fail> {
+    match answer {
+        Ok(_) => Ok(String::new(alloc)),
+        Err(fault) => Ok(format!(in alloc; "{fault}")?),
+    }
+}
+
+#[test]
+fn lines_are_streamed_as_they_are_built(rt: HostRuntime) -> Result<(), Fail> {
+    let alloc = rt.alloc();
+    let texts: [&[u8]; 8] = [
+        b"",
+        b"a\t1\n",
+        b"a\t1\nb\t2\nc\t3\nd\t4\ne\t5\nf\t6\ng",
+        b"a\t1\nb\t2\nc\t3\nd\t4\ne\t5\nf\t6\ng\t7",
+        b"\t\n\t\n",
+        b"b\t1\na\t2\nc",
+        b"b\t1\na\t2\n",
+        b"a\xff\tb\n",
+    ];
+    for lines in texts {
+        builds_the_same(&rt, alloc, false, lines)?;
+        builds_the_same(&rt, alloc, true, lines)?;
+    }
+    Ok(())
+}
+
+/// A reader of which no clause knows the bytes.
+#[derive(Drop)]
+struct Plain<'b> {
+    rest: &'b [u8],
+}
+
+impl<'b> Read for Plain<'b> {
+    fn read(&mut self, buf: &mut [u8]) -> io::Result<usize> {
+        self.rest.read(buf)
+    }
+}
+
+/// An input that has other bytes each time it is opened.
+#[derive(Drop)]
+struct Changing<'b> {
+    alloc: Global,
+    texts: [&'b [u8]; 4],
+    at: Cell<usize>,
+}
+
+impl<'b> Reopen for Changing<'b> {
+    type Reader = BufReader<Plain<'b>>;
+
+    ghost bytes = { λ _. None };
+
+    fn reopen(&self) -> Result<BufReader<Plain<'b>>, ProgramFault> {
+        let at = self.at.get();
+        self.at.set(at.wrapping_add(1));
+        let rest = if at < 4 { self.texts[at] } else { b"" };
+        match BufReader::with_capacity(self.alloc, 16, Plain { rest }) {
+            Ok(reader) => Ok(reader),
+            Err(_) => Err(ProgramFault::Memory),
+        }
+    }
+}
+
+/// Building of an input that has these bytes, one after another, returns this error. Returns how many bytes were written.
+fn fails(rt: &impl Abort, alloc: Global, texts: [&[u8]; 4], line: &str) -> Result<usize, Fail> {
+    let input = Changing {
+        alloc,
+        texts,
+        at: Cell::new(0),
+    };
+    let (built, output) = build(alloc, true, &input, Vec::new(alloc));
+    same(rt, fault_of(alloc, built)?.as_str(), line);
+    Ok(output.len())
+}
+
+#[test]
+fn an_input_that_changes_is_an_error(rt: HostRuntime) -> Result<(), Fail> {
+    let alloc = rt.alloc();
+    let two = b"a\t1\nb\t2\n".as_slice();
+    let one = b"a\t1\n".as_slice();
+    let bad = b"a\t1\nb2\n".as_slice();
+    let read = "btreearc: input failed";
+    same(&rt, fails(&rt, alloc, [two, two, two, two], "")?, 100);
+    same(&rt, fails(&rt, alloc, [two, one, two, two], read)?, 0);
+    same(&rt, fails(&rt, alloc, [two, two, bad, two], read)?, 0);
+    fails(&rt, alloc, [two, two, two, one], "btreearc: output failed")?;
+    fails(&rt, alloc, [two, two, two, bad], "btreearc: output failed")?;
+    Ok(())
+}
