@@ -1,7 +1,7 @@
 #!/usr/bin/env bash
 # Runs the built program as a process of its own, and compares its status, its standard output and its line on standard
-# error with what each case names. Then it has more than 1 MB of lines built and listed through pipes, and a value set. The drawing
-# of the format must be that of its archive.
+# error with what each case names. Then it has more than 1 MB of lines built and listed through pipes, and a value set; and a million
+# lines built within 32 megabytes. The drawing of the format must be that of its archive. It needs Python.
 #
 #     tools/processes.sh [PROGRAM]
 #
@@ -242,6 +242,52 @@ awk 'BEGIN { for (i = 0; i < 100000; i++) printf "%d %d\n", 4 * i + 1, 10 * i }'
 (($(wc -c < "$work/lines") > 1048576)) || fail "the lines are no more than 1 MB"
 "$program" build < "$work/lines" | "$program" list | cmp -s - "$work/lines" ||
     fail "list doesn't give back the lines that were built"
+
+# A million lines, which are more than are held in memory, give one archive by a pipe and as standard input: that of these bytes, as it was
+# built in memory. No more than 32 megabytes are resident. After an error nothing is written, and no file is left.
+cat > "$work/resident.py" <<'E'
+import resource, subprocess, sys
+status = subprocess.run(sys.argv[2:], stdin=sys.stdin, stdout=sys.stdout).returncode
+peak = resource.getrusage(resource.RUSAGE_CHILDREN).ru_maxrss
+if peak > int(sys.argv[1]):
+    print(f"resident: {peak} kilobytes", file=sys.stderr)
+sys.exit(status)
+E
+mkdir "$work/spool"
+export TMPDIR=$work/spool
+resident() { python3 "$work/resident.py" 32768 "$program" "$@"; }
+awk 'BEGIN { for (i = 0; i < 1000000; i++) printf "%d %d\n", 4 * i + 1, 10 * i }' > "$work/million"
+resident build < "$work/million" > "$work/large" 2> "$work/said" || fail "a million lines: not built"
+sum=078210dc9da914477e430f99de770f3abdbe8653ebc42cb1b82839136eb32099
+[[ $(sha256sum < "$work/large") == "$sum  -" ]] || fail "a million lines: another archive"
+cat "$work/million" | resident build 2>> "$work/said" | cmp -s - "$work/large" || fail "a million lines by a pipe: another archive"
+resident build-strict < "$work/million" 2>> "$work/said" | cmp -s - "$work/large" || fail "a million lines: another strict archive"
+cat "$work/million" | resident build-strict 2>> "$work/said" | cmp -s - "$work/large" ||
+    fail "a million lines by a pipe: another strict archive"
+"$program" list < "$work/large" | cmp -s - "$work/million" || fail "a million lines: listed otherwise"
+# lines of 4 bytes, of which the most entries are held in memory
+awk 'BEGIN { for (i = 0; i < 1048575; i++) print "1 1" }' | resident build 2>> "$work/said" > "$work/large" || fail "short lines: not built"
+[[ $("$program" check < "$work/large") == 'ok 1048575 entries' ]] || fail "short lines: another count"
+[[ ! -s $work/said ]] || fail "a million lines: on standard error: $(cat "$work/said")"
+unbuilt() {
+    local got=0
+    "$program" "${@:2}" > "$work/written" 2> "$work/said" || got=$?
+    [[ $got == 2 && $(cat "$work/said") == "$1" && ! -s $work/written ]] || fail "words ${*@Q}: status $got: $(cat "$work/said")"
+}
+{ cat "$work/million"; printf '1 2 3\n'; } > "$work/bad"
+unbuilt 'btreearc: line 1000001: not KEY VALUE' build < "$work/bad"
+unbuilt 'btreearc: line 1000001: not KEY VALUE' build-strict < "$work/bad"
+unbuilt 'btreearc: line 1000001: not KEY VALUE' build < <(cat "$work/bad")
+{ cat "$work/million"; printf '3999997 1'; } > "$work/bad"
+unbuilt 'btreearc: not built: entry 1000000 is out of order' build-strict < "$work/bad"
+unbuilt 'btreearc: not built: entry 1000000 is out of order' build-strict < <(cat "$work/bad")
+{ printf '2 1\n'; cat "$work/million"; printf 'x'; } > "$work/bad"
+unbuilt 'btreearc: line 1000002: not KEY VALUE' build-strict < "$work/bad"
+TMPDIR=$work/absent unbuilt 'btreearc: input failed' build < "$work/bad"
+if [[ -e /dev/full ]]; then
+    streams 2 'btreearc: output failed' build < "$work/million" > /dev/full
+fi
+[[ -z $(ls "$work/spool") ]] || fail "a temporary file is left: $(ls "$work/spool")"
 
 awk 'BEGIN { for (i = 1; i <= 17; i++) print i, 10 * i }' | "$program" build | "$tools/drawing.py" |
     cmp -s - "$tools/../docs/format.svg" || fail "docs/format.svg isn't the drawing of 17 entries; run make drawing"

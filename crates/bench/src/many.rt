@@ -4,6 +4,7 @@ use crate::numbers::{LOOKUPS, Map};
 use crate::report::Report;
 use crate::unverified::{Texts, next};
 use anyhow::ensure;
+use rkyv_btree::unverified::Unverified;
 use rkyv_btree::view::View;
 use std::alloc::{AllocError, Global};
 
@@ -19,6 +20,20 @@ fn get_numbers(map: View<Map>, keys: &[u32]) -> u64 {
     sum
 }
 
+/// The same in bytes that nobody has validated, or 0 where a lookup fails.
+#[inline(never)]
+fn get_numbers_unverified(map: Unverified<Map>, keys: &[u32]) -> u64 {
+    let mut sum = 0u64;
+    for found in map.get_many_by(keys) {
+        match found {
+            Ok(Some(value)) => sum = sum.wrapping_add(u64::from(value.to_native())),
+            Ok(None) => {}
+            Err(_) => return 0,
+        }
+    }
+    sum
+}
+
 /// Times lookups of these keys in a map of numbers, whose sum of found values is this.
 pub(crate) fn measure(
     report: &Report,
@@ -27,6 +42,23 @@ pub(crate) fn measure(
     sum: u64,
 ) -> anyhow::Result<()> {
     let found = report.time("port", "get many", LOOKUPS, || get_numbers(map, keys))?;
+    ensure!(found == sum, "sums differ");
+    Ok(())
+}
+
+/// Times the same in bytes that nobody has validated.
+pub(crate) fn measure_unverified(
+    report: &Report,
+    map: Unverified<Map>,
+    keys: &[u32],
+    sum: u64,
+) -> anyhow::Result<()> {
+    let found = report.time(
+        "unverified",
+        "get many",
+        LOOKUPS,
+        || get_numbers_unverified(map, keys),
+    )?;
     ensure!(found == sum, "sums differ");
     Ok(())
 }
@@ -56,15 +88,37 @@ fn get_texts(map: View<Texts>, names: &[&str]) -> u64 {
     sum
 }
 
+/// The same in bytes that nobody has validated, or 0 where a lookup fails.
+#[inline(never)]
+fn get_texts_unverified(map: Unverified<Texts>, names: &[&str]) -> u64 {
+    let mut sum = 0u64;
+    for found in map.get_many_by(names) {
+        match found {
+            Ok(Some(value)) => sum = sum.wrapping_add(u64::from(value.to_native())),
+            Ok(None) => {}
+            Err(_) => return 0,
+        }
+    }
+    sum
+}
+
 /// Times lookups of texts in a map of the entries, whose sum of found values is this.
 pub(crate) fn measure_texts(
     report: &Report,
     map: View<Texts>,
+    unverified: Unverified<Texts>,
     entries: &[(String, u32)],
     sum: u64,
 ) -> anyhow::Result<()> {
     let names = names(report.rt.alloc(), entries)?;
     let found = report.time("port", "get many texts", LOOKUPS, || get_texts(map, &names))?;
+    ensure!(found == sum, "sums differ");
+    let found = report.time(
+        "unverified",
+        "get many texts",
+        LOOKUPS,
+        || get_texts_unverified(unverified, &names),
+    )?;
     ensure!(found == sum, "sums differ");
     Ok(())
 }

@@ -44,7 +44,7 @@ pub(crate) fn measure(
         || get_numbers(unverified, keys),
     )?;
     ensure!(found == sum, "sums differ");
-    Ok(())
+    many::measure_unverified(report, unverified, keys, sum)
 }
 
 /// The index of the entry that is looked up after the one at this index.
@@ -100,5 +100,5 @@ pub(crate) fn measure_texts(
         || get_texts_unverified(unverified, entries),
     )?;
     ensure!(found == sum, "sums differ");
-    many::measure_texts(report, map, entries, sum)
+    many::measure_texts(report, map, unverified, entries, sum)
 }

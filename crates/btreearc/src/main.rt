@@ -1,11 +1,16 @@
 //! Archived maps of `u32` to `u32`: built from lines, checked, listed, looked up in and edited.
 #![tactic(auto)]
 
-use btreearc_commands::program;
+use btreearc_commands::{program, streaming};
+use btreearc_lines::command::Command;
 use btreearc_lines::fault::ProgramFault;
+use btreearc_lines::spool::{Bytes, read_bytes};
 use std::env;
-use std::io::ErrorKind;
+use std::io::{BufWriter, ErrorKind};
 use std::process::ExitCode;
+
+/// The number of bytes that one write of an archive has.
+const WRITE_LEN: usize = 65536;
 
 /// The words after the program's name. A word that isn't UTF-8 is a wrong use.
 fn words(rt: &HostRuntime) -> Result<Vec<String>, ProgramFault> {
@@ -23,9 +28,31 @@ fn words(rt: &HostRuntime) -> Result<Vec<String>, ProgramFault> {
     Ok(words)
 }
 
+/// Runs a command that builds, which the words name, over the standard streams. A few megabytes of lines are held in memory, and more
+/// are read again from a file.
+fn build(rt: &HostRuntime, words: &[String], is_strict: bool) -> Result<u8, ProgramFault> {
+    match read_bytes(rt, rt.stdin())? {
+        Bytes::Held(bytes) => {
+            let mut output = rt.stdout();
+            program::run(rt.alloc(), words, &mut bytes.as_slice(), &mut output)
+        }
+        Bytes::Spooled(lines) => {
+            let Ok(output) = BufWriter::with_capacity(rt.alloc(), WRITE_LEN, rt.stdout()) else {
+                return Err(ProgramFault::Memory);
+            };
+            streaming::build(rt.alloc(), is_strict, &lines, output).0
+        }
+    }
+}
+
 /// Runs the command of the arguments over the standard streams.
 fn start(rt: &HostRuntime) -> Result<u8, ProgramFault> {
     let words = words(rt)?;
+    match Command::from_words(&words) {
+        Some(Command::Build) => return build(rt, &words, false),
+        Some(Command::BuildStrict) => return build(rt, &words, true),
+        _ => {}
+    }
     let mut input = rt.stdin();
     let mut output = rt.stdout();
     program::run(rt.alloc(), &words, &mut input, &mut output)

@@ -1,10 +1,9 @@
 -- What is built for entries is their archive.
-use Rattle.std.proofs.Common.{◌≡◌, ℕ, ◌^◌, ◌≤◌, ◌<◌, IsTrue, IfSome, Option, Some, None, List, [], ◌∷◌, ◌++◌, length, map, Bor, unwrap_or, inl, inr, refl, sym, ap, subst, ◌∙◌, arith}
+use Rattle.std.proofs.Common.{◌≡◌, ℕ, ◌^◌, ◌≤◌, ◌<◌, IsTrue, Option, List, [], ◌∷◌, ◌++◌, length, map, unwrap_or, inl, inr, refl, sym, ap, subst, ◌∙◌, arith}
 use Rattle.std.proofs.lemmas.List.{length-map, length-append}
 use Rattle.std.proofs.lemmas.Simd.{map-map}
 use Rattle.std.specs.Int.{w32, to_le_bytes}
-use Rattle.std.specs.Io.KnownBytes.{Appends}
-use Rattle.std.specs.Iterator.{Drains, YieldsFirstBy}
+use Rattle.std.specs.Iterator.{Drains}
 use Rattle.rkyv_btree_base.specs.Image.{child_image, child_root, root_image}
 use Rattle.rkyv_btree_base.specs.InPlace.{IsOwn, OwnBytes}
 use Rattle.rkyv_btree_base.specs.Layout.{are_fitting, inner_size, len_at, node_size, values_at, keys_at, align, node_align}
@@ -16,9 +15,9 @@ use Rattle.rkyv_btree_base.specs.Serialising.{Built, Spelled, meaning_of, Stoppe
 use Rattle.rkyv_btree_base.specs.Archiving.{Archival, itself, plain_archival}
 use Rattle.rkyv_btree_base.specs.Plan.{planned_alone}
 use Rattle.rkyv_btree_base.specs.Tree.{Child, ChildHasShape}
-use Rattle.rkyv_btree_base.specs.Entries.{now_of}
+use Rattle.rkyv_btree_base.specs.Entries.{both_borrowed}
 use Rattle.rkyv_btree_base.specs.Written.{ChildStopped}
-use Rattle.rkyv_btree_base.proofs.Alike.{AreAlike, alike_length, alike_reach, child_alike}
+use Rattle.rkyv_btree_base.proofs.Alike.{AreAlike, alike_both, alike_length, alike_reach, alike_same, child_alike, same_child_root}
 use Rattle.rkyv_btree_base.proofs.Imaged.{child_written, child_stopped}
 use Rattle.rkyv_btree_base.proofs.Mapped.{alone_mapped}
 use Rattle.rkyv_btree_base.specs.Mapped.{mapped_child}
@@ -30,21 +29,18 @@ use Rattle.rkyv_btree_base.specs.Fault.TheVariants.{Length, LengthOverflow, Posi
 use Rattle.rkyv_btree_base.proofs.Accepting.{accepted_archive, archive_length}
 use Rattle.rkyv_btree_base.proofs.WriteRuns.{AllReach-both, appended-append, stopped_past, stopped_stray}
 use Rattle.btreearc_commands.specs.Archive.{own_bytes, five, tree_writes, root_writes, archive_of, HasArchive, IsUnbuilt}
-use Rattle.btreearc_lines.specs.Grammar.{IsLines}
 use Rattle.btreearc_commands.specs.Opening.{IsArchive, root_of}
 
 abbrev pub nothing_written : Writing
 nothing_written = record { base = 0; contents = []; failures = 0 }
 
--- what a pair of references leads to
-abbrev pub pair : Bor ℕ × Bor ℕ → ℕ × ℕ
-pair x = (x.0.now, x.1.now)
+-- what an item lends, which is an entry itself
+abbrev pub lends : ℕ × ℕ → ℕ × ℕ
+lends x = both_borrowed (λ (k : ℕ). k) (λ (v : ℕ). v) x
 
--- all items of an iterator are what its state shows
-pub drained_pairs : {S : Type 0} (rest : S → List (ℕ × ℕ)) (s : S) (xs : List (Bor ℕ × Bor ℕ)) → Drains (YieldsFirstBy pair rest) s xs → map pair xs ≡ rest s
-drained_pairs rest s [] d = sym (ap rest d.1.1 ∙ d.1.2.0)
-drained_pairs rest s (x ∷ xs) d =
-    ap (λ ys. pair x ∷ ys) (drained_pairs rest d.1.1.0 xs (d.0, (d.1.0, d.1.1.2, d.1.2))) ∙ sym d.1.1.1
+pub lent_same : (xs : List (ℕ × ℕ)) → map lends xs ≡ xs
+lent_same [] = refl
+lent_same (x ∷ xs) = ap (λ (ys : List (ℕ × ℕ)). x ∷ ys) (lent_same xs)
 
 -- nodes of five entries of numbers fit
 pub numbers_fit : IsTrue (are_fitting u32_kind u32_kind 5)
@@ -70,9 +66,6 @@ tree_of entries root from s start built =
       wrote = subst (λ (c : Child OwnBytes). Wrote nothing_written (child_image five 0 c) s) (sym same) made.0;
       root_is = tree.root_is ∙ (ap (λ (r : Option ℕ). unwrap_or r 0) made.1 ∙ ap (λ (c : Child OwnBytes). unwrap_or (child_root five 0 c) 0) (sym same));
     }
-
-pub tree_is : (entries : List (ℕ × ℕ)) (items : List (Bor ℕ × Bor ℕ)) (root : ℕ) (from s : Writing) → from ≡ nothing_written → map pair items ≡ entries → Built five numbers numbers from (map now_of items) root s → TreeIs entries root s
-tree_is entries items root from s start are built = tree_of entries root from s start (subst (λ (xs : List (ℕ × ℕ)). Built five numbers numbers from xs root s) are built)
 
 -- the map's writes after the tree
 roots_are : (entries : List (ℕ × ℕ)) (root : ℕ) (s : Writing) → TreeIs entries root s → root_image (position s) root (length entries) ≡ root_writes entries
@@ -103,7 +96,7 @@ has_archive entries root s t built few wrote end = record {
   reach = AllReach-both (tree_writes entries) (root_writes entries) built.wrote.reach (subst AllReach (roots_are entries root s built) wrote.reach);
 }
 
-alone_shape : {A : Type 0} (xs : List A) → ChildHasShape 5 (planned_alone 5 xs)
+pub alone_shape : {A : Type 0} (xs : List A) → ChildHasShape 5 (planned_alone 5 xs)
 alone_shape [] = tt
 alone_shape {A} (x ∷ xs) = (plan_is_left_complete A 5 (omega arith) (x ∷ xs) (omega arith)).0.has_shape
 
@@ -119,7 +112,7 @@ paired (x ∷ xs) (y ∷ ys) n =
 planned_by : (f : (ℕ × ℕ) × (ℕ × ℕ) → ℕ × ℕ) (zs : List ((ℕ × ℕ) × (ℕ × ℕ))) (xs : List (ℕ × ℕ)) → map f zs ≡ xs → planned_alone 5 (map own_bytes xs) ≡ mapped_child (λ z. own_bytes (f z)) (planned_alone 5 zs)
 planned_by f zs xs e = ap (λ ys. planned_alone 5 (map own_bytes ys)) (sym e) ∙ (ap (planned_alone 5) (map-map own_bytes f zs) ∙ alone_mapped (λ z. own_bytes (f z)) 5 zs)
 
-own_is : (x : ℕ × ℕ) → IsOwn u32_kind (own_bytes x).0 × IsOwn u32_kind (own_bytes x).1
+pub own_is : (x : ℕ × ℕ) → IsOwn u32_kind (own_bytes x).0 × IsOwn u32_kind (own_bytes x).1
 own_is x = (u32_faithful.is_own x.0, u32_faithful.is_own x.1)
 
 -- as many entries have a tree of the same writes but for their numbers, and so the same map
@@ -133,10 +126,37 @@ module _ (xs ys : List (ℕ × ℕ)) (same : length xs ≡ length ys) where
       (subst (λ (c : Child OwnBytes). AreAlike (child_image five 0 (mapped_child (λ z. own_bytes z.0) (planned_alone 5 p.0))) (child_image five 0 c)) (sym back)
       (child_alike u32_kind u32_kind 5 u32_laws u32_laws numbers_fit (λ z. own_bytes z.0) (λ z. own_bytes z.1) (λ z. own_is z.0) (λ z. own_is z.1) 0 (planned_alone 5 p.0) (alone_shape p.0)))
 
-module _ {S : Type 0} (steps : S → Option (Bor ℕ × Bor ℕ) → S → Type 0) (entries : List (ℕ × ℕ)) where
+  roots_same : unwrap_or (child_root five 0 (planned_alone 5 (map own_bytes xs))) 0 ≡ unwrap_or (child_root five 0 (planned_alone 5 (map own_bytes ys))) 0
+  roots_same =
+      let p = paired xs ys same in
+      let front = planned_by (λ z. z.0) p.0 xs p.1 in
+      let back = planned_by (λ z. z.1) p.0 ys p.2 in
+      ap (λ (c : Child OwnBytes). unwrap_or (child_root five 0 c) 0) front
+      ∙ (ap (λ (r : Option ℕ). unwrap_or r 0) (same_child_root u32_kind u32_kind 5 u32_laws u32_laws numbers_fit (λ z. own_bytes z.0) (λ z. own_bytes z.1) (λ z. own_is z.0) (λ z. own_is z.1) 0 (planned_alone 5 p.0))
+      ∙ ap (λ (c : Child OwnBytes). unwrap_or (child_root five 0 c) 0) (sym back))
+
+  map_same : root_writes xs ≡ root_writes ys
+  map_same =
+      ap (λ (p : ℕ). root_image p (unwrap_or (child_root five 0 (planned_alone 5 (map own_bytes xs))) 0) (length xs)) (alike_length (tree_writes xs) (tree_writes ys) trees_alike)
+      ∙ (ap (λ (r : ℕ). root_image (length (appended (tree_writes ys))) r (length xs)) roots_same
+      ∙ ap (root_image (length (appended (tree_writes ys))) (unwrap_or (child_root five 0 (planned_alone 5 (map own_bytes ys))) 0)) same)
+
+  archive_alike : AreAlike (tree_writes xs ++ root_writes xs) (tree_writes ys ++ root_writes ys)
+  archive_alike = alike_both (tree_writes xs) (tree_writes ys) (root_writes xs) (root_writes ys) trees_alike (subst (AreAlike (root_writes xs)) map_same (alike_same (root_writes xs)))
+
+  pub archive_as_long : length (archive_of xs) ≡ length (archive_of ys)
+  archive_as_long = alike_length (tree_writes xs ++ root_writes xs) (tree_writes ys ++ root_writes ys) archive_alike
+
+  pub archive_reaches : AllReach (tree_writes xs ++ root_writes xs) → AllReach (tree_writes ys ++ root_writes ys)
+  archive_reaches = alike_reach (tree_writes xs ++ root_writes xs) (tree_writes ys ++ root_writes ys) archive_alike
+
+  pub has_alike : HasArchive xs → HasArchive ys
+  has_alike h = record { count = omega (arith, h.count, same); end = omega (arith, h.end, archive_as_long); reach = archive_reaches h.reach }
+
+module _ {I S : Type 0} (shown : I → ℕ × ℕ) (steps : S → Option I → S → Type 0) (entries : List (ℕ × ℕ)) where
   -- writing the tree of as many entries was stopped
   abbrev Given : {X : Type 0} → S → Writing → Fault X → Writing → Type 0
-  Given {X} iter from fault t = StoppedBuilding u32_kind u32_kind 5 numbers numbers now_of steps {X = X} iter (length entries) from fault t
+  Given {X} iter from fault t = StoppedBuilding u32_kind u32_kind 5 numbers numbers shown steps {X = X} iter (length entries) from fault t
 
   stopped_tree : {X : Type 0} (iter : S) (from : Writing) (fault : Fault X) (t : Writing) → from ≡ nothing_written → (h : Given iter from fault t) → Stopped nothing_written (tree_writes h.entries) fault t
   stopped_tree iter from fault t start h =
@@ -155,7 +175,7 @@ module _ {S : Type 0} (steps : S → Option (Bor ℕ × Bor ℕ) → S → Type 
         length-append (appended (tree_writes entries)) (appended (root_writes entries)),
       )
 
-  pub unbuilt : {X : Type 0} (iter : S) (from : Writing) (fault : Fault X) (t : Writing) → from ≡ nothing_written → ((items : List (Bor ℕ × Bor ℕ)) → Drains steps iter items → length items ≡ length entries) → BuildFault u32_kind u32_kind 5 numbers numbers now_of steps iter (length entries) from fault t → IsUnbuilt entries fault
+  pub unbuilt : {X : Type 0} (iter : S) (from : Writing) (fault : Fault X) (t : Writing) → from ≡ nothing_written → ((items : List I) → Drains steps iter items → length items ≡ length entries) → BuildFault u32_kind u32_kind 5 numbers numbers shown steps iter (length entries) from fault t → IsUnbuilt entries fault
   unbuilt iter from LengthOverflow t start counts (inl h) = h.0
   unbuilt {X} iter from LengthOverflow t start counts (inr h) = absurd (stopped_tree {X = X} iter from LengthOverflow t start h).refused
   unbuilt {X} iter from PositionOverflow t start counts h = unbuilt_past {X = X} h.entries t h.claimed.count (stopped_tree {X = X} iter from PositionOverflow t start h)
@@ -167,10 +187,6 @@ module _ {S : Type 0} (steps : S → Option (Bor ℕ × Bor ℕ) → S → Type 
   unbuilt iter from (Length mismatch) t start counts h = absurd (h.differs (counts h.items h.all))
   unbuilt {X} iter from (Entry fault) t start counts h = absurd (stopped_tree {X = X} iter from (Entry fault) t start h).refused
   unbuilt iter from (OutOfOrder index) t start counts h = absurd h
-
--- an iterator that shows what is left gives as many items
-pub shown_count : {S : Type 0} (rest : S → List (ℕ × ℕ)) (entries : List (ℕ × ℕ)) (iter : S) → rest iter ≡ entries → (items : List (Bor ℕ × Bor ℕ)) → Drains (YieldsFirstBy pair rest) iter items → length items ≡ length entries
-shown_count rest entries iter is items all = sym (length-map items pair) ∙ ap length (drained_pairs rest iter items all ∙ is)
 
 -- neither is the map written
 module _ (entries : List (ℕ × ℕ)) (root : ℕ) (s : Writing) (tree : TreeIs entries root s) where
@@ -199,23 +215,11 @@ module _ (entries : List (ℕ × ℕ)) (root : ℕ) (s : Writing) (tree : TreeIs
   unbuilt_root (OutOfOrder index) t h = absurd h
 
 -- what is built and written is accepted
-pub archive_accepted : (entries : List (ℕ × ℕ)) (items : List (Bor ℕ × Bor ℕ)) (root : ℕ) (from s t : Writing) → from.base ≡ 0 → s.base ≡ 0 → map pair items ≡ entries → length items ≤ last_end →
-    (0 < length items → Spelled u32_kind u32_kind 5 from (map (meaning_of u32_kind u32_kind numbers numbers now_of (itself u32_kind) (itself u32_kind)) items) root s) → Wrote s (root_image (position s) root (length entries)) t → position t ≤ last_end → IsArchive t.contents entries
+pub archive_accepted : (entries : List (ℕ × ℕ)) (items : List (ℕ × ℕ)) (root : ℕ) (from s t : Writing) → from.base ≡ 0 → s.base ≡ 0 → map lends items ≡ entries → length items ≤ last_end →
+    (0 < length items → Spelled u32_kind u32_kind 5 from (map (meaning_of u32_kind u32_kind numbers numbers lends (itself u32_kind) (itself u32_kind)) items) root s) → Wrote s (root_image (position s) root (length entries)) t → position t ≤ last_end → IsArchive t.contents entries
 archive_accepted entries items root from s t start zero are few spelled wrote end =
-    let count : length items ≡ length entries = sym (length-map items pair) ∙ ap length are in
+    let count : length items ≡ length entries = sym (length-map items lends) ∙ ap length are in
     let accepted = accepted_archive u32_kind u32_kind 5 u32_laws u32_laws from s t entries root start zero
     (λ some. subst (λ (m : List (ℕ × ℕ)). Spelled u32_kind u32_kind 5 from m root s) are (spelled (omega arith))) (omega arith) wrote end in
     let at : round_up (position s) 4 ≡ root_of t.contents = omega (arith, archive_length s t root (length entries) zero wrote) in
     subst (λ (p : ℕ). (left : ℕ) × Accepted u32_kind u32_kind 5 t.contents 0 p p left entries) at accepted
-
--- what was written of an input that is known
-pub output_built : (input old new : Option (List ℕ)) (text archive : List ℕ) (entries : List (ℕ × ℕ)) → IfSome input (λ bytes. text ≡ bytes) → IsLines text entries → HasArchive entries → IsArchive archive entries → archive ≡ archive_of entries → Appends old new archive →
-    IfSome input (λ bytes. (xs : List (ℕ × ℕ)) × IsLines bytes xs × HasArchive xs × IsArchive (archive_of xs) xs × Appends old new (archive_of xs))
-output_built None old new text archive entries is few fits accepted made written = tt
-output_built (Some bytes) old new text archive entries is few fits accepted made written = (
-  entries,
-  subst (λ (z : List ℕ). IsLines z entries) is few,
-  fits,
-  subst (λ (z : List ℕ). IsArchive z entries) made accepted,
-  subst (λ (z : List ℕ). Appends old new z) made written,
-)

@@ -1,7 +1,6 @@
 -- What `migrate` makes of an archive: the archive of its last values.
-use Rattle.std.proofs.Common.{◌≡◌, ℕ, ◌+◌, ◌-◌, List, [], ◌∷◌, length, map, Bor, Ok, Err, Result, inl, inr, refl, sym, ap, subst, ◌∙◌, arith}
+use Rattle.std.proofs.Common.{◌≡◌, ℕ, List, [], ◌∷◌, length, map, Ok, Err, Result, inl, inr, refl, sym, ap, subst, ◌∙◌, arith}
 use Rattle.std.proofs.lemmas.List.{length-map}
-use Rattle.std.specs.Iterator.{Drains}
 use Rattle.std.specs.Map.Iter.{TakesFirst, deref_pair}
 use Rattle.std.specs.Ordering.{nat_cmp}
 use Rattle.std.specs.Result.{result_map_both}
@@ -10,11 +9,9 @@ use Rattle.rkyv_btree_base.specs.EntryFault.{EntryFault}
 use Rattle.rkyv_btree_base.specs.Entries.{now_of}
 use Rattle.rkyv_btree_base.specs.Fault.{Fault}
 use Rattle.rkyv_btree_base.specs.Fault.TheVariants.{Length, LengthOverflow, PositionOverflow, OffsetOverflow, Writer, Memory, Entry, OutOfOrder}
-use Rattle.rkyv_btree_base.specs.Read.{read_map}
-use Rattle.rkyv_btree_base.specs.Rounding.{round_up}
 use Rattle.rkyv_btree_base.specs.Scalars.{u32_kind}
 use Rattle.rkyv_btree_base.specs.Spells.{Accepted}
-use Rattle.rkyv_btree_base.specs.Writing.{Writing, position}
+use Rattle.rkyv_btree_base.specs.Writing.{Writing}
 use Rattle.rkyv_btree_base.proofs.Accepting.{archive_length}
 use Rattle.rkyv_btree_base.proofs.TreeSerialised.{entries_drained}
 use Rattle.rkyv_btree_convert.specs.Deserializing.{both, all}
@@ -22,7 +19,7 @@ use Rattle.rkyv_btree_convert.specs.Maps.{last_wins, map_given, model_both}
 use Rattle.rkyv_btree_strict.specs.Migrated.{AreNative, Migrates, MigratesToStrict, IsUnmade, FailsToMigrate}
 use Rattle.btreearc_commands.specs.Archive.{archive_of, HasArchive, IsUnbuilt}
 use Rattle.btreearc_commands.specs.Commands.{last_values}
-use Rattle.btreearc_commands.specs.Opening.{IsArchive, entries_read, root_of}
+use Rattle.btreearc_commands.specs.Opening.{IsArchive, root_of}
 use Rattle.btreearc_commands.proofs.Built.{nothing_written, numbers, tree_of, archive_written, has_archive, unbuilt, unbuilt_root}
 
 -- numbers are ended as they are
@@ -87,6 +84,6 @@ module _ (native : Result (List (ℕ × ℕ)) EntryFault) (last : List (ℕ × �
   unrenewed from fault to start (inl (h, same)) = unmade fault h
   unrenewed {X} from fault to start (inr (entries, are, inl h)) =
       subst (λ (es : List (ℕ × ℕ)). IsUnbuilt es fault) (native_last entries are)
-      (unbuilt (TakesFirst deref_pair) entries {X = X} entries from fault to start (λ items drains. sym (length-map items now_of) ∙ ap length (entries_drained entries items drains)) h)
+      (unbuilt now_of (TakesFirst deref_pair) entries {X = X} entries from fault to start (λ items drains. sym (length-map items now_of) ∙ ap length (entries_drained entries items drains)) h)
   unrenewed from fault to start (inr (entries, are, inr (root, mid, built, failed))) =
       subst (λ (es : List (ℕ × ℕ)). IsUnbuilt es fault) (native_last entries are) (unbuilt_root entries root mid (tree_of entries root from mid start built) fault to failed)

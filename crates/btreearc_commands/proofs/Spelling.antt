@@ -2,8 +2,7 @@
 use Rattle.std.proofs.Common.{◌≡◌, ℕ, ◌≤◌, List, [], ◌∷◌, ◌++◌, length, refl, sym, ap, subst, ◌∙◌, arith, append_assoc}
 use Rattle.std.proofs.lemmas.Grind.{common_steps}
 use Rattle.btreearc_lines.specs.Grammar.{IsEntry, lines, AreEntries, IsLines, Leads, IsSpelled}
-use Rattle.btreearc_lines.specs.Reading.{EntryFirst}
-use Rattle.btreearc_lines.proofs.Splitting.{NoFeed, digits-no_feed, nil_feed, line-first, lines-none, entry-first, entry-lines}
+use Rattle.btreearc_lines.proofs.Splitting.{EntryFirst, NoFeed, digits-no_feed, nil_feed, line-first, lines-none, entry-first, entry-lines}
 
 entry-no_feed : (line : List ℕ) (x : ℕ × ℕ) → IsEntry line x → NoFeed line
 entry-no_feed line x is = subst NoFeed (sym is.spelled) (digits-no_feed is.key (32 ∷ is.value) is.key_is.digits ((λ h. omega (arith, h)), nil_feed is.value is.value_is.digits))

@@ -1,5 +1,5 @@
 -- The archive of entries: their tree from position 0 on, and after it the map.
-use Rattle.std.specs.Prelude.{ℕ, ◌<◌, ◌≤◌, List, ◌++◌, length, map, unwrap_or}
+use Rattle.std.specs.Prelude.{◌≡◌, ℕ, ◌<◌, ◌≤◌, List, ◌++◌, length, map, unwrap_or}
 use Rattle.std.specs.Int.{w32, to_le_bytes}
 use Rattle.std.specs.Ordering.{nat_cmp}
 use Rattle.rkyv_btree_base.specs.Image.{child_image, child_root, root_image}
@@ -11,6 +11,7 @@ use Rattle.rkyv_btree_base.specs.Writing.{Write, appended, AllReach, last_end}
 use Rattle.rkyv_btree_base.specs.Fault.{Fault}
 use Rattle.rkyv_btree_base.specs.Fault.TheVariants.{Length, LengthOverflow, PositionOverflow, OffsetOverflow, Writer, Memory, Entry, OutOfOrder}
 use Rattle.rkyv_btree_base.specs.Increasing.{IsOutOfOrder}
+use Rattle.btreearc_commands.specs.Opening.{IsArchive}
 use Rattle.btreearc_lines.specs.declared.fault.ProgramFault.{ProgramFault}
 use Rattle.btreearc_lines.specs.declared.fault.ProgramFault.TheVariants.{NotBuilt}
 
@@ -39,6 +40,12 @@ pub record HasArchive (entries : List (ℕ × ℕ)) : Type 0 where
   pub end : length (archive_of entries) ≤ last_end
   pub reach : AllReach (tree_writes entries ++ root_writes entries)
 
+-- bytes are the archive of entries, which they have, and which is accepted and means them
+pub record IsArchived (bytes : List ℕ) (entries : List (ℕ × ℕ)) : Type 0 where
+  pub exact : bytes ≡ archive_of entries
+  pub fits : HasArchive entries
+  pub accepted : IsArchive bytes entries
+
 -- why entries have no archive: they are too many, or it ends past the last position, or a pointer in it would not reach; or a growth is refused
 abbrev pub IsUnbuilt : {X : Type 0} → List (ℕ × ℕ) → Fault X → Type 0
 IsUnbuilt entries LengthOverflow = last_end < length entries
@@ -59,8 +66,3 @@ IsUnbuiltInOrder entries fault = IsUnbuilt entries fault
 abbrev pub IsBuildFault : List (ℕ × ℕ) → ProgramFault → Type 0
 IsBuildFault entries (NotBuilt fault) = IsUnbuilt entries fault
 IsBuildFault entries _ = ⊥
-
--- a fault of building one whose keys must increase
-abbrev pub IsStrictBuildFault : List (ℕ × ℕ) → ProgramFault → Type 0
-IsStrictBuildFault entries (NotBuilt fault) = IsUnbuiltInOrder entries fault
-IsStrictBuildFault entries _ = ⊥

@@ -3,3 +3,4 @@ pub mod Commands
 pub mod Opening
 pub mod Sessions
 pub mod Setting
+pub mod Streaming

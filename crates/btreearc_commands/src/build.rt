@@ -1,85 +1,132 @@
-//! Archives of entries, in any order and in increasing order of their keys.
-ghost use Rattle.std.specs.Prelude.{◌≡◌, IfOk, OnOk, IfErr};
-ghost use Rattle.std.specs.Iterator.{YieldsFirstBy, item_count};
-ghost use Rattle.std.specs.Ordering.{nat_cmp};
-ghost use Rattle.rkyv_btree_base.specs.Increasing.{Increasing};
-ghost use Rattle.btreearc_commands.specs.Archive.{archive_of, HasArchive, IsBuildFault, IsStrictBuildFault};
-ghost use Rattle.btreearc_commands.specs.Opening.{IsArchive};
+//! Archives of the entries of lines, in any order and in increasing order of their keys.
+ghost use Rattle.std.specs.Prelude.{◌≡◌, ℕ, List, length, true, Some, IfOk, OnOk, IfErr};
+ghost use Rattle.std.specs.Iterator.{at_most};
+ghost use Rattle.rkyv_btree_base.specs.Whole.{fresh};
+ghost use Rattle.btreearc_lines.specs.Faults.{IsReadTry};
+ghost use Rattle.btreearc_lines.specs.Grammar.{IsLines};
+ghost use Rattle.btreearc_commands.specs.Archive.{HasArchive, IsArchived};
+ghost use Rattle.btreearc_commands.specs.Streaming.{CountsDown, FailsToTest, IsInOrder, IsTried, IsUnfit, OfLines};
 
+use crate::entries::count_lines;
 use crate::opening::Numbers;
-use btreearc_lines::fault::ProgramFault;
-use rkyv_btree_base::place::VecWriter;
+use btreearc_lines::entries::Entries;
+use btreearc_lines::fault::{ProgramFault, in_memory, program_fault};
+use rkyv_btree_base::io_writer::IoWriter;
+use rkyv_btree_base::place::{VecWriter, Writer};
+use rkyv_btree_base::try_build::TryFault;
 use std::alloc::Global;
+use std::io;
+use std::io::BufRead;
 
-/// Entries in their order, each as references to its key and its value.
-#[derive(Drop)]
-struct Entries<'x> {
-    rest: &'x [(u32, u32)],
-}
-
-impl<'x> Iterator for Entries<'x> {
-    type Item = (&'x u32, &'x u32);
-
-    ghost next_gives = { YieldsFirstBy (λ e. (e.0.now, e.1.now)) (λ s. s.rest.now) };
-
-    ghost remaining = { item_count (λ s. s.rest.now) };
-
-    fn next(&mut self) -> Option<(&'x u32, &'x u32)> {
-        let (first, rest) = self.rest.split_first()?;
-        self.rest = rest;
-        Some((&first.0, &first.1))
-    }
-}
-
-/// The archive of entries.
+/// Serializes the entries of the lines of a reader and then their map, from position 0 on. `count` is the number of lines.
 ///
 /// # Errors
 ///
-/// `NotBuilt` where the entries are too many for 32 bits, the archive would end past position 4294967295, a pointer
-/// would reach over more than 2 GiB, or there is no memory.
+/// `Item` if a read fails, a line is no entry, there are fewer lines, or there is no memory for a line. `Build` if there are more entries
+/// than 32 bits can count, the archive would be longer than 4 GiB, a pointer would reach over more than 2 GiB, the writer fails, or
+/// there is no memory.
 #[tactic(auto, using(crate::proofs::Built::numbers_fit))]
-pub fn archive(alloc: Global, entries: &[(u32, u32)]) -> Result<Vec<u8>, ProgramFault>
-    ensures ok { IfOk result (λ bytes. bytes.items ≡ archive_of entries.now) }
-    ensures fits { OnOk result (HasArchive entries.now) }
-    ensures accepted { IfOk result (λ bytes. IsArchive bytes.items entries.now) }
-    ensures err { IfErr result (IsBuildFault entries.now) }
+pub(crate) fn serialize_lines<B: BufRead + Drop, W: Writer>(
+    alloc: Global,
+    count: usize,
+    input: B,
+    writer: &mut W,
+) -> Result<(), TryFault<W::Error, ProgramFault>>
+    requires { W.state writer.old ≡ fresh }
+    ensures ok { OnOk result (OfLines (B.remaining input) count
+        (IsArchived (W.state writer.new).contents)) }
+    ensures err { IfErr result (λ fault. OfLines (B.remaining input) count
+        (λ entries. IsTried entries fault)) }
+    ensures read { IfErr result IsReadTry }
 {
-    let mut writer = VecWriter::new(alloc);
-    let count = entries.len();
-    let items = Entries { rest: entries };
+    let items = Entries::new(alloc, input, count);
+    let root = match Numbers::try_serialize_from_ordered_iter(alloc, count, items, writer) {
+        Ok(root) => root,
+        Err(fault) => return Err(fault),
+    };
+    match Numbers::write_root(count, root, writer) {
+        Ok(_) => Ok(()),
+        Err(fault) => Err(TryFault::Build(fault)),
+    }
+}
+
+/// So many entries, all of which are zeros.
+#[derive(Drop)]
+struct Zeros {
+    left: usize,
+}
+
+impl Iterator for Zeros {
+    type Item = (u32, u32);
+
+    ghost next_gives = { CountsDown (λ s. s.left) };
+
+    ghost remaining = { λ s. at_most s.left };
+
+    fn next(&mut self) -> Option<(u32, u32)> {
+        if self.left == 0 {
+            return None;
+        }
+        self.left -= 1;
+        Some((0, 0))
+    }
+}
+
+/// Returns whether so many entries have an archive for their number alone. Five entries take a node, and a node takes 71 bytes at
+/// most with the padding before it. So the archive of 150 million ends before position 2^31, and each pointer reaches.
+fn is_small(count: usize) -> bool
+    ensures { result ≡ true → (entries : List (ℕ × ℕ)) → count ≡ length entries →
+        HasArchive entries }
+{
+    count <= 150_000_000
+}
+
+/// Tests that so many entries have an archive, whatever they are. If they are many, one of as many zeros is built, and written nowhere.
+///
+/// # Errors
+///
+/// `NotBuilt` if they have none.
+#[tactic(auto, using(crate::proofs::Built::numbers_fit))]
+pub(crate) fn test_count(alloc: Global, count: usize) -> Result<(), ProgramFault>
+    ensures ok { OnOk result ((entries : List (ℕ × ℕ)) → count ≡ length entries →
+        HasArchive entries) }
+    ensures err { IfErr result (IsUnfit count) }
+{
+    if is_small(count) {
+        return Ok(());
+    }
+    let mut writer = IoWriter::new(io::sink());
+    let items = Zeros { left: count };
     let root = match Numbers::serialize_from_ordered_iter(alloc, count, items, &mut writer) {
         Ok(root) => root,
-        Err(fault) => return Err(ProgramFault::NotBuilt(fault)),
+        Err(fault) => return Err(ProgramFault::NotBuilt(in_memory(fault))),
     };
     match Numbers::write_root(count, root, &mut writer) {
-        Ok(_) => Ok(writer.into_vec()),
-        Err(fault) => Err(ProgramFault::NotBuilt(fault)),
+        Ok(_) => Ok(()),
+        Err(fault) => Err(ProgramFault::NotBuilt(in_memory(fault))),
     }
 }
 
-/// The archive of entries whose keys increase.
+/// Returns the archive of the entries of lines, whose keys must increase if it is strict.
 ///
 /// # Errors
 ///
-/// `NotBuilt` with the index of the first entry whose key isn't greater than the key before it, and where `archive` returns
-/// it.
-#[tactic(auto, using(crate::proofs::Built::numbers_fit))]
-pub fn strict_archive(alloc: Global, entries: &[(u32, u32)]) -> Result<Vec<u8>, ProgramFault>
-    ensures ok { IfOk result (λ bytes. bytes.items ≡ archive_of entries.now) }
-    ensures increase { OnOk result (Increasing nat_cmp entries.now) }
-    ensures fits { OnOk result (HasArchive entries.now) }
-    ensures accepted { IfOk result (λ bytes. IsArchive bytes.items entries.now) }
-    ensures err { IfErr result (IsStrictBuildFault entries.now) }
+/// `Line` with the number of the first line that is no entry. `NotBuilt` with the index of the first entry whose key isn't greater than
+/// the key before it, if keys must increase; and if there are more entries than 32 bits can count, the archive would be longer than
+/// 4 GiB, a pointer would reach over more than 2 GiB, or there is no memory for the archive. `Memory` if there is none for a line.
+pub fn archive(alloc: Global, is_strict: bool, text: &[u8]) -> Result<Vec<u8>, ProgramFault>
+    ensures ok { IfOk result (λ bytes. (entries : List (ℕ × ℕ)) × IsLines text.now entries
+        × IsInOrder is_strict entries × IsArchived bytes.items entries) }
+    ensures err { IfErr result (FailsToTest is_strict (Some text.now)) }
 {
-    let mut writer = VecWriter::new(alloc);
-    let count = entries.len();
-    let items = Entries { rest: entries };
-    let root = match Numbers::serialize_strict_from_ordered_iter(alloc, count, items, &mut writer) {
-        Ok(root) => root,
-        Err(fault) => return Err(ProgramFault::NotBuilt(fault)),
+    let mut lines = text;
+    let count = match count_lines(alloc, is_strict, &mut lines) {
+        Ok(count) => count,
+        Err(fault) => return Err(fault),
     };
-    match Numbers::write_root(count, root, &mut writer) {
-        Ok(_) => Ok(writer.into_vec()),
-        Err(fault) => Err(ProgramFault::NotBuilt(fault)),
+    let mut writer = VecWriter::new(alloc);
+    match serialize_lines(alloc, count, text, &mut writer) {
+        Ok(()) => Ok(writer.into_vec()),
+        Err(fault) => Err(program_fault(fault)),
     }
 }

@@ -3,9 +3,11 @@
 #![tactic(auto)]
 
 pub mod build;
+pub mod entries;
 pub mod laws;
 pub mod listing;
 pub mod migrating;
 pub mod opening;
 pub mod program;
 pub mod setting;
+pub mod streaming;

@@ -2,6 +2,7 @@
 ghost use Rattle.std.specs.Prelude.{◌≡◌, ℕ, codes, Err, OnOk};
 ghost use Rattle.std.specs.Io.KnownBytes.{IsAtEnd};
 ghost use Rattle.btreearc_commands.specs.Commands.{Builds, Lists, Checks, Gets, Ranges, Sets, BuildsStrict, ChecksStrict, Migrates};
+ghost use Rattle.btreearc_commands.specs.Streaming.{BuildsSo};
 ghost use Rattle.btreearc_lines.specs.Words.{IsWord, IsWordAndNumber, IsWordAndNumbers, IsNoCommand};
 
 use crate::build;
@@ -11,7 +12,6 @@ use crate::opening::open;
 use crate::setting::set_value;
 use btreearc_lines::command::Command;
 use btreearc_lines::fault::ProgramFault;
-use btreearc_lines::lines::parse_lines;
 use btreearc_lines::streams::{read_all, write_all};
 use std::alloc::Global;
 use std::io::{Read, Write};
@@ -58,38 +58,46 @@ pub fn run<R: Read, W: Write>(
     ensures end { OnOk result (IsAtEnd (R.remaining input.new)) }
 {
     match Command::from_words(args) {
-        Some(Command::Build) => build(alloc, input, output),
+        Some(Command::Build) => build(alloc, false, input, output),
         Some(Command::List) => list(alloc, input, output),
         Some(Command::Check) => check(alloc, input, output),
         Some(Command::Get(key)) => get(alloc, key, input, output),
         Some(Command::Range(low, high)) => range(alloc, low, high, input, output),
         Some(Command::Set(key, value)) => set(alloc, key, value, input, output),
-        Some(Command::BuildStrict) => build_strict(alloc, input, output),
+        Some(Command::BuildStrict) => build(alloc, true, input, output),
         Some(Command::CheckStrict) => check_strict(alloc, input, output),
         Some(Command::Migrate) => migrate(alloc, input, output),
         None => Err(ProgramFault::Usage),
     }
 }
 
-/// Writes the archive of the input's lines.
+/// Writes the archive of the input's lines, whose keys must increase if it is strict.
 ///
 /// # Errors
 ///
 /// `Line` for the first bad line, `NotBuilt`, and `InputFailed`, `OutputFailed` or `Memory`.
 fn build<R: Read, W: Write>(
     alloc: Global,
+    is_strict: bool,
     input: &mut R,
     output: &mut W,
 ) -> Result<u8, ProgramFault>
-    ensures done { Builds (R.remaining input.old) (W.contents output.old) (W.contents output.new)
-        result }
+    ensures done { BuildsSo is_strict (R.remaining input.old) (W.contents output.old)
+        (W.contents output.new) result }
     ensures end { OnOk result (IsAtEnd (R.remaining input.new)) }
 {
-    let text = read_all(alloc, input)?;
-    let entries = parse_lines(alloc, &text)?;
-    let archive = build::archive(alloc, &entries)?;
-    write_all(output, &archive)?;
-    Ok(0)
+    let text = match read_all(alloc, input) {
+        Ok(text) => text,
+        Err(fault) => return Err(fault),
+    };
+    let archive = match build::archive(alloc, is_strict, &text) {
+        Ok(archive) => archive,
+        Err(fault) => return Err(fault),
+    };
+    match write_all(output, &archive) {
+        Ok(()) => Ok(0),
+        Err(fault) => Err(fault),
+    }
 }
 
 /// Writes a line for each entry of the input's archive.
@@ -218,27 +226,6 @@ fn set<R: Read, W: Write>(
     } else {
         Ok(1)
     }
-}
-
-/// Writes the archive of the input's lines, whose keys must increase.
-///
-/// # Errors
-///
-/// `Line` for the first bad line, `NotBuilt`, and `InputFailed`, `OutputFailed` or `Memory`.
-fn build_strict<R: Read, W: Write>(
-    alloc: Global,
-    input: &mut R,
-    output: &mut W,
-) -> Result<u8, ProgramFault>
-    ensures done { BuildsStrict (R.remaining input.old) (W.contents output.old)
-        (W.contents output.new) result }
-    ensures end { OnOk result (IsAtEnd (R.remaining input.new)) }
-{
-    let text = read_all(alloc, input)?;
-    let entries = parse_lines(alloc, &text)?;
-    let archive = build::strict_archive(alloc, &entries)?;
-    write_all(output, &archive)?;
-    Ok(0)
 }
 
 /// Writes how many entries the input's archive has, whose keys must increase.

@@ -1,4 +1,6 @@
 pub mod Digits
 pub mod Once
+pub mod Pairs
 pub mod ReadingLines
 pub mod Splitting
+pub mod Taken

@@ -2,8 +2,7 @@
 use Rattle.std.proofs.Common.{◌≡◌, ◌≢◌, ℕ, suc, ◌+◌, ◌≤◌, List, [], ◌∷◌, ◌++◌, length, refl, sym, ap, subst, ◌∙◌, arith, rules, append_assoc, append-nil, if◌then◌else◌, inl, inr, ◌==◌, Bool, true, false}
 use Rattle.std.proofs.lemmas.Grind.{common_steps}
 use Rattle.btreearc_lines.specs.Grammar.{LineEnds, AreDigits, IsEntry, begun, lines, AreEntries, IsLines, BadLine}
-use Rattle.btreearc_lines.specs.Reading.{GoodFront, NoDigitFirst, NumberFirst, EntryFirst}
-use Rattle.btreearc_lines.proofs.Digits.{number_once}
+use Rattle.btreearc_lines.specs.Reading.{NoDigitFirst, NumberFirst}
 
 -- the lines before the rest are the entries so far
 pub record ReadLines (bytes rest : List ℕ) (entries : List (ℕ × ℕ)) : Type 0 where
@@ -11,25 +10,15 @@ pub record ReadLines (bytes rest : List ℕ) (entries : List (ℕ × ℕ)) : Typ
   pub split : lines bytes ≡ before ++ lines rest
   pub good : AreEntries before entries
 
--- An entry at the front is found in one way.
-
-pub no_space : (bytes space : List ℕ) (k : ℕ) → NumberFirst bytes k space → ((rest : List ℕ) → space ≡ 32 ∷ rest → ⊥) → (x : ℕ × ℕ) (rest : List ℕ) → EntryFirst bytes x rest → ⊥
-no_space bytes space k p none x rest e = none e.after_space ((number_once bytes k x.0 space e.space p e.key).1 ∙ e.one_space)
-
-same_digits : (bytes space digits : List ℕ) (k : ℕ) → NumberFirst bytes k space → space ≡ 32 ∷ digits → (x : ℕ × ℕ) (rest : List ℕ) → (e : EntryFirst bytes x rest) → e.after_space ≡ digits
-same_digits bytes space digits k p one x rest e =
-    let h : space ≡ e.space = (number_once bytes k x.0 space e.space p e.key).1 in
-    let g : 32 ∷ e.after_space ≡ 32 ∷ digits = sym e.one_space ∙ (sym h ∙ one) in
-    cc
-
-pub no_value : (bytes space digits : List ℕ) (k : ℕ) → NumberFirst bytes k space → space ≡ 32 ∷ digits → ((n : ℕ) (end : List ℕ) → NumberFirst digits n end → ⊥) → (x : ℕ × ℕ) (rest : List ℕ) → EntryFirst bytes x rest → ⊥
-no_value bytes space digits k p one none x rest e = none x.1 e.end (subst (λ ds. NumberFirst ds x.1 e.end) (same_digits bytes space digits k p one x rest e) e.value)
-
-pub no_end : (bytes space digits end : List ℕ) (k v : ℕ) → NumberFirst bytes k space → space ≡ 32 ∷ digits → NumberFirst digits v end → ((rest : List ℕ) → LineEnds end rest → ⊥) → (x : ℕ × ℕ) (rest : List ℕ) → EntryFirst bytes x rest → ⊥
-no_end bytes space digits end k v p one q none x rest e =
-    let value : NumberFirst digits x.1 e.end = subst (λ ds. NumberFirst ds x.1 e.end) (same_digits bytes space digits k p one x rest e) e.value in
-    let h : e.end ≡ end = sym (number_once digits v x.1 end e.end q value).1 in
-    none rest (subst (λ t. LineEnds t rest) h e.ends)
+-- an entry is at the front, and rest is after its line
+pub record EntryFirst (bytes : List ℕ) (x : ℕ × ℕ) (rest : List ℕ) : Type 0 where
+  pub space : List ℕ
+  pub after_space : List ℕ
+  pub end : List ℕ
+  pub key : NumberFirst bytes x.0 space
+  pub one_space : space ≡ 32 ∷ after_space
+  pub value : NumberFirst after_space x.1 end
+  pub ends : LineEnds end rest
 
 -- Lines of a list that begins with an entry.
 
@@ -40,7 +29,7 @@ NoFeed (c ∷ cs) = (c ≢ 10) × NoFeed cs
 not_ten : (c : ℕ) → c ≢ 10 → (c == 10) ≡ false
 not_ten c h = search rules
 
-lines-feed : (line rest : List ℕ) → NoFeed line → lines (line ++ 10 ∷ rest) ≡ line ∷ lines rest
+pub lines-feed : (line rest : List ℕ) → NoFeed line → lines (line ++ 10 ∷ rest) ≡ line ∷ lines rest
 lines-feed [] rest h = refl
 lines-feed (c ∷ cs) rest h = rw (not_ten c h.0, lines-feed cs rest h.1) refl
 
@@ -146,33 +135,24 @@ entries-length [] (y ∷ ys) h = absurd h
 entries-length (l ∷ ls) [] h = absurd h
 entries-length (l ∷ ls) (y ∷ ys) h = ap suc (entries-length ls ys h.1)
 
-pub read-line : (bytes rest behind : List ℕ) (xs : List (ℕ × ℕ)) (x : ℕ × ℕ) → ReadLines bytes rest xs → EntryFirst rest x behind → ReadLines bytes behind (xs ++ x ∷ [])
-read-line bytes rest behind xs x r e =
-    let f = entry-lines rest x behind e in
-    record { before = r.before ++ f.0 ∷ []; split = r.split ∙ (ap (λ (t : List (List ℕ)). r.before ++ t) f.2 ∙ sym (append_assoc r.before (f.0 ∷ []) (lines behind))); good = entries-snoc r.before xs f.0 x r.good f.1 }
-
-true_not_false : true ≡ false → ⊥
-true_not_false e = grind (arith, e)
-
-pub read-all : (bytes rest : List ℕ) (xs : List (ℕ × ℕ)) → ReadLines bytes rest xs → true ≡ (length rest == 0) → IsLines bytes xs
-read-all bytes [] xs r e = subst (λ (ls : List (List ℕ)). AreEntries ls xs) (sym (r.split ∙ append-nil r.before)) r.good
-read-all bytes (c ∷ cs) xs r e = absurd (grind (arith, e))
-
-bad_of : (bytes rest : List ℕ) (xs : List (ℕ × ℕ)) → ReadLines bytes rest xs → false ≡ (length rest == 0) → ((x : ℕ × ℕ) (behind : List ℕ) → EntryFirst rest x behind → ⊥) → (found : List (List ℕ)) → lines rest ≡ found → BadLine bytes (length xs + 1)
-bad_of bytes rest xs r some none [] is = absurd (true_not_false (sym (some ∙ ap (λ (t : List ℕ). length t == 0) (lines-none rest is))))
-bad_of bytes rest xs r some none (bad ∷ behind) is = record {
-  before = r.before;
-  bad = bad;
-  behind = behind;
-  entries = xs;
-  split = r.split ∙ ap (λ (t : List (List ℕ)). r.before ++ t) is;
-  good = r.good;
-  no_entry = λ x e. (let f = entry-first rest bad behind x is e in none x f.0 f.1);
-  count = ap (λ (n : ℕ). n + 1) (sym (entries-length r.before xs r.good));
+pub one_read : (bytes rest line after : List ℕ) (xs : List (ℕ × ℕ)) (x : ℕ × ℕ) → ReadLines bytes rest xs → lines rest ≡ line ∷ lines after → IsEntry line x → ReadLines bytes after (xs ++ x ∷ [])
+one_read bytes rest line after xs x r first is = record {
+  before = r.before ++ line ∷ [];
+  split = r.split ∙ (ap (λ (ls : List (List ℕ)). r.before ++ ls) first ∙ sym (append_assoc r.before (line ∷ []) (lines after)));
+  good = entries-snoc r.before xs line x r.good is;
 }
 
-pub read-bad : (bytes rest : List ℕ) (xs : List (ℕ × ℕ)) (n : ℕ) → n ≡ length xs → ReadLines bytes rest xs → false ≡ (length rest == 0) → ((x : ℕ × ℕ) (behind : List ℕ) → EntryFirst rest x behind → ⊥) → BadLine bytes (n + 1)
-read-bad bytes rest xs n count r some none = subst (λ (m : ℕ). BadLine bytes (m + 1)) (sym count) (bad_of bytes rest xs r some none (lines rest) refl)
+pub all_read : (bytes rest : List ℕ) (xs : List (ℕ × ℕ)) → ReadLines bytes rest xs → rest ≡ [] → IsLines bytes xs
+all_read bytes rest xs r none = subst (λ (ls : List (List ℕ)). AreEntries ls xs) (sym (r.split ∙ (ap (λ (z : List ℕ). r.before ++ lines z) none ∙ append-nil r.before))) r.good
 
-pub read-front : (bytes behind : List ℕ) (xs : List (ℕ × ℕ)) (x : ℕ × ℕ) → ReadLines bytes behind (xs ++ x ∷ []) → GoodFront bytes
-read-front bytes behind xs x r = record { before = r.before; behind = lines behind; entries = xs ++ x ∷ []; split = r.split; good = r.good; some = grind (arith, common_steps) }
+pub bad_read : (bytes rest line after : List ℕ) (xs : List (ℕ × ℕ)) (n : ℕ) → ReadLines bytes rest xs → lines rest ≡ line ∷ lines after → ((x : ℕ × ℕ) → ¬ IsEntry line x) → n ≡ length xs + 1 → BadLine bytes n
+bad_read bytes rest line after xs n r first none number = record {
+  before = r.before;
+  bad = line;
+  behind = lines after;
+  entries = xs;
+  split = r.split ∙ ap (λ (ls : List (List ℕ)). r.before ++ ls) first;
+  good = r.good;
+  no_entry = none;
+  count = omega (arith, number, entries-length r.before xs r.good);
+}

@@ -1,5 +1,10 @@
 -- What the program's faults say, and which come from reading and from writing.
-use Rattle.std.specs.Prelude.{ℕ, List, ◌++◌, codes, decimal}
+use Rattle.std.specs.Prelude.{ℕ, List, ◌++◌, codes, decimal, alloc_error}
+use Rattle.std.specs.declared.alloc.AllocError.{AllocError}
+use Rattle.rkyv_btree_archive.specs.declared.try_build.TryFault.{TryFault}
+use Rattle.rkyv_btree_archive.specs.declared.try_build.TryFault.TheVariants.{Item, Build}
+use Rattle.rkyv_btree_base.specs.Fault.{Fault}
+use Rattle.rkyv_btree_base.specs.Fault.TheVariants as building
 use Rattle.rkyv_btree_base.specs.FaultText.{fault_text}
 use Rattle.rkyv_btree_base.specs.RefusalText.{refusal_text}
 use Rattle.btreearc_lines.specs.declared.fault.ProgramFault.{ProgramFault}
@@ -25,3 +30,24 @@ IsReadFault _ = ⊥
 abbrev pub IsWriteFault : ProgramFault → Type 0
 IsWriteFault OutputFailed = Unit {0}
 IsWriteFault _ = ⊥
+
+-- an item failed because reading has failed, or no item failed
+abbrev pub IsReadTry : {E : Type 0} → TryFault E ProgramFault → Type 0
+IsReadTry (Item fault) = IsReadFault fault
+IsReadTry (Build fault) = Unit {0}
+
+-- the same error of building, where a writer's own error is one of memory
+abbrev pub in_memory : {E : Type 0} → Fault E → Fault AllocError
+in_memory (building.Length mismatch) = building.Length mismatch
+in_memory building.LengthOverflow = building.LengthOverflow
+in_memory building.PositionOverflow = building.PositionOverflow
+in_memory building.OffsetOverflow = building.OffsetOverflow
+in_memory (building.Writer error) = building.Writer alloc_error
+in_memory (building.Memory error) = building.Memory error
+in_memory (building.Entry fault) = building.Entry fault
+in_memory (building.OutOfOrder index) = building.OutOfOrder index
+
+-- the program's error for one of building
+abbrev pub program_fault : {E : Type 0} → TryFault E ProgramFault → ProgramFault
+program_fault (Item fault) = fault
+program_fault (Build fault) = NotBuilt (in_memory fault)

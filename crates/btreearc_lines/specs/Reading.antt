@@ -1,8 +1,11 @@
 -- What reading from the left finds.
-use Rattle.std.specs.Prelude.{◌≡◌, ℕ, Bool, true, false, List, [], ◌∷◌, ◌++◌, length, ◌≤◌, Option, Some, None, Result, Ok, Err}
-use Rattle.btreearc_lines.specs.Grammar.{lines, AreEntries, LineEnds, IsDigit, IsNumber, BadLine}
+use Rattle.std.specs.Prelude.{◌≡◌, ℕ, ◌+◌, Bool, true, false, List, [], ◌∷◌, ◌++◌, Option, Some, None, IfSome, Result, Ok, Err}
+use Rattle.std.specs.Io.KnownBytes.{Keeps}
+use Rattle.btreearc_lines.specs.Faults.{IsReadFault}
+use Rattle.btreearc_lines.specs.Grammar.{lines, IsDigit, IsEntry, IsNumber}
+use Rattle.btreearc_lines.specs.declared.entries.NextLine.{NextLine}
+use Rattle.btreearc_lines.specs.declared.entries.NextLine.TheVariants.{Entry, Bad, End}
 use Rattle.btreearc_lines.specs.declared.fault.ProgramFault.{ProgramFault}
-use Rattle.btreearc_lines.specs.declared.fault.ProgramFault.TheVariants.{Memory, Line}
 
 -- no digit stands first
 abbrev pub NoDigitFirst : List ℕ → Type 0
@@ -16,43 +19,13 @@ pub record NumberFirst (bytes : List ℕ) (n : ℕ) (rest : List ℕ) : Type 0 w
   pub is : IsNumber digits n
   pub ends : NoDigitFirst rest
 
--- the line at the front is an entry, and rest is after it
-pub record EntryFirst (bytes : List ℕ) (x : ℕ × ℕ) (rest : List ℕ) : Type 0 where
+-- two numbers with one space between are at the front, and rest is after them
+pub record PairFirst (bytes : List ℕ) (x : ℕ × ℕ) (rest : List ℕ) : Type 0 where
   pub space : List ℕ
   pub after_space : List ℕ
-  pub end : List ℕ
   pub key : NumberFirst bytes x.0 space
   pub one_space : space ≡ 32 ∷ after_space
-  pub value : NumberFirst after_space x.1 end
-  pub ends : LineEnds end rest
-
--- one line or more at the front are entries
-pub record GoodFront (bytes : List ℕ) : Type 0 where
-  pub before : List (List ℕ)
-  pub behind : List (List ℕ)
-  pub entries : List (ℕ × ℕ)
-  pub split : lines bytes ≡ before ++ behind
-  pub good : AreEntries before entries
-  pub some : 1 ≤ length entries
-
--- a line's fault is the first bad line, and no memory is asked for before an entry
-abbrev pub Refuses : List ℕ → ProgramFault → Type 0
-Refuses bytes Memory = GoodFront bytes
-Refuses bytes (Line n) = BadLine bytes n
-Refuses bytes _ = ⊥
-
--- Unless memory runs out, what is found is the entries.
-abbrev pub GivesEntries : {X : Type 0} → (X → List (ℕ × ℕ)) → List (ℕ × ℕ) → Result X ProgramFault → Type 0
-GivesEntries view entries (Ok found) = view found ≡ entries
-GivesEntries view entries (Err Memory) = Unit {0}
-GivesEntries view entries (Err _) = ⊥
-
--- Unless memory runs out, line n is refused.
-abbrev pub GivesBadLine : {X : Type 0} → ℕ → Result X ProgramFault → Type 0
-GivesBadLine n (Ok found) = ⊥
-GivesBadLine n (Err Memory) = Unit {0}
-GivesBadLine n (Err (Line m)) = m ≡ n
-GivesBadLine n (Err _) = ⊥
+  pub value : NumberFirst after_space x.1 rest
 
 -- of known bytes the first line was read, and the rest is left; or there is no line
 abbrev pub ReadsLine : Option (List ℕ) → Bool → List ℕ → Option (List ℕ) → Type 0
@@ -60,3 +33,27 @@ ReadsLine None is_line line new = Unit {0}
 ReadsLine (Some bytes) false line new = bytes ≡ []
 ReadsLine (Some bytes) true line None = ⊥
 ReadsLine (Some bytes) true line (Some rest) = lines bytes ≡ line ∷ lines rest
+
+-- of known bytes the first line was taken, of which this holds
+abbrev pub TakesLine : (List ℕ → Type 0) → Option (List ℕ) → Option (List ℕ) → Type 0
+TakesLine Is None new = Unit {0}
+TakesLine Is (Some bytes) None = ⊥
+TakesLine Is (Some bytes) (Some rest) = (line : List ℕ) × (lines bytes ≡ line ∷ lines rest) × Is line
+
+-- a call of an iterator over so many lines of a reader: it gives the item of the next, or reading has failed; or all were given
+abbrev pub GivesItem : {S X : Type 0} → (List ℕ → X → Type 0) → (S → ℕ) → (S → Option (List ℕ)) → S → Option (Result X ProgramFault) → S → Type 0
+GivesItem Is left known s None t = left s ≡ 0
+GivesItem Is left known s (Some (Ok x)) t = (left s ≡ left t + 1) × TakesLine (λ line. Is line x) (known s) (known t)
+GivesItem Is left known s (Some (Err fault)) t = IsReadFault fault
+
+-- of known bytes the first line was taken, which is an entry; or nothing was taken
+abbrev pub TakesAtHand : {E : Type 0} → Option (List ℕ) → Result (Option (ℕ × ℕ)) E → Option (List ℕ) → Type 0
+TakesAtHand old (Ok (Some x)) new = TakesLine (λ line. IsEntry line x) old new
+TakesAtHand old (Ok None) new = Keeps old new
+TakesAtHand old (Err error) new = Keeps old new
+
+-- of known bytes the first line was taken, which is an entry, or is none; or there is no line
+abbrev pub ReadsNext : Option (List ℕ) → NextLine → Option (List ℕ) → Type 0
+ReadsNext old (Entry x) new = TakesLine (λ line. IsEntry line x) old new
+ReadsNext old Bad new = TakesLine (λ line. (x : ℕ × ℕ) → ¬ IsEntry line x) old new
+ReadsNext old End new = IfSome old (λ bytes. bytes ≡ [])

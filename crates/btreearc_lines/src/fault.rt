@@ -1,9 +1,10 @@
 //! Why the program fails.
-ghost use Rattle.std.specs.Prelude.{Some};
-ghost use Rattle.btreearc_lines.specs.Faults.{line_of};
+ghost use Rattle.std.specs.Prelude.{◌≡◌, Some};
+ghost use Rattle.btreearc_lines.specs.Faults.{in_memory, line_of, program_fault};
 
 use rkyv_btree_base::fault::Fault;
 use rkyv_btree_base::refusal::Refusal;
+use rkyv_btree_base::try_build::TryFault;
 use std::alloc::AllocError;
 use std::error::Error;
 use std::fmt;
@@ -47,3 +48,29 @@ impl fmt::Display for ProgramFault {
 }
 
 impl Error for ProgramFault {}
+
+/// Returns the program's error for one of building. A writer's own error is one of memory.
+pub fn program_fault<E: Drop>(fault: TryFault<E, ProgramFault>) -> ProgramFault
+    ensures { result ≡ program_fault fault }
+{
+    match fault {
+        TryFault::Item(fault) => fault,
+        TryFault::Build(fault) => ProgramFault::NotBuilt(in_memory(fault)),
+    }
+}
+
+/// Returns the same error, where a writer's own is one of memory.
+pub fn in_memory<E: Drop>(fault: Fault<E>) -> Fault<AllocError>
+    ensures { result ≡ in_memory fault }
+{
+    match fault {
+        Fault::Length(mismatch) => Fault::Length(mismatch),
+        Fault::LengthOverflow => Fault::LengthOverflow,
+        Fault::PositionOverflow => Fault::PositionOverflow,
+        Fault::OffsetOverflow => Fault::OffsetOverflow,
+        Fault::Writer(_) => Fault::Writer(AllocError),
+        Fault::Memory(error) => Fault::Memory(error),
+        Fault::Entry(fault) => Fault::Entry(fault),
+        Fault::OutOfOrder { index } => Fault::OutOfOrder { index },
+    }
+}

@@ -3,7 +3,9 @@
 #![tactic(auto)]
 
 pub mod command;
+pub mod entries;
 pub mod fault;
 pub mod lines;
 pub mod reopen;
+pub mod spool;
 pub mod streams;

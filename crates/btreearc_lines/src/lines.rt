@@ -1,12 +1,10 @@
 //! Entries in lines of two numbers.
-ghost use Rattle.std.specs.Prelude.{◌≡◌, ℕ, ◌+◌, ◌<◌, ◌≤◌, List, [], ◌∷◌, ◌++◌, length, IfOk, OnOk, IfErr, IfSome, IfNone};
-ghost use Rattle.btreearc_lines.specs.Grammar.{LineEnds, IsLines, IsNumber, BadLine};
-ghost use Rattle.btreearc_lines.specs.Reading.{NumberFirst, EntryFirst, Refuses, GivesEntries, GivesBadLine};
-
-use crate::fault::ProgramFault;
-use std::alloc::Global;
+ghost use Rattle.std.specs.Prelude.{◌≡◌, ℕ, List, ◌∷◌, IfSome, IfNone};
+ghost use Rattle.btreearc_lines.specs.Grammar.{IsEntry, IsNumber};
+ghost use Rattle.btreearc_lines.specs.Reading.{NumberFirst, PairFirst};
 
 /// The number of all digits at the front, and what is after them.
+#[inline(always)]
 fn first_number(bytes: &[u8]) -> Option<(u32, &[u8])>
     ensures found { IfSome result (λ r. NumberFirst bytes.now r.0 r.1.now) }
     ensures none { IfNone result ((n : ℕ) (rest : List ℕ) → NumberFirst bytes.now n rest → ⊥) }
@@ -39,6 +37,7 @@ pub fn whole_number(word: &str) -> Option<u32>
 }
 
 /// What is after a space.
+#[inline(always)]
 fn after_space(bytes: &[u8]) -> Option<&[u8]>
     ensures found { IfSome result (λ rest. bytes.now ≡ 32 ∷ rest.now) }
     ensures none { IfNone result ((rest : List ℕ) → bytes.now ≡ 32 ∷ rest → ⊥) }
@@ -47,21 +46,11 @@ fn after_space(bytes: &[u8]) -> Option<&[u8]>
     if *first == b' ' { Some(rest) } else { None }
 }
 
-/// What is after a line's end.
-fn after_line(bytes: &[u8]) -> Option<&[u8]>
-    ensures found { IfSome result (λ rest. LineEnds bytes.now rest.now) }
-    ensures none { IfNone result ((rest : List ℕ) → LineEnds bytes.now rest → ⊥) }
-{
-    let Some((first, rest)) = bytes.split_first() else {
-        return Some(bytes);
-    };
-    if *first == b'\n' { Some(rest) } else { None }
-}
-
-/// The entry on the first line, and what is after that line.
-fn first_entry(bytes: &[u8]) -> Option<((u32, u32), &[u8])>
-    ensures found { IfSome result (λ r. EntryFirst bytes.now r.0 r.1.now) }
-    ensures none { IfNone result ((x : ℕ × ℕ) (rest : List ℕ) → EntryFirst bytes.now x rest → ⊥) }
+/// Returns the key and the value at the front, with a space between, and the bytes after them.
+#[inline(always)]
+pub(crate) fn first_pair(bytes: &[u8]) -> Option<((u32, u32), &[u8])>
+    ensures found { IfSome result (λ r. PairFirst bytes.now r.0 r.1.now) }
+    ensures none { IfNone result ((x : ℕ × ℕ) (rest : List ℕ) → PairFirst bytes.now x rest → ⊥) }
 {
     let Some((key, space)) = first_number(bytes) else {
         return None;
@@ -69,37 +58,22 @@ fn first_entry(bytes: &[u8]) -> Option<((u32, u32), &[u8])>
     let Some(digits) = after_space(space) else {
         return None;
     };
-    let Some((value, end)) = first_number(digits) else {
-        return None;
-    };
-    let Some(rest) = after_line(end) else {
+    let Some((value, rest)) = first_number(digits) else {
         return None;
     };
     Some(((key, value), rest))
 }
 
-/// The entries of the lines, the last of which may lack its line feed.
-///
-/// # Errors
-///
-/// `Line` for the first line that is no entry, and `Memory` where the entries before it find no room.
-pub fn parse_lines(alloc: Global, bytes: &[u8]) -> Result<Vec<(u32, u32)>, ProgramFault>
-    ensures ok { IfOk result (λ found. IsLines bytes.now found.items) }
-    ensures err { IfErr result (Refuses bytes.now) }
-    ensures all { (entries : List (ℕ × ℕ)) → IsLines bytes.now entries →
-        GivesEntries (λ found. found.items) entries result }
-    ensures first { (n : ℕ) → BadLine bytes.now n → GivesBadLine n result }
+/// Returns the entry that a line is.
+pub fn entry_of(line: &[u8]) -> Option<(u32, u32)>
+    ensures found { IfSome result (IsEntry line.now) }
+    ensures none { IfNone result ((x : ℕ × ℕ) → ¬ IsEntry line.now x) }
 {
-    let mut entries = Vec::new(alloc);
-    let mut rest = bytes;
-    while !rest.is_empty() {
-        let Some((entry, behind)) = first_entry(rest) else {
-            return Err(ProgramFault::Line(entries.len() as u64 + 1));
-        };
-        if entries.push(entry).is_err() {
-            return Err(ProgramFault::Memory);
-        }
-        rest = behind;
+    let Some((entry, rest)) = first_pair(line) else {
+        return None;
+    };
+    if rest.len() > 0 {
+        return None;
     }
-    Ok(entries)
+    Some(entry)
 }

@@ -6,11 +6,12 @@ mod progress;
 mod words;
 
 use btreearc_lines::fault::ProgramFault;
-use btreearc_lines::reopen::from_start;
+use btreearc_lines::reopen::{Reopen, from_start};
+use btreearc_lines::spool::{Bytes, read_bytes};
 use btreekv_commands::command::Command;
 use btreekv_commands::program::run;
 use btreekv_commands::streaming;
-use files::{Bytes, Lines, read_bytes};
+use files::Lines;
 use progress::Progress;
 use std::env;
 use std::fs::File;
@@ -41,12 +42,16 @@ fn open(rt: &HostRuntime, path: &str) -> Result<File, ProgramFault> {
     }
 }
 
-/// Writes the archive of the lines of a file that can seek.
-fn build_lines(rt: &HostRuntime, is_strict: bool, file: File) -> Result<u8, ProgramFault> {
+/// Writes the archive of the lines of an input that can be read again.
+fn build_lines<R: Reopen>(
+    rt: &HostRuntime,
+    is_strict: bool,
+    input: &R,
+) -> Result<u8, ProgramFault> {
     let Ok(output) = BufWriter::with_capacity(rt.alloc(), WRITE_LEN, rt.stdout()) else {
         return Err(ProgramFault::Memory);
     };
-    streaming::build(rt.alloc(), is_strict, &Lines::new(rt, file), output).0
+    streaming::build(rt.alloc(), is_strict, input, output).0
 }
 
 /// Writes the archive of the lines of an input that can't seek.
@@ -69,7 +74,7 @@ fn build_bytes<R: Read + Drop>(
                 &mut rt.stdout(),
             )
         }
-        Bytes::Spooled(file) => build_lines(rt, is_strict, file),
+        Bytes::Spooled(spooled) => build_lines(rt, is_strict, &spooled),
     }
 }
 
@@ -80,7 +85,7 @@ fn build(rt: &HostRuntime, is_strict: bool, path: Option<&str>) -> Result<u8, Pr
     };
     let file = open(rt, path)?;
     if from_start(&file).is_ok() {
-        build_lines(rt, is_strict, file)
+        build_lines(rt, is_strict, &Lines::new(rt, file))
     } else {
         build_bytes(rt, is_strict, file)
     }

@@ -12,7 +12,8 @@ use Rattle.rkyv_btree_archive.specs.declared.try_build.TryFault.{TryFault}
 use Rattle.rkyv_btree_archive.specs.declared.try_build.TryFault.TheVariants.{Item, Build}
 use Rattle.btreearc_lines.specs.declared.fault.ProgramFault.{ProgramFault}
 use Rattle.btreearc_lines.specs.declared.fault.ProgramFault.TheVariants.{Usage, Line, Refused, NotBuilt, InputFailed, OutputFailed, Memory as NoMemory}
-use Rattle.btreekv_commands.specs.Building.{entries_archival, IsReadOrBuildFault, IsReadTry, IsTried, IsUnbuilt, IsUnbuiltInOrder, in_memory, program_fault}
+use Rattle.btreearc_lines.specs.Faults.{IsReadTry, in_memory, program_fault}
+use Rattle.btreekv_commands.specs.Building.{entries_archival, IsReadOrBuildFault, IsTried, IsUnbuilt, IsUnbuiltInOrder}
 use Rattle.btreekv_commands.specs.Commands.{Fails, Outputs}
 use Rattle.btreekv_commands.specs.Lines.{Entry, AreLines}
 use Rattle.btreekv_commands.specs.Opening.{IsArchive, texts}

@@ -1,12 +1,12 @@
 -- Which entries are archived, and why entries have no archive.
-use Rattle.std.specs.Prelude.{◌≡◌, ℕ, List, map, String, string_bytes, alloc_error}
+use Rattle.std.specs.Prelude.{◌≡◌, ℕ, List, map, String, string_bytes}
 use Rattle.std.specs.Cmp.Lexicographic.{slice_cmp}
 use Rattle.std.specs.Ordering.{nat_cmp}
 use Rattle.std.specs.declared.alloc.AllocError.{AllocError}
 use Rattle.std.specs.declared.alloc.Global.{Global}
 use Rattle.rkyv_btree_base.specs.Archiving.{Archival}
 use Rattle.rkyv_btree_base.specs.Fault.{Fault}
-use Rattle.rkyv_btree_base.specs.Fault.TheVariants.{Length, LengthOverflow, PositionOverflow, OffsetOverflow, Writer, Memory, Entry as EntryRefused, OutOfOrder}
+use Rattle.rkyv_btree_base.specs.Fault.TheVariants.{OutOfOrder}
 use Rattle.rkyv_btree_base.specs.Increasing.{IsOutOfOrder}
 use Rattle.rkyv_btree_base.specs.TextArchival.{text_archival}
 use Rattle.rkyv_btree_base.specs.TreeArchival.{tree_archival}
@@ -64,24 +64,3 @@ IsReadOrBuildFault Unbuilt fault = IsReadFault fault
 abbrev pub IsTried : {E : Type 0} → List Entry → TryFault E ProgramFault → Type 0
 IsTried entries (Item fault) = IsReadFault fault
 IsTried entries (Build fault) = IsUnbuilt entries fault
-
--- an item failed because reading has failed, or no item failed
-abbrev pub IsReadTry : {E : Type 0} → TryFault E ProgramFault → Type 0
-IsReadTry (Item fault) = IsReadFault fault
-IsReadTry (Build fault) = Unit {0}
-
--- the same error of building, where a writer's own error is one of memory
-abbrev pub in_memory : {E : Type 0} → Fault E → Fault AllocError
-in_memory (Length mismatch) = Length mismatch
-in_memory LengthOverflow = LengthOverflow
-in_memory PositionOverflow = PositionOverflow
-in_memory OffsetOverflow = OffsetOverflow
-in_memory (Writer error) = Writer alloc_error
-in_memory (Memory error) = Memory error
-in_memory (EntryRefused fault) = EntryRefused fault
-in_memory (OutOfOrder index) = OutOfOrder index
-
--- the program's error for one of building
-abbrev pub program_fault : {E : Type 0} → TryFault E ProgramFault → ProgramFault
-program_fault (Item fault) = fault
-program_fault (Build fault) = NotBuilt (in_memory fault)

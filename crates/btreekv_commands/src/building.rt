@@ -5,8 +5,9 @@ ghost use Rattle.std.specs.String.{string_cmp};
 ghost use Rattle.rkyv_btree_base.specs.Archiving.{IsArchived};
 ghost use Rattle.rkyv_btree_base.specs.Causes.{HasCauses};
 ghost use Rattle.rkyv_btree_base.specs.Whole.{fresh};
-ghost use Rattle.btreekv_commands.specs.Building.{last_values, IsBuildFault, IsReadOrBuildFault, IsReadTry, IsTried};
-ghost use Rattle.btreekv_commands.specs.Building.{IsUnbuilt, IsUnbuiltMap, in_memory, program_fault};
+ghost use Rattle.btreearc_lines.specs.Faults.{IsReadTry};
+ghost use Rattle.btreekv_commands.specs.Building.{last_values, IsBuildFault, IsReadOrBuildFault, IsTried};
+ghost use Rattle.btreekv_commands.specs.Building.{IsUnbuilt, IsUnbuiltMap};
 ghost use Rattle.btreekv_commands.specs.Lines.{AreLines, Entry};
 ghost use Rattle.btreekv_commands.specs.Opening.{IsArchive, KeysIncrease};
 ghost use Rattle.btreekv_commands.specs.Texts.{texts_of};
@@ -14,16 +15,15 @@ ghost use Rattle.btreekv_commands.specs.Texts.{texts_of};
 use crate::entries::Entries;
 use crate::opening::Texts;
 use crate::text::Text;
-use btreearc_lines::fault::ProgramFault;
+use btreearc_lines::fault::{ProgramFault, program_fault};
 use rkyv_btree_base::archive::Archive;
-use rkyv_btree_base::fault::Fault;
 use rkyv_btree_base::laws::written_maps_are_held;
 use rkyv_btree_base::place::{VecWriter, Writer};
 use rkyv_btree_base::text::ArchivedText;
 use rkyv_btree_base::try_build::TryFault;
 use rkyv_btree_base::whole::to_archive;
 use rkyv_btree_convert::native_map::last_values_count;
-use std::alloc::{AllocError, Global};
+use std::alloc::Global;
 use std::collections::BTreeMap;
 use std::io::BufRead;
 
@@ -65,32 +65,6 @@ pub(crate) fn serialize_lines<B: BufRead + Drop, W: Writer>(
     match Texts::write_root(count, root, writer) {
         Ok(_) => Ok(()),
         Err(fault) => Err(TryFault::Build(fault)),
-    }
-}
-
-/// Returns the program's error for one of building. A writer's own error is one of memory.
-pub(crate) fn program_fault<E: Drop>(fault: TryFault<E, ProgramFault>) -> ProgramFault
-    ensures { result ≡ program_fault fault }
-{
-    match fault {
-        TryFault::Item(fault) => fault,
-        TryFault::Build(fault) => ProgramFault::NotBuilt(in_memory(fault)),
-    }
-}
-
-/// Returns the same error, where a writer's own is one of memory.
-fn in_memory<E: Drop>(fault: Fault<E>) -> Fault<AllocError>
-    ensures { result ≡ in_memory fault }
-{
-    match fault {
-        Fault::Length(mismatch) => Fault::Length(mismatch),
-        Fault::LengthOverflow => Fault::LengthOverflow,
-        Fault::PositionOverflow => Fault::PositionOverflow,
-        Fault::OffsetOverflow => Fault::OffsetOverflow,
-        Fault::Writer(_) => Fault::Writer(AllocError),
-        Fault::Memory(error) => Fault::Memory(error),
-        Fault::Entry(fault) => Fault::Entry(fault),
-        Fault::OutOfOrder { index } => Fault::OutOfOrder { index },
     }
 }
 

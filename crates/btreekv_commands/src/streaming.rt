@@ -8,9 +8,9 @@ ghost use Rattle.btreekv_commands.specs.Lines.{AreLines, Entry};
 ghost use Rattle.btreekv_commands.specs.Opening.{IsArchive};
 ghost use Rattle.btreekv_commands.specs.Streaming.{IsInOrder, IsTested, build_command};
 
-use crate::building::{program_fault, serialize_lines};
+use crate::building::serialize_lines;
 use crate::entries::{check_order, count_lines};
-use btreearc_lines::fault::ProgramFault;
+use btreearc_lines::fault::{ProgramFault, program_fault};
 use btreearc_lines::reopen::Reopen;
 use rkyv_btree_base::io_writer::IoWriter;
 use std::alloc::Global;

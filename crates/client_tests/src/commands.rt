@@ -22,7 +22,7 @@ const SEVEN: [u8; 56] = [
 ];
 
 /// The words as the program gets them.
-fn words_of(alloc: Global, words: &[&str]) -> Result<Vec<String>, AllocError> {
+pub(crate) fn words_of(alloc: Global, words: &[&str]) -> Result<Vec<String>, AllocError> {
     let mut args = Vec::new(alloc);
     for word in words {
         args.push(format!(in alloc; "{word}")?)?;

@@ -1,7 +1,9 @@
 //! Archives of lines that are written as they are built, into memory, also of an input that changes while it is read.
 ghost use Rattle.std.specs.Prelude.{None};
 
+use crate::commands::words_of;
 use crate::shared::same;
+use btreearc_commands::{program, streaming};
 use btreearc_lines::fault::ProgramFault;
 use btreearc_lines::reopen::Reopen;
 use btreekv_commands::command::Command;
@@ -35,6 +37,24 @@ fn builds_the_same(
     Ok(())
 }
 
+/// The same of lines of numbers.
+fn numbers_build_the_same(
+    rt: &impl Abort,
+    alloc: Global,
+    is_strict: bool,
+    lines: &[u8],
+) -> Result<(), Fail> {
+    let word = if is_strict { "build-strict" } else { "build" };
+    let words = words_of(alloc, &[word])?;
+    let mut input = lines;
+    let mut whole = Vec::new(alloc);
+    let told = program::run(alloc, &words, &mut input, &mut whole);
+    let (streamed, output) = streaming::build(alloc, is_strict, &lines, Vec::new(alloc));
+    same(rt, output.as_slice(), whole.as_slice());
+    same(rt, fault_of(alloc, streamed)?, fault_of(alloc, told)?);
+    Ok(())
+}
+
 /// The line of an error, or nothing.
 fn fault_of(alloc: Global, answer: Result<u8, ProgramFault>) -> Result<String, Fail> {
     match answer {
@@ -59,6 +79,26 @@ fn lines_are_streamed_as_they_are_built(rt: HostRuntime) -> Result<(), Fail> {
     for lines in texts {
         builds_the_same(&rt, alloc, false, lines)?;
         builds_the_same(&rt, alloc, true, lines)?;
+    }
+    Ok(())
+}
+
+#[test]
+fn numbers_are_streamed_as_they_are_built(rt: HostRuntime) -> Result<(), Fail> {
+    let alloc = rt.alloc();
+    let texts: [&[u8]; 8] = [
+        b"",
+        b"1 1\n",
+        b"1 1\n2 2\n3 3\n4 4\n5 5\n6 6\n7",
+        b"1 1\n2 2\n3 3\n4 4\n5 5\n6 6\n7 7",
+        b"1 1\n\n",
+        b"2 1\n1 2\n3",
+        b"2 1\n1 2\n",
+        b"1 1\n1 2 \n",
+    ];
+    for lines in texts {
+        numbers_build_the_same(&rt, alloc, false, lines)?;
+        numbers_build_the_same(&rt, alloc, true, lines)?;
     }
     Ok(())
 }
@@ -123,5 +163,36 @@ fn an_input_that_changes_is_an_error(rt: HostRuntime) -> Result<(), Fail> {
     same(&rt, fails(&rt, alloc, [two, two, bad, two], read)?, 0);
     fails(&rt, alloc, [two, two, two, one], "btreearc: output failed")?;
     fails(&rt, alloc, [two, two, two, bad], "btreearc: output failed")?;
+    Ok(())
+}
+
+/// Building of an input that has these lines of numbers when it is tested, and others later, returns this error. Returns how many bytes
+/// were written.
+fn fails_later(
+    rt: &impl Abort,
+    alloc: Global,
+    texts: [&[u8]; 2],
+    line: &str,
+) -> Result<usize, Fail> {
+    let input = Changing {
+        alloc,
+        texts: [texts[0], texts[1], b"", b""],
+        at: Cell::new(0),
+    };
+    let (built, output) = streaming::build(alloc, true, &input, Vec::new(alloc));
+    same(rt, fault_of(alloc, built)?.as_str(), line);
+    Ok(output.len())
+}
+
+#[test]
+fn numbers_that_change_are_an_error(rt: HostRuntime) -> Result<(), Fail> {
+    let alloc = rt.alloc();
+    let two = b"1 1\n2 2000000000\n".as_slice();
+    let output = "btreearc: output failed";
+    same(&rt, fails_later(&rt, alloc, [two, two], "")?, 56);
+    fails_later(&rt, alloc, [two, b"1 1\n"], output)?;
+    fails_later(&rt, alloc, [two, b"1 1\n2\n"], output)?;
+    let bad = "btreearc: line 2: not KEY VALUE";
+    same(&rt, fails_later(&rt, alloc, [b"1 1\n2\n", two], bad)?, 0);
     Ok(())
 }

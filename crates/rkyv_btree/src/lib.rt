@@ -39,9 +39,9 @@ pub mod entry_type {
     pub use rkyv_btree_convert::entry_type::EntryType;
 }
 
-/// Lookups of many keys in a map, in one iterator.
+/// Lookups of many keys in a map or a set, in one iterator.
 pub mod get_many {
-    pub use rkyv_btree_view::get_many::Lookups;
+    pub use rkyv_btree_view::get_many::{KeyLookups, Lookups};
 }
 
 /// Iterators over the entries of a map.
@@ -145,6 +145,7 @@ pub mod strict {
 /// Lookups in bytes that nobody has validated.
 pub mod unverified {
     pub use rkyv_btree_unverified::unverified::Unverified;
+    pub use rkyv_btree_unverified::unverified_get_many::{UnverifiedKeyLookups, UnverifiedLookups};
     pub use rkyv_btree_unverified::unverified_iter::UnverifiedIter;
     pub use rkyv_btree_unverified::unverified_keys::UnverifiedKeys;
     pub use rkyv_btree_unverified::unverified_range::UnverifiedRange;
@@ -193,6 +194,7 @@ pub mod prelude {
     pub use rkyv_btree_strict::strict::{access_strict, open_strict};
     pub use rkyv_btree_strict::strict_map::{Strict, StrictView};
     pub use rkyv_btree_unverified::unverified::Unverified;
+    pub use rkyv_btree_unverified::unverified_get_many::{UnverifiedKeyLookups, UnverifiedLookups};
     pub use rkyv_btree_view::compare::{ViewEq, ViewHash, ViewOrd};
     pub use rkyv_btree_view::compare_native::{CompareWith, SameAs};
     pub use rkyv_btree_view::map_view::access;

@@ -1,5 +1,5 @@
 -- Which lists increase, and which entry is the first out of order.
-use Rattle.std.proofs.Common.{◌≡◌, ℕ, suc, ◌+◌, List, [], ◌∷◌, ◌++◌, length, Option, Some, None, refl, sym, ap, ◌∙◌, subst, arith, append_assoc, length-append}
+use Rattle.std.proofs.Common.{◌≡◌, ℕ, suc, ◌+◌, ◌<◌, List, [], ◌∷◌, ◌++◌, length, Option, Some, None, refl, sym, ap, ◌∙◌, subst, arith, append_assoc, length-append}
 use Rattle.std.specs.Cmp.{IsTotalOrder}
 use Rattle.std.specs.List.Sorted.{IsStrictlySortedBy}
 use Rattle.std.specs.Ordering.{match_ordering}
@@ -90,3 +90,44 @@ module _ {A B : Type 0} {order : A → A → Ordering} (total : IsTotalOrder ord
   one_index m i j o p =
       let same = one_number o.front p.front o.back p.back o.before p.before o.entry p.entry (sym o.parts ∙ p.parts) o.first p.first o.not_greater p.not_greater in
       o.number ∙ ap (λ n. n + 1) same ∙ sym p.number
+
+-- the steps of the search: what is left of a list decides it, as all does
+module _ {A B : Type 0} (order : A → A → Ordering) (all : List (A × B)) where
+  abbrev Decided : Option ℕ → Type 0
+  Decided r = MatchOption r (Increasing order all) (IsOutOfOrder order all)
+
+  -- an entry that isn't greater is out of order
+  pub stops : (last key : A) (value : B) (left more : List (A × B)) (index : ℕ) → ¬ (order last key ≡ Less) → left ≡ (key, value) ∷ more
+      → Decided (unordered_after order last left index) → IsOutOfOrder order all index
+  stops last key value left more index not_less parts h =
+      let here : Decided (match_ordering (order last key) (unordered_after order key more (index + 1)) (Some index) (Some index)) = subst (λ (m : List (A × B)). Decided (unordered_after order last m index)) parts h in
+      (elim (order last key) as (λ o. order last key ≡ o → Decided (match_ordering o (unordered_after order key more (index + 1)) (Some index) (Some index)) → IsOutOfOrder order all index) [
+        | Less ↦ λ is d. absurd (not_less is)
+        | Equal ↦ λ is d. d
+        | Greater ↦ λ is d. d
+      ]) refl here
+
+  -- after one that is greater the search goes on
+  pub goes_on : (last key : A) (value : B) (left more : List (A × B)) (index : ℕ) → order last key ≡ Less → left ≡ (key, value) ∷ more
+      → Decided (unordered_after order last left index) → Decided (unordered_after order key more (index + 1))
+  goes_on last key value left more index less parts h =
+      let here : Decided (match_ordering (order last key) (unordered_after order key more (index + 1)) (Some index) (Some index)) = subst (λ (m : List (A × B)). Decided (unordered_after order last m index)) parts h in
+      subst (λ (o : Ordering). Decided (match_ordering o (unordered_after order key more (index + 1)) (Some index) (Some index))) less here
+
+  pub starts : (first : A) (value : B) (more : List (A × B)) → all ≡ (first, value) ∷ more → Decided (unordered order all) → Decided (unordered_after order first more 1)
+  starts first value more parts h = subst (λ (m : List (A × B)). Decided (unordered order m)) parts h
+
+  pub ends : (last : A) (left : List (A × B)) (index : ℕ) → left ≡ [] → Decided (unordered_after order last left index) → Increasing order all
+  ends last left index empty h = subst (λ (m : List (A × B)). Decided (unordered_after order last m index)) empty h
+
+  pub none : all ≡ [] → Decided (unordered order all) → Increasing order all
+  none empty h = subst (λ (m : List (A × B)). Decided (unordered order m)) empty h
+
+pub first_counted : {X : Type 0} (all more : List X) (x : X) → all ≡ x ∷ more → 1 + length more ≡ length all
+first_counted all more x parts = let e : length all ≡ length (x ∷ more) = ap length parts in omega (arith, e)
+
+pub next_counted : {X : Type 0} (all left more : List X) (x : X) (index : ℕ) → left ≡ x ∷ more → index + length left ≡ length all → index + 1 + length more ≡ length all
+next_counted all left more x index parts count = let e : length left ≡ length (x ∷ more) = ap length parts in omega (arith, e, count)
+
+pub few : {X : Type 0} (all left more : List X) (x : X) (index len : ℕ) → left ≡ x ∷ more → index + length left ≡ length all → len ≡ length all → len < 18446744073709551616 → index + 1 < 18446744073709551616
+few all left more x index len parts count is small = let e : length left ≡ length (x ∷ more) = ap length parts in omega (arith, e, count, is, small)

@@ -4,7 +4,7 @@ ghost use Rattle.std.specs.Iterator.{IsFinite};
 ghost use Rattle.std.specs.List.{find};
 ghost use Rattle.std.specs.List.Sorted.{IsStrictlySortedBy};
 ghost use Rattle.std.specs.Option.{option_map};
-ghost use Rattle.std.specs.Prelude.{◌≡◌, ◌≤◌, ◌↔◌, [], length, is_some, IsTrue, IsOk, IfOk, Err};
+ghost use Rattle.std.specs.Prelude.{◌≡◌, ◌≤◌, ◌↔◌, [], length, map, is_some, IsTrue, IsOk, IfOk, Err};
 ghost use Rattle.std.specs.Range.Bound.{bound_map};
 ghost use Rattle.rkyv_btree_base.specs.Layout.{are_fitting};
 ghost use Rattle.rkyv_btree_base.specs.Map.{map_kind};
@@ -16,6 +16,7 @@ ghost use Rattle.rkyv_btree_base.specs.Increasing.{Increasing};
 ghost use Rattle.rkyv_btree_strict.specs.Strict.{IsStrictMap, RefusesStrict};
 ghost use Rattle.rkyv_btree_view.specs.Items.{ShowsAll};
 ghost use Rattle.rkyv_btree_view.specs.Lookup.{ByNative};
+ghost use Rattle.rkyv_btree_view.specs.ManyLookups.{key_looked_up_in};
 ghost use Rattle.rkyv_btree_view.specs.Set.{keys_of};
 ghost use Rattle.rkyv_btree_view.specs.View.{view_value, entries_of};
 ghost use Rattle.rkyv_btree_walk.specs.Bounds.{keys_within};
@@ -27,6 +28,7 @@ use rkyv_btree_base::refusal::Refusal;
 use rkyv_btree_base::set::ArchivedBTreeSet;
 use rkyv_btree_view::compare::ViewOrd;
 use rkyv_btree_view::compare_native::CompareWith;
+use rkyv_btree_view::get_many::KeyLookups;
 use rkyv_btree_view::set_view::{Iter, Range};
 use rkyv_btree_view::view::View;
 use std::marker::PhantomData;
@@ -172,6 +174,32 @@ impl<'a, K: ViewOrd, const E: usize> Strict<'a, ArchivedBTreeSet<K, E>> {
             ≡ is_some (find (is_at comparison) (keys_of K.kind E self.entry.view))) }
     {
         self.view.contains_by(key)
+    }
+}
+
+impl<'a, K: ViewOrd, const E: usize> Strict<'a, ArchivedBTreeSet<K, E>> {
+    ghost use Rattle.rkyv_btree_view.specs.ManyLeft.{key_lookups_left};
+
+    /// Returns an iterator over the results of `get_by` for these keys, in the order of the keys.
+    ///
+    /// It searches sixteen keys side by side. No memory is allocated, by the iterator either.
+    pub fn get_many_by<'k, T>(self, keys: &'k [T]) -> KeyLookups<'a, 'k, ArchivedBTreeSet<K, E>, T>
+    where
+        K: CompareWith<T>,
+        ensures yields { ShowsAll
+            ⟦<KeyLookups<'a, 'k, ArchivedBTreeSet<K, E>, T> as Iterator>⟧.next_gives
+            (option_map view_value) result
+            (map (key_looked_up_in K.kind E self.entry.view K.compared_at) keys.now) }
+        // Each result is what `get_by` returns for its key.
+        ensures each { (key : T) → ByNative K.kind K.compared_at key (λ comparison.
+            key_looked_up_in K.kind E self.entry.view K.compared_at key
+            ≡ find (is_at comparison) (keys_of K.kind E self.entry.view)) }
+        ensures left { key_lookups_left K.compared_at result
+            ≡ map (key_looked_up_in K.kind E self.entry.view K.compared_at) keys.now }
+        ensures ends { IsFinite
+            (⟦<KeyLookups<'a, 'k, ArchivedBTreeSet<K, E>, T> as Iterator>⟧.remaining result) }
+    {
+        self.view.get_many_by(keys)
     }
 }
 

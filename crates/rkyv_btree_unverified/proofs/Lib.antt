@@ -10,6 +10,8 @@ pub mod Found
 pub mod Froms
 pub mod Goes
 pub mod Lent
+pub mod ManyGiven
+pub mod ManyWays
 pub mod OnMaps
 pub mod OnWalks
 pub mod OnWays

@@ -2,9 +2,11 @@
 #![tactic(auto)]
 
 pub mod unverified;
+pub mod unverified_get_many;
 pub mod unverified_iter;
 pub mod unverified_keys;
 pub mod unverified_laws;
+pub mod unverified_many;
 pub mod unverified_node;
 pub mod unverified_range;
 pub mod unverified_range_keys;

@@ -136,7 +136,7 @@ impl<'a, K: CheckBytes, V: CheckBytes, M: ArchivedMap<Key = K, Mapped = V>> Unve
 
     /// Returns the views of the entry at which a search ended, by its node and number.
     #[inline(always)]
-    fn entry_found(self, found: Option<(u32, u32)>) -> Option<(View<'a, K>, View<'a, V>)>
+    pub(crate) fn entry_found(self, found: Option<(u32, u32)>) -> Option<(View<'a, K>, View<'a, V>)>
         requires short { length self.buf.now ≤ 4294967295 }
         requires stands { IfSome found (λ e.
             RunStands K.kind V.kind M.E self.buf.now e.0 e.1 (e.1 + 1)) }

@@ -224,7 +224,7 @@ pub enum Next {
 
 /// The search of a node at a place with room for a leaf.
 #[inline(always)]
-fn search_node<
+pub(crate) fn search_node<
     'a,
     Q,
     K: CheckBytes,

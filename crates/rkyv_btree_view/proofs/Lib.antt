@@ -2,6 +2,7 @@
 pub mod Agreed
 pub mod Bounds
 pub mod Drained
+pub mod Held
 pub mod Lookups
 pub mod ManyFound
 pub mod Ordered

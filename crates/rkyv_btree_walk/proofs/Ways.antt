@@ -1,16 +1,17 @@
 -- Steps of searches side by side.
-use Rattle.std.proofs.Common.{sym, ◌∙◌, ◌-◌, slice_set, length, Bool, true, false, ◌||◌, inl, inr, ◌≡◌, ℕ, zero, suc, ◌+◌, ◌≤◌, ◌<◌, List, Option, Some, None, refl, ap, arith}
+use Rattle.std.proofs.Common.{sym, ◌∙◌, slice_set, slice_index_or, length, Bool, true, false, ◌||◌, inl, inr, ◌≡◌, ℕ, suc, ◌+◌, ◌≤◌, ◌<◌, List, Some, None, refl, ap, arith}
 use Rattle.std.specs.Prelude.{IfSome}
 use Rattle.std.proofs.lemmas.Bool.{cases_lt}
 use Rattle.std.proofs.lemmas.List.{get_or-set_same, get_or-set_other}
 use Rattle.std.specs.declared.cmp.Ordering.{Ordering}
 use Rattle.rkyv_btree_base.specs.Kind.{Kind}
 use Rattle.rkyv_btree_base.specs.Layout.{layout_of}
+use Rattle.rkyv_btree_walk.specs.Ends.{end_of}
 use Rattle.rkyv_btree_walk.specs.Nodes.{entry_count, child_place}
 use Rattle.rkyv_btree_walk.specs.declared.many.Way.{Way}
 use Rattle.rkyv_btree_walk.specs.declared.many.Way.TheVariants.{On, Found, Absent}
 use Rattle.rkyv_btree_walk.specs.declared.search.Stop.TheVariants.{At, Before}
-use Rattle.rkyv_btree_walk.specs.mirror.Many.{HasEnded, IsUnderWay, SoFar, Steps, WayStands, end_of, way_at, way_finds}
+use Rattle.rkyv_btree_walk.specs.mirror.Many.{HasEnded, IsUnderWay, SoFar, Steps, WayStands}
 use Rattle.rkyv_btree_walk.specs.mirror.Node.{NodeStands, RunStands, TreeStands}
 use Rattle.rkyv_btree_walk.specs.mirror.Search.{StopsAt, comparison_at, searched_map}
 use Rattle.rkyv_btree_walk.proofs.Nodes.{child_stands}
@@ -47,23 +48,23 @@ step_stays K V E b Compares key (Found p i) ended = record { stands = λ levels 
 step_stays K V E b Compares key Absent ended = record { stands = λ levels h. h; finds = λ levels h c is. refl }
 
 -- when a way has taken its step, one more has
-pub so_far_more : (Step : Way → Way → Type 0) (k n : ℕ) (going goes : Bool) (first old : List Way) (new : Way) → n < length old
-    → SoFar Step k n going (way_at first k) (way_at old k) → (k ≡ n → Step (way_at old k) new) → (goes ≡ false → HasEnded new)
-    → SoFar Step k (n + 1) (going || goes) (way_at first k) (way_at (slice_set old n new) k)
-so_far_more Step k n going goes first old new inside so step ended =
+pub so_far_more : {W : Type 0} (none : W) (Ended : W → Type 0) (Step : W → W → Type 0) (k n : ℕ) (going goes : Bool) (first old : List W) (new : W) → n < length old
+    → SoFar Ended Step k n going (slice_index_or first k none) (slice_index_or old k none) → (k ≡ n → Step (slice_index_or old k none) new) → (goes ≡ false → Ended new)
+    → SoFar Ended Step k (n + 1) (going || goes) (slice_index_or first k none) (slice_index_or (slice_set old n new) k none)
+so_far_more none Ended Step k n going goes first old new inside so step ended =
     elim (cases_lt k n) [
       | inl before ↦
-          let same : way_at (slice_set old n new) k ≡ way_at old k = get_or-set_other old n k new (On 0) (λ e. absurd (omega arith)) in
-          rw same (record { taken = λ h. so.taken before; left = λ h. absurd (omega arith); ended = λ none h. so.ended (first_off going goes none) before })
+          let same : slice_index_or (slice_set old n new) k none ≡ slice_index_or old k none = get_or-set_other old n k new none (λ e. absurd (omega arith)) in
+          rw same (record { taken = λ h. so.taken before; left = λ h. absurd (omega arith); ended = λ off h. so.ended (first_off going goes off) before })
       | inr on ↦ elim (cases_lt n k) [
         | inl after ↦
-            let same : way_at (slice_set old n new) k ≡ way_at old k = get_or-set_other old n k new (On 0) (λ e. absurd (omega arith)) in
-            rw same (record { taken = λ h. absurd (omega arith); left = λ h. so.left (omega arith); ended = λ none h. absurd (omega arith) })
+            let same : slice_index_or (slice_set old n new) k none ≡ slice_index_or old k none = get_or-set_other old n k new none (λ e. absurd (omega arith)) in
+            rw same (record { taken = λ h. absurd (omega arith); left = λ h. so.left (omega arith); ended = λ off h. absurd (omega arith) })
         | inr up ↦
             let here : k ≡ n = omega arith in
-            let set : way_at (slice_set old n new) k ≡ new = rw here (get_or-set_same old n new (On 0) inside) in
-            let was : way_at old k ≡ way_at first k = so.left (omega arith) in
-            rw set (record { taken = λ h. rw was at (step here); left = λ h. absurd (omega arith); ended = λ none h. ended (second_off going goes none) })
+            let set : slice_index_or (slice_set old n new) k none ≡ new = rw here (get_or-set_same old n new none inside) in
+            let was : slice_index_or old k none ≡ slice_index_or first k none = so.left (omega arith) in
+            rw set (record { taken = λ h. rw was at (step here); left = λ h. absurd (omega arith); ended = λ off h. ended (second_off going goes off) })
       ]
     ]
   where

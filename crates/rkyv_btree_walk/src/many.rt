@@ -3,10 +3,11 @@ ghost use Rattle.std.specs.Prelude.{◌≡◌, IfSome, IsTrue, ◌+◌, ℕ, tru
 ghost use Rattle.std.specs.declared.cmp.Ordering.{Ordering as Comparison};
 ghost use Rattle.rkyv_btree_base.specs.Layout.{layout_of};
 ghost use Rattle.rkyv_btree_base.specs.Views.{stands};
+ghost use Rattle.rkyv_btree_walk.specs.Ends.{end_of};
 ghost use Rattle.rkyv_btree_walk.specs.Nodes.{is_leaf as is_leaf_at};
 ghost use Rattle.rkyv_btree_walk.specs.Search.{shown_value};
 ghost use Rattle.rkyv_btree_walk.specs.declared.many.Way.TheVariants.{On};
-ghost use Rattle.rkyv_btree_walk.specs.mirror.Many.{EachKey, HasEnded, Steps, WayStands, end_of, way_at, way_finds};
+ghost use Rattle.rkyv_btree_walk.specs.mirror.Many.{EachKey, HasEnded, Steps, WayStands, way_at, way_finds};
 ghost use Rattle.rkyv_btree_walk.specs.mirror.Node.{NodeCanBeRead, NodeStands, RunStands};
 ghost use Rattle.rkyv_btree_walk.specs.mirror.Search.{comparison_at, searched_map, IsComparedBy};
 

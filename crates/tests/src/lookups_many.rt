@@ -5,10 +5,13 @@ use crate::numbers::archive;
 use crate::read::number;
 use crate::same::same;
 use crate::texts::with_texts;
+use rkyv_btree::unverified::Unverified;
 use rkyv_btree::view::View;
+use rkyv_btree_base::layout;
 use rkyv_btree_base::map::ArchivedBTreeMap;
 use rkyv_btree_base::numbers::ArchivedU32;
 use rkyv_btree_base::place::VecWriter;
+use rkyv_btree_base::refusal::Refusal;
 use rkyv_btree_base::text::ArchivedText;
 use std::alloc::{AllocError, Global};
 use std::process::Abort;
@@ -51,6 +54,43 @@ fn find_the_same<const E: usize>(
     assert!(rt; found.next().is_none());
 }
 
+/// Asserts that of lookups without validation, which may fail.
+fn give_the_same<const E: usize>(rt: &impl Abort, buf: &[u8], pos: u32, keys: &[u32]) {
+    assert!(rt; layout::fits::<ArchivedU32, ArchivedU32, E>());
+    let map = Unverified::<ArchivedBTreeMap<ArchivedU32, ArchivedU32, E>>::new(buf, pos);
+    let mut found = map.get_many_by(keys);
+    for (index, key) in keys.iter().enumerate() {
+        assert_eq!(rt; found.len(), keys.len().saturating_sub(index));
+        let item = found.next().expect(rt, "a result");
+        assert_eq!(rt; outcome(item), outcome(map.get_by(*key)), "{key}");
+    }
+    assert!(rt; found.next().is_none());
+    assert!(rt; found.next().is_none());
+}
+
+/// Asserts that of a map of which each byte is changed in turn.
+fn give_the_same_when_damaged<const E: usize>(
+    rt: &impl Abort,
+    bytes: &mut [u8],
+    pos: u32,
+    keys: &[u32],
+) {
+    for index in 0..bytes.len() {
+        let byte = bytes[index];
+        bytes[index] = byte.wrapping_add(1);
+        give_the_same::<E>(rt, bytes, pos, keys);
+        bytes[index] = byte;
+    }
+}
+
+/// Returns the number that a lookup found, or its error.
+fn outcome(found: Result<Option<View<ArchivedU32>>, Refusal>) -> Result<Option<u32>, Refusal> {
+    match found {
+        Err(refusal) => Err(refusal),
+        Ok(value) => Ok(value.map(number)),
+    }
+}
+
 /// Asserts that of maps of so many entries, some of which are a batch long or one more.
 fn find_the_same_in_maps<const E: usize>(rt: &impl Abort, alloc: Global) -> Result<(), Fail> {
     for count in [0u32, 1, 2, 5, 6, 15, 16, 17, 33, 300] {
@@ -63,9 +103,22 @@ fn find_the_same_in_maps<const E: usize>(rt: &impl Abort, alloc: Global) -> Resu
         for len in [0usize, 1, 15, 16, 17, 31, 32, 33] {
             if let Some(some) = keys.get(..len) {
                 find_the_same::<E>(rt, map, some);
+                give_the_same::<E>(rt, map.buf, map.pos, some);
             }
         }
     }
+    Ok(())
+}
+
+#[test]
+fn many_lookups_in_damaged_maps_give_what_single_ones_give(rt: HostRuntime) -> Result<(), Fail> {
+    let alloc = rt.alloc();
+    let mut writer = VecWriter::new(alloc);
+    let entries = odd(alloc, 40)?;
+    let root = archive::<2>(&rt, alloc, entries.len(), &entries, &mut writer)?;
+    let keys = keys(alloc, 33)?;
+    let mut bytes = writer.into_vec();
+    give_the_same_when_damaged::<2>(&rt, bytes.as_mut_slice(), root, &keys);
     Ok(())
 }
 

@@ -5,6 +5,7 @@ use crate::same::{same, shown};
 use crate::views::hashed;
 use rkyv_btree::set::{access, access_strict, open_strict};
 use rkyv_btree::strict;
+use rkyv_btree::unverified::Unverified;
 use rkyv_btree::view::View;
 use rkyv_btree_base::archive::{Archive, Serialize};
 use rkyv_btree_base::check::{CheckBytes, Portable};
@@ -40,6 +41,30 @@ where
         writer,
     )?;
     ArchivedBTreeSet::<K, E>::write_root(len, root, writer)
+}
+
+#[test]
+fn many_lookups_find_what_single_ones_find(rt: HostRuntime) -> Result<(), Fail> {
+    let alloc = rt.alloc();
+    let mut writer = VecWriter::new(alloc);
+    let pos = archive::<u32, ArchivedU32, 2>(&rt, alloc, &[1, 3, 5, 7, 9, 11, 13], &mut writer)?;
+    let keys = [
+        9u32, 2, 1, 13, 14, 0, 3, 3, 4, 5, 6, 7, 8, 9, 10, 11, 12, 13, 1,
+    ];
+    let bytes = writer.bytes();
+    assert!(rt; layout::fits::<ArchivedU32, (), 2>());
+    let set = access::<ArchivedU32, 2>(bytes, pos)?;
+    let unverified = Unverified::<ArchivedBTreeSet<ArchivedU32, 2>>::new(bytes, pos);
+    let mut found = unverified.get_many_by(&keys);
+    let mut count = 0u32;
+    for (key, own) in keys.iter().zip(set.get_many_by(&keys)) {
+        same(&rt, own.map(number), set.get_by(*key).map(number));
+        let item = found.next().ok_or("no result")?;
+        same(&rt, item?.map(number), own.map(number));
+        count = count.wrapping_add(u32::from(own.is_some()));
+    }
+    same(&rt, count, 11);
+    Ok(())
 }
 
 /// The set of keys is built strictly: what the writer holds then ends with these eight bytes, or a key is out of order.

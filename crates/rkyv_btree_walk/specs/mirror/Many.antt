@@ -1,5 +1,5 @@
 -- Searches for many keys side by side. This mirrors the code, which takes each of them down level by level.
-use Rattle.std.specs.Prelude.{◌≡◌, ℕ, zero, suc, ◌+◌, ◌<◌, List, [], ◌∷◌, Option, Some, None, slice_get, slice_index_or, Bool, false, ◌≤◌}
+use Rattle.std.specs.Prelude.{◌≡◌, ℕ, suc, ◌+◌, ◌<◌, List, Option, Some, None, slice_get, slice_index_or, Bool, false, ◌≤◌}
 use Rattle.std.specs.declared.cmp.Ordering.{Ordering}
 use Rattle.rkyv_btree_base.specs.Kind.{Kind}
 use Rattle.rkyv_btree_base.specs.Layout.{layout_of}
@@ -11,12 +11,6 @@ use Rattle.rkyv_btree_walk.specs.mirror.Search.{comparison_at, searched, searche
 -- the way of a number, of which there are sixteen
 abbrev pub way_at : List Way → ℕ → Way
 way_at ways i = slice_index_or ways i (On 0)
-
--- where a search ended, which may be at no entry
-abbrev pub end_of : Way → Option (ℕ × ℕ)
-end_of (On p) = None
-end_of (Found p i) = Some (p, i)
-end_of Absent = None
 
 -- what holds of each of the first sixteen keys and its number
 abbrev pub EachKey : {Q : Type 0} → List Q → (ℕ → Q → Type 0) → Type 0
@@ -46,10 +40,10 @@ module _ (K V : Kind) (E : ℕ) (b : List ℕ) where
         → way_finds (c key) (suc levels) old ≡ way_finds (c key) levels new
 
 -- the way of key number i, when the first `count` ways have taken their steps, and whether any of them goes on
-pub record SoFar (Step : Way → Way → Type 0) (i count : ℕ) (going : Bool) (old new : Way) : Type 0 where
+pub record SoFar {W : Type 0} (Ended : W → Type 0) (Step : W → W → Type 0) (i count : ℕ) (going : Bool) (old new : W) : Type 0 where
   pub taken : i < count → Step old new
   pub left : count ≤ i → new ≡ old
-  pub ended : going ≡ false → i < count → HasEnded new
+  pub ended : going ≡ false → i < count → Ended new
 
 -- a way that has so many levels left leads to what the search of the map at a position finds
 pub record IsUnderWay (K V : Kind) (E : ℕ) (b : List ℕ) {Q : Type 0} (Compares : (Q → K.Value → Ordering) → Type 0) (at : ℕ) (key : Q) (levels : ℕ) (way : Way) : Type 0 where

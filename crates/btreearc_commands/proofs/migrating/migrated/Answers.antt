@@ -1,5 +1,5 @@
 -- The native map has the last values, and its archive is written.
-use Rattle.std.proofs.Common.{◌≡◌, ℕ, List, Ok, refl, sym, subst, ◌∙◌}
+use Rattle.std.proofs.Common.{ℕ, List, Ok, refl, sym, subst, ◌∙◌}
 use Rattle.btreearc_commands.specs.Commands.{last_values}
 use Rattle.btreearc_commands.specs.Opening.{IsArchive, entries_read}
 use Rattle.btreearc_commands.proofs.Renewed.{given_last, renewed, renewed_accepted, renewed_fits, unrenewed}

@@ -1,10 +1,10 @@
 -- Each key is compared where it stands, and the first that doesn't give Greater decides.
-use Rattle.std.proofs.Common.{◌≡◌, ◌+◌, arith, true, false, ◌&&◌, below_more, inl, inr, rules, subst, IsTrue, Ok}
+use Rattle.std.proofs.Common.{◌≡◌, arith, true, false, ◌&&◌, below_more, inl, inr, rules, subst, IsTrue, Ok}
 use Rattle.std.proofs.lemmas.Bool.{and_parts, cases_Bool}
 use Rattle.rkyv_btree_base.proofs.Sizes.{room_of}
 use Rattle.rkyv_btree_base.specs.Views.{stands}
 use Rattle.rkyv_btree_walk.proofs.AtOnce.{stops_more}
-use Rattle.rkyv_btree_walk.specs.mirror.Search.{StopsAt, comparison_at, stop_of}
+use Rattle.rkyv_btree_walk.specs.mirror.Search.{comparison_at}
 use Rattle.rkyv_btree_unverified.proofs.AtOnce.{asked, equal_given, stopped_before}
 use Rattle.rkyv_btree_unverified.specs.Steps.{KeysGive, bad_value, equal_key, stops}
 use Rattle.rkyv_btree_unverified.specs.declared.unverified_search.Halt.TheVariants.{Below}

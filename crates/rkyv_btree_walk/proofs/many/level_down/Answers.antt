@@ -3,7 +3,7 @@ use Rattle.std.proofs.Common.{◌≡◌, ℕ, ◌<◌, refl, arith, rules, sym, 
 use Rattle.std.proofs.lemmas.Option.{slice_get_read, slice_get_within, get_or_from_slice_get}
 use Rattle.std.proofs.lemmas.List.{length-set}
 use Rattle.rkyv_btree_walk.specs.declared.many.Way.TheVariants.{On}
-use Rattle.rkyv_btree_walk.specs.mirror.Many.{way_at}
+use Rattle.rkyv_btree_walk.specs.mirror.Many.{HasEnded, way_at}
 use Rattle.rkyv_btree_walk.specs.mirror.Node.{NodeCanBeRead}
 use Rattle.rkyv_btree_walk.proofs.Ways.{so_far_more}
 use Rattle.rkyv_btree_walk.proofs.many.level_down.Goals as goal
@@ -19,7 +19,7 @@ step_down-way-requires g c κs =
 pub loop-i-preserved : goal.loop-i-preserved
 loop-i-preserved g c = (
   length-set _ _ _ ∙ c.loop-i.invariant.0,
-  λ k key less is. so_far_more _ k _ _ _ _ _ _ (omega (arith, c.loop-i.invariant.0)) (c.loop-i.invariant.1 k key less is) (λ here.
+  λ k key less is. so_far_more (On 0) HasEnded _ k _ _ _ _ _ _ (omega (arith, c.loop-i.invariant.0)) (c.loop-i.invariant.1 k key less is) (λ here.
       let same : c.index-keys-i.result ≡ key = c.index-keys-i.is ∙ get_or_from_slice_get c.args.keys.now c.loop-i.i key c.index-keys-i.result (rw here at is) in
       rw here (rw same at c.step_down-way.ensures)) c.goes_on-going.ensures,
 )

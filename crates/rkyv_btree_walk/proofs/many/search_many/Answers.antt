@@ -1,5 +1,5 @@
 -- Each level leads on to what the search finds, and none is left at the end.
-use Rattle.std.proofs.Common.{◌≡◌, ℕ, ◌+◌, ◌-◌, suc, arith, rules}
+use Rattle.std.proofs.Common.{◌≡◌, ℕ, ◌+◌, ◌-◌, arith, rules}
 use Rattle.rkyv_btree_walk.specs.declared.many.Way.TheVariants.{On}
 use Rattle.rkyv_btree_walk.specs.mirror.Many.{EachKey, way_at}
 use Rattle.rkyv_btree_walk.specs.mirror.Node.{NodeCanBeRead}

@@ -1,10 +1,8 @@
 -- What is left of each way is what its search finds.
-use Rattle.std.proofs.Common.{◌≡◌, ℕ, ◌-◌, length}
-use Rattle.std.specs.declared.cmp.Ordering.{Ordering}
-use Rattle.rkyv_btree_base.specs.Layout.{layout_of}
+use Rattle.std.proofs.Common.{◌-◌}
 use Rattle.rkyv_btree_walk.specs.Search.{shown_value}
 use Rattle.rkyv_btree_walk.specs.mirror.Many.{EachKey, IsUnderWay, way_at}
-use Rattle.rkyv_btree_walk.specs.mirror.Search.{IsComparedBy, comparison_at, searched_map}
+use Rattle.rkyv_btree_walk.specs.mirror.Search.{IsComparedBy}
 use Rattle.rkyv_btree_walk.proofs.many.search_many.Given as goal
 
 abbrev pub invariant-loop-level : goal.invariant-loop-level

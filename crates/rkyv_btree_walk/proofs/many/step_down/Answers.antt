@@ -1,5 +1,4 @@
 -- A way goes on at a node that can be read, or has ended.
-use Rattle.std.proofs.Common.{refl}
 use Rattle.rkyv_btree_walk.proofs.many.step_down.Goals as goal
 
 pub is_leaf-requires-clause-fitting : goal.is_leaf-requires-clause-fitting

@@ -1,5 +1,5 @@
 -- Each key is compared where it stands, and the first that doesn't give Greater decides.
-use Rattle.std.proofs.Common.{◌≡◌, ◌+◌, arith, true, false, ◌&&◌, inl, inr}
+use Rattle.std.proofs.Common.{◌≡◌, arith, true, false, ◌&&◌, inl, inr}
 use Rattle.std.proofs.lemmas.Bool.{and_parts, cases_Bool}
 use Rattle.rkyv_btree_walk.proofs.AtOnce.{stops_more}
 use Rattle.rkyv_btree_walk.specs.mirror.Search.{comparison_at}

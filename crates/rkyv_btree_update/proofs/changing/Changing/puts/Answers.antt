@@ -1,0 +1,20 @@
+-- The entries that are put are all of the map, in its order.
+use Rattle.std.proofs.Common.{sym, ap, subst}
+use Rattle.rkyv_btree_base.specs.Increasing.{Increasing}
+use Rattle.rkyv_btree_update.proofs.Lent.{whole}
+use Rattle.rkyv_btree_update.proofs.Meant.{put_increase, read_meant, shown_increase}
+use Rattle.rkyv_btree_update.specs.Updated.{all_put}
+use Rattle.rkyv_btree_update.proofs.changing.Changing.puts.Goals as goal
+
+pub returns-clause-shown : goal.returns-clause-shown
+returns-clause-shown g c =
+    let key = c.is_lent.ensures in
+    let value = c.is_lent-2.ensures in
+    ap all_put (whole {g = g.M.ArchivedMap} g.KU.FromArchived.lent g.VU.FromArchived.lent key.of_value value.of_value key.reads value.reads c.iter.result c.args.map.view.buf.now c.args.map.view.pos c.iter.ensures.entries)
+
+pub returns-clause-in_order : goal.returns-clause-in_order
+returns-clause-in_order g c =
+    let key = c.is_lent.ensures in
+    let value = c.is_lent-2.ensures in
+    subst (Increasing g.KU.FromArchived.order) (sym (returns-clause-shown g c))
+    (put_increase g.KU.FromArchived.order _ (shown_increase g.K.Portable.kind g.V.Portable.kind g.M.ArchivedMap.E g.KU.FromArchived.lent g.VU.FromArchived.lent key.meant value.meant (read_meant key) (read_meant value) c.args.map.view.buf.now g.KU.FromArchived.order key.alike c.args.map.view.pos c.args.map.increasing))

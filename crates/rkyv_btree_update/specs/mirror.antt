@@ -1,0 +1,3 @@
+-- Functions that follow the code.
+pub mod Compared
+pub mod Merged

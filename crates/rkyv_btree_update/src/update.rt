@@ -1,0 +1,303 @@
+//! New archives of maps, from old ones and changes.
+ghost use Rattle.std.specs.Prelude.{◌≡◌, ◌<◌, ◌≤◌, ℕ, length, map, IsErrOf, IsTrue, IfErr, IfOk, MatchOption, OnErr, OnOk};
+ghost use Rattle.rkyv_btree_base.specs.Archiving.{BeginsWith};
+ghost use Rattle.rkyv_btree_base.specs.Increasing.{Increasing, IsOutOfOrder};
+ghost use Rattle.rkyv_btree_base.specs.Kept.{OnlyAppended};
+ghost use Rattle.rkyv_btree_base.specs.Layout.{are_fitting};
+ghost use Rattle.rkyv_btree_update.specs.Natives.{IsLent, key_change, meaning, shown_of};
+ghost use Rattle.rkyv_btree_update.specs.Updated.{all_put, changes_meant, updated};
+ghost use Rattle.rkyv_btree_update.specs.Written.{FailsToUpdate, FailsToWrite, WritesSmallest, WritesStrict};
+ghost use Rattle.rkyv_btree_update.specs.mirror.Merged.{AreOrdered, changing_left, merged, new_left, old_left};
+ghost use Rattle.rkyv_btree_view.specs.View.{entries_of};
+
+use crate::change::Change;
+use crate::changing::Changing;
+use crate::from_archived::FromArchived;
+use crate::order::first_disorder;
+use crate::updates::Updates;
+use rkyv_btree_base::archive::{Archive, Serialize};
+use rkyv_btree_base::check::Portable;
+use rkyv_btree_base::fault::Fault;
+use rkyv_btree_base::map::ArchivedBTreeMap;
+use rkyv_btree_base::place::Writer;
+use rkyv_btree_strict::strict_map::{Strict, StrictEntries, StrictView};
+use rkyv_btree_view::compare::ViewOrd;
+use rkyv_btree_walk::archived_map::ArchivedMap;
+use std::alloc::Global;
+
+/// The most entries of a map.
+const MOST: usize = 4294967295;
+
+/// Returns the number of entries after changes, if it has 32 bits.
+fn count<'a, 'x, K, V, M, KU, VU>(updates: Updates<'a, 'x, M, KU, VU>) -> Option<usize>
+where
+    K: ViewOrd,
+    V: Portable,
+    M: ArchivedMap<Key = K, Mapped = V> + StrictEntries,
+    KU: FromArchived<'a> + Archive<Archived = K>,
+    VU: FromArchived<'a> + Archive<Archived = V>,
+    requires { AreOrdered KU.order (old_left KU.lent VU.lent KU.shown VU.shown)
+        (new_left KU.lent VU.lent KU.shown VU.shown) updates }
+    ensures { let entries = merged KU.order (old_left KU.lent VU.lent KU.shown VU.shown)
+        (new_left KU.lent VU.lent KU.shown VU.shown) updates.entry in
+        MatchOption result (4294967295 < length entries)
+        (λ n. (n ≡ length entries) × (n ≤ 4294967295)) }
+{
+    let mut updates = updates;
+    let mut len = 0;
+    while let Some(_) = updates.next() {
+        if len == MOST {
+            return None;
+        }
+        len += 1;
+    }
+    Some(len)
+}
+
+/// Writes the entries of a map after changes whose keys increase. The changes come twice: the entries are counted first.
+fn write_updated<'a, 'x, K, V, M, KU, VU, W, const E: usize>(
+    alloc: Global,
+    old: Strict<'a, M>,
+    counted: Changing<'a, 'x, M, KU, VU>,
+    changes: Changing<'a, 'x, M, KU, VU>,
+    writer: &mut W,
+) -> Result<u32, Fault<W::Error>>
+where
+    K: ViewOrd,
+    V: Portable,
+    M: ArchivedMap<Key = K, Mapped = V> + StrictEntries,
+    KU: FromArchived<'a> + Archive<Archived = K> + Serialize<W, Global>,
+    VU: FromArchived<'a> + Archive<Archived = V> + Serialize<W, Global>,
+    W: Writer,
+    requires fitting { IsTrue (are_fitting K.kind V.kind E) }
+    requires same { changing_left KU.lent VU.lent KU.shown VU.shown counted
+        ≡ changing_left KU.lent VU.lent KU.shown VU.shown changes }
+    requires in_order { Increasing KU.order (changing_left KU.lent VU.lent KU.shown VU.shown changes) }
+    ensures strict { (keys : IsLent KU.archival K.kind KU.shown KU.order KU.lent KU.cmp) →
+        (values : IsLent VU.archival V.kind VU.shown VU.order VU.lent VU.cmp) →
+        IfOk result (λ at. WritesStrict K.kind V.kind E
+        (updated K.kind.order (entries_of K.kind V.kind M.E old.entry.view)
+        (changes_meant keys.meant values.meant
+        (changing_left KU.lent VU.lent KU.shown VU.shown changes.entry)))
+        (W.state writer.old) at (W.state writer.new)) }
+    ensures smallest { (keys : IsLent KU.archival K.kind KU.shown KU.order KU.lent KU.cmp) →
+        (values : IsLent VU.archival V.kind VU.shown VU.order VU.lent VU.cmp) →
+        IfOk result (λ at. WritesSmallest K.kind V.kind E
+        (updated K.kind.order (entries_of K.kind V.kind M.E old.entry.view)
+        (changes_meant keys.meant values.meant
+        (changing_left KU.lent VU.lent KU.shown VU.shown changes.entry)))
+        (W.state writer.old) at (W.state writer.new)) }
+    ensures err { IfErr result (λ fault. FailsToWrite K.kind V.kind E KU.archival VU.archival
+        KU.shown VU.shown (updated KU.order
+        (shown_of K.kind V.kind M.E KU.lent VU.lent old.entry.view)
+        (changing_left KU.lent VU.lent KU.shown VU.shown changes.entry))
+        (W.state writer.old) fault (W.state writer.new)) }
+    ensures went { OnOk result (OnlyAppended (W.state writer.old) (W.state writer.new)) }
+    ensures kept { OnErr result (BeginsWith (W.state writer.new) (W.state writer.old)) }
+{
+    KU::is_lent();
+    VU::is_lent();
+    let Some(len) = count(Updates::new(old, counted)) else {
+        return Err(Fault::LengthOverflow);
+    };
+    let entries = Updates::new(old, changes);
+    let root = ArchivedBTreeMap::<K, V, E>::serialize_from_ordered_iter(
+        alloc, len, entries, writer,
+    )?;
+    ArchivedBTreeMap::<K, V, E>::write_root(len, root, writer)
+}
+
+/// Writes the entries of a map after the changes of a list, if their keys increase.
+fn write_listed<'a, 'x, K, V, M, KU, VU, W, const E: usize>(
+    alloc: Global,
+    old: Strict<'a, M>,
+    changes: &'x [(KU, Change<VU>)],
+    writer: &mut W,
+) -> Result<u32, Fault<W::Error>>
+where
+    K: ViewOrd,
+    V: Portable,
+    M: ArchivedMap<Key = K, Mapped = V> + StrictEntries,
+    KU: FromArchived<'a> + Archive<Archived = K> + Serialize<W, Global>,
+    VU: FromArchived<'a> + Archive<Archived = V> + Serialize<W, Global>,
+    W: Writer,
+    requires fitting { IsTrue (are_fitting K.kind V.kind E) }
+    ensures strict { (keys : IsLent KU.archival K.kind KU.shown KU.order KU.lent KU.cmp) →
+        (values : IsLent VU.archival V.kind VU.shown VU.order VU.lent VU.cmp) →
+        IfOk result (λ at. WritesStrict K.kind V.kind E
+        (updated K.kind.order (entries_of K.kind V.kind M.E old.entry.view)
+        (changes_meant keys.meant values.meant (map (key_change KU.shown VU.shown) changes.now)))
+        (W.state writer.old) at (W.state writer.new)) }
+    ensures smallest { (keys : IsLent KU.archival K.kind KU.shown KU.order KU.lent KU.cmp) →
+        (values : IsLent VU.archival V.kind VU.shown VU.order VU.lent VU.cmp) →
+        IfOk result (λ at. WritesSmallest K.kind V.kind E
+        (updated K.kind.order (entries_of K.kind V.kind M.E old.entry.view)
+        (changes_meant keys.meant values.meant (map (key_change KU.shown VU.shown) changes.now)))
+        (W.state writer.old) at (W.state writer.new)) }
+    ensures in_order { OnOk result (Increasing KU.cmp changes.now) }
+    ensures out_of_order { (index : ℕ) → IsOutOfOrder KU.cmp changes.now index →
+        IsErrOf result (Fault.OutOfOrder index) }
+    ensures err { IfErr result (λ fault. FailsToUpdate K.kind V.kind E KU.archival VU.archival
+        KU.shown VU.shown KU.cmp changes.now (updated KU.order
+        (shown_of K.kind V.kind M.E KU.lent VU.lent old.entry.view)
+        (map (key_change KU.shown VU.shown) changes.now))
+        (W.state writer.old) fault (W.state writer.new)) }
+    ensures went { OnOk result (OnlyAppended (W.state writer.old) (W.state writer.new)) }
+    ensures kept { OnErr result (BeginsWith (W.state writer.new) (W.state writer.old)) }
+{
+    if let Some(index) = first_disorder(changes) {
+        return Err(Fault::OutOfOrder { index });
+    }
+    write_updated::<K, V, M, KU, VU, W, E>(
+        alloc,
+        old,
+        Changing::Listed(changes),
+        Changing::Listed(changes),
+        writer,
+    )
+}
+
+/// Writes the entries of a map after those of another one are put.
+fn write_merged<'a, K, V, M, KU, VU, W, const E: usize>(
+    alloc: Global,
+    old: Strict<'a, M>,
+    new: Strict<'a, M>,
+    writer: &mut W,
+) -> Result<u32, Fault<W::Error>>
+where
+    K: ViewOrd,
+    V: Portable,
+    M: ArchivedMap<Key = K, Mapped = V> + StrictEntries,
+    KU: FromArchived<'a> + Archive<Archived = K> + Serialize<W, Global> + 'a,
+    VU: FromArchived<'a> + Archive<Archived = V> + Serialize<W, Global> + 'a,
+    W: Writer,
+    requires fitting { IsTrue (are_fitting K.kind V.kind E) }
+    ensures strict { (keys : IsLent KU.archival K.kind KU.shown KU.order KU.lent KU.cmp) →
+        (values : IsLent VU.archival V.kind VU.shown VU.order VU.lent VU.cmp) →
+        IfOk result (λ at. WritesStrict K.kind V.kind E
+        (updated K.kind.order (entries_of K.kind V.kind M.E old.entry.view)
+        (changes_meant keys.meant values.meant (all_put (shown_of K.kind V.kind M.E KU.lent VU.lent new.entry.view))))
+        (W.state writer.old) at (W.state writer.new)) }
+    ensures smallest { (keys : IsLent KU.archival K.kind KU.shown KU.order KU.lent KU.cmp) →
+        (values : IsLent VU.archival V.kind VU.shown VU.order VU.lent VU.cmp) →
+        IfOk result (λ at. WritesSmallest K.kind V.kind E
+        (updated K.kind.order (entries_of K.kind V.kind M.E old.entry.view)
+        (changes_meant keys.meant values.meant (all_put (shown_of K.kind V.kind M.E KU.lent VU.lent new.entry.view))))
+        (W.state writer.old) at (W.state writer.new)) }
+    ensures err { IfErr result (λ fault. FailsToWrite K.kind V.kind E KU.archival VU.archival
+        KU.shown VU.shown (updated KU.order
+        (shown_of K.kind V.kind M.E KU.lent VU.lent old.entry.view) (all_put (shown_of K.kind V.kind M.E KU.lent VU.lent new.entry.view)))
+        (W.state writer.old) fault (W.state writer.new)) }
+    ensures went { OnOk result (OnlyAppended (W.state writer.old) (W.state writer.new)) }
+    ensures kept { OnErr result (BeginsWith (W.state writer.new) (W.state writer.old)) }
+{
+    write_updated::<K, V, M, KU, VU, W, E>(
+        alloc,
+        old,
+        Changing::puts(new),
+        Changing::puts(new),
+        writer,
+    )
+}
+
+/// Serializes the entries of a strict map after changes as a new map, with the root after its tree, and returns the root's
+/// position. A key that is put has the new value, a key that is deleted has no entry, and each other key keeps its value. The
+/// old map and the changes are read twice, to count the entries and to write them, after the order of the changes is tested. No
+/// value is allocated.
+///
+/// # Errors
+///
+/// - `Fault::OutOfOrder` with the index of the first change whose key isn't greater than the key before it. Nothing is written.
+/// - `Fault::LengthOverflow` if there are more than 4294967295 entries after the changes. Nothing is written.
+/// - Those of serializing the entries. The writer's contents begin with the old ones.
+pub fn update<'a, 'x, K, V, KU, VU, W, const E: usize>(
+    alloc: Global,
+    old: StrictView<'a, K, V, E>,
+    changes: &'x [(KU, Change<VU>)],
+    writer: &mut W,
+) -> Result<u32, Fault<W::Error>>
+where
+    K: ViewOrd,
+    V: Portable,
+    KU: FromArchived<'a> + Archive<Archived = K> + Serialize<W, Global>,
+    VU: FromArchived<'a> + Archive<Archived = V> + Serialize<W, Global>,
+    W: Writer,
+    requires fitting { IsTrue (are_fitting K.kind V.kind E) }
+    // The writer's bytes are a strict map of the old entries after the changes, at the returned position.
+    ensures strict { (keys : IsLent KU.archival K.kind KU.shown KU.order KU.lent KU.cmp) →
+        (values : IsLent VU.archival V.kind VU.shown VU.order VU.lent VU.cmp) →
+        IfOk result (λ at. WritesStrict K.kind V.kind E
+        (updated K.kind.order (entries_of K.kind V.kind E old.entry.view)
+        (changes_meant (meaning KU.archival keys.same) (meaning VU.archival values.same)
+        changes.now)) (W.state writer.old) at (W.state writer.new)) }
+    // No accepted map with as many entries has fewer nodes, node bytes or levels.
+    ensures smallest { (keys : IsLent KU.archival K.kind KU.shown KU.order KU.lent KU.cmp) →
+        (values : IsLent VU.archival V.kind VU.shown VU.order VU.lent VU.cmp) →
+        IfOk result (λ at. WritesSmallest K.kind V.kind E
+        (updated K.kind.order (entries_of K.kind V.kind E old.entry.view)
+        (changes_meant (meaning KU.archival keys.same) (meaning VU.archival values.same)
+        changes.now)) (W.state writer.old) at (W.state writer.new)) }
+    // The keys of the changes increase, or the error has the index of the first one that is out of order.
+    ensures in_order { OnOk result (Increasing KU.cmp changes.now) }
+    ensures out_of_order { (index : ℕ) → IsOutOfOrder KU.cmp changes.now index →
+        IsErrOf result (Fault.OutOfOrder index) }
+    // Each error's cause is there.
+    ensures err { IfErr result (λ fault. FailsToUpdate K.kind V.kind E KU.archival VU.archival
+        KU.shown VU.shown KU.cmp changes.now (updated KU.order
+        (shown_of K.kind V.kind E KU.lent VU.lent old.entry.view)
+        (map (key_change KU.shown VU.shown) changes.now)) (W.state writer.old) fault
+        (W.state writer.new)) }
+    // On success no write has failed, and bytes were only appended.
+    ensures went { OnOk result (OnlyAppended (W.state writer.old) (W.state writer.new)) }
+    // After any error the contents begin with the old ones.
+    ensures kept { OnErr result (BeginsWith (W.state writer.new) (W.state writer.old)) }
+{
+    write_listed::<K, V, ArchivedBTreeMap<K, V, E>, KU, VU, W, E>(alloc, old, changes, writer)
+}
+
+/// Serializes the entries of two strict maps as one map, with the root after its tree, and returns the root's position. Of a
+/// key that both have, the value is the second map's. Both maps are read twice. No value is allocated.
+///
+/// # Errors
+///
+/// Those of `update`. No error is `Fault::OutOfOrder`.
+pub fn merge<'a, K, V, KU, VU, W, const E: usize>(
+    alloc: Global,
+    first: StrictView<'a, K, V, E>,
+    second: StrictView<'a, K, V, E>,
+    writer: &mut W,
+) -> Result<u32, Fault<W::Error>>
+where
+    K: ViewOrd,
+    V: Portable,
+    KU: FromArchived<'a> + Archive<Archived = K> + Serialize<W, Global> + 'a,
+    VU: FromArchived<'a> + Archive<Archived = V> + Serialize<W, Global> + 'a,
+    W: Writer,
+    requires fitting { IsTrue (are_fitting K.kind V.kind E) }
+    // The writer's bytes are a strict map of the first map's entries after those of the second are put, at the returned position.
+    ensures strict { (keys : IsLent KU.archival K.kind KU.shown KU.order KU.lent KU.cmp) →
+        (values : IsLent VU.archival V.kind VU.shown VU.order VU.lent VU.cmp) →
+        IfOk result (λ at. WritesStrict K.kind V.kind E
+        (updated K.kind.order (entries_of K.kind V.kind E first.entry.view)
+        (all_put (entries_of K.kind V.kind E second.entry.view)))
+        (W.state writer.old) at (W.state writer.new)) }
+    // No accepted map with as many entries has fewer nodes, node bytes or levels.
+    ensures smallest { (keys : IsLent KU.archival K.kind KU.shown KU.order KU.lent KU.cmp) →
+        (values : IsLent VU.archival V.kind VU.shown VU.order VU.lent VU.cmp) →
+        IfOk result (λ at. WritesSmallest K.kind V.kind E
+        (updated K.kind.order (entries_of K.kind V.kind E first.entry.view)
+        (all_put (entries_of K.kind V.kind E second.entry.view)))
+        (W.state writer.old) at (W.state writer.new)) }
+    // Each error's cause is there.
+    ensures err { IfErr result (λ fault. FailsToWrite K.kind V.kind E KU.archival VU.archival
+        KU.shown VU.shown (updated KU.order
+        (shown_of K.kind V.kind E KU.lent VU.lent first.entry.view)
+        (all_put (shown_of K.kind V.kind E KU.lent VU.lent second.entry.view))) (W.state writer.old) fault
+        (W.state writer.new)) }
+    // On success no write has failed, and bytes were only appended.
+    ensures went { OnOk result (OnlyAppended (W.state writer.old) (W.state writer.new)) }
+    // After any error the contents begin with the old ones.
+    ensures kept { OnErr result (BeginsWith (W.state writer.new) (W.state writer.old)) }
+{
+    write_merged::<K, V, ArchivedBTreeMap<K, V, E>, KU, VU, W, E>(alloc, first, second, writer)
+}

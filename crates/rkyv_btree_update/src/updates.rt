@@ -1,0 +1,133 @@
+//! The entries of a map after changes, one after another.
+ghost use Rattle.std.specs.Iterator.{YieldsFirst, item_count};
+ghost use Rattle.std.specs.Option.{option_map};
+ghost use Rattle.std.specs.Prelude.{◌≡◌};
+ghost use Rattle.rkyv_btree_update.specs.Natives.{both, shown_of};
+ghost use Rattle.rkyv_btree_update.specs.mirror.Merged.{AreOrdered, Steps, changing_left, entry_put, merged, new_left, old_left};
+
+use crate::change::Change;
+use crate::changing::Changing;
+use crate::entries::Entries;
+use crate::from_archived::FromArchived;
+use rkyv_btree_base::archive::Archive;
+use rkyv_btree_base::check::Portable;
+use rkyv_btree_strict::strict_map::{Strict, StrictEntries};
+use rkyv_btree_view::compare::ViewOrd;
+use rkyv_btree_walk::archived_map::ArchivedMap;
+use std::cmp::Ordering;
+
+/// The entries of a strict map after changes whose keys increase: a merge of both.
+#[derive(Drop)]
+pub(crate) struct Updates<'a, 'x, M: ArchivedMap, KU, VU> {
+    entries: Entries<'a, M, KU, VU>,
+    /// The next change.
+    change: Option<(KU, Change<VU>)>,
+    /// Those after it.
+    changes: Changing<'a, 'x, M, KU, VU>,
+}
+
+/// Returns the entry of a key after a change, if there is one.
+fn put_entry<KU: Drop, VU: Drop>(key: KU, change: Change<VU>) -> Option<Option<(KU, VU)>>
+    ensures { result ≡ entry_put key change }
+{
+    match change {
+        Change::Put(value) => Some(Some((key, value))),
+        Change::Delete => None,
+    }
+}
+
+impl<'a, 'x, K, V, M, KU, VU> Updates<'a, 'x, M, KU, VU>
+where
+    K: ViewOrd,
+    V: Portable,
+    M: ArchivedMap<Key = K, Mapped = V> + StrictEntries,
+    KU: FromArchived<'a> + Archive<Archived = K>,
+    VU: FromArchived<'a> + Archive<Archived = V>,
+{
+    /// Returns the merge of a map's entries and of changes.
+    pub(crate) fn new(
+        view: Strict<'a, M>,
+        changes: Changing<'a, 'x, M, KU, VU>,
+    ) -> Updates<'a, 'x, M, KU, VU>
+        ensures old { old_left KU.lent VU.lent KU.shown VU.shown result
+            ≡ shown_of K.kind V.kind M.E KU.lent VU.lent view.entry.view }
+        ensures new { new_left KU.lent VU.lent KU.shown VU.shown result
+            ≡ changing_left KU.lent VU.lent KU.shown VU.shown changes.entry }
+    {
+        let mut changes = changes;
+        Updates {
+            entries: Entries::of(view),
+            change: changes.take(),
+            changes,
+        }
+    }
+
+    /// Passes over the next change, if there is one.
+    fn pass_change(&mut self)
+        ensures rest { new_left KU.lent VU.lent KU.shown VU.shown self.new
+            ≡ changing_left KU.lent VU.lent KU.shown VU.shown self.old.changes }
+        ensures entries { self.new.entries ≡ self.old.entries }
+    {
+        self.change = self.changes.take();
+    }
+
+    /// Takes the next entry, or passes over a change that deletes.
+    fn step(&mut self) -> Option<Option<(KU, VU)>>
+        requires { AreOrdered KU.order (old_left KU.lent VU.lent KU.shown VU.shown)
+            (new_left KU.lent VU.lent KU.shown VU.shown)
+            self.old }
+        ensures { Steps KU.order (old_left KU.lent VU.lent KU.shown VU.shown)
+            (new_left KU.lent VU.lent KU.shown VU.shown)
+            self.old (option_map (option_map (both KU.shown VU.shown)) result) self.new }
+    {
+        KU::is_lent();
+        let Some((key, change)) = self.change else {
+            return Some(self.entries.take());
+        };
+        let Some((own, _)) = self.entries.next else {
+            self.pass_change();
+            return put_entry(key, change);
+        };
+        match own.cmp(&key) {
+            Ordering::Less => Some(self.entries.take()),
+            Ordering::Equal => {
+                let _ = self.entries.take();
+                self.pass_change();
+                put_entry(own, change)
+            }
+            Ordering::Greater => {
+                self.pass_change();
+                put_entry(key, change)
+            }
+        }
+    }
+}
+
+impl<'a, 'x, K, V, M, KU, VU> Iterator for Updates<'a, 'x, M, KU, VU>
+where
+    K: ViewOrd,
+    V: Portable,
+    M: ArchivedMap<Key = K, Mapped = V> + StrictEntries,
+    KU: FromArchived<'a> + Archive<Archived = K>,
+    VU: FromArchived<'a> + Archive<Archived = V>,
+{
+    type Item = (KU, VU);
+
+    ghost can_next = { AreOrdered KU.order (old_left KU.lent VU.lent KU.shown VU.shown)
+        (new_left KU.lent VU.lent KU.shown VU.shown) };
+
+    ghost next_gives = { λ s r t. YieldsFirst (merged KU.order
+        (old_left KU.lent VU.lent KU.shown VU.shown) (new_left KU.lent VU.lent KU.shown VU.shown))
+        s (option_map (both KU.shown VU.shown) r) t };
+
+    ghost remaining = { item_count (merged KU.order
+        (old_left KU.lent VU.lent KU.shown VU.shown) (new_left KU.lent VU.lent KU.shown VU.shown)) };
+
+    fn next(&mut self) -> Option<(KU, VU)> {
+        loop {
+            if let Some(item) = self.step() {
+                return item;
+            }
+        }
+    }
+}

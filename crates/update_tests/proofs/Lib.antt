@@ -1,0 +1,2 @@
+-- What is found after changes of numbers.
+pub mod Found
