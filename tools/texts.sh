@@ -163,6 +163,186 @@ unbuilt 'btreekv: input failed' .
 TMPDIR=$work/absent unbuilt 'btreekv: input failed' < bad
 [[ -z $(ls spool) ]] || fail "a temporary file is left: $(ls spool)"
 
+# Updates, merges and differences. What is expected is computed in Python, by a dict, and built from its lines. The tree is the smallest,
+# so archives of one list have the same bytes.
+cat > dict.py <<'E'
+import sys
+def entries(path):
+    return dict(line.split("\t", 1) for line in open(path, encoding="utf-8").read().split("\n")[:-1])
+words = sys.argv[1:]
+if words[0] == "update":
+    new = entries(words[1])
+    for line in sys.stdin.read().split("\n"):
+        key, tab, value = line.partition("\t")
+        if tab:
+            new[key] = value
+        elif line:
+            new.pop(key, None)
+else:
+    new = {}
+    for path in words[1:]:
+        new.update(entries(path))
+sys.stdout.write("".join(f"{key}\t{new[key]}\n" for key in sorted(new, key=str.encode)))
+E
+
+# A case of an update: the lines of the old archive and of the changes with escapes, and words of update.
+updates() {
+    printf '%b' "$1" > old.lines
+    printf '%b' "$2" > changes
+    "$program" build --strict old.lines > old
+    python3 dict.py update old.lines < changes > new.lines
+    "$program" build --strict new.lines > expected
+    "$program" update "${@:3}" old changes > written 2> said || fail "update ${2@Q}: $(cat said)"
+    cmp -s written expected || fail "update ${2@Q}: another archive"
+    [[ ! -s said ]] || fail "update ${2@Q}: on standard error: $(cat said)"
+    "$program" update "${@:3}" old < changes | cmp -s - expected || fail "update ${2@Q}: another archive of standard input"
+    "$program" diff old expected > changes
+    "$program" update old changes | cmp -s - expected || fail "update ${2@Q}: another archive by the difference"
+    "$program" diff expected expected | cmp -s - /dev/null || fail "update ${2@Q}: a difference of an archive from itself"
+}
+fruits='apple\tred\nfig\tblue\npear\tyellow\n'
+updates ''        ''
+updates ''        'a\t1\nb\nc\t3\n'
+updates "$fruits" ''
+updates "$fruits" 'a\tfirst\n'
+updates "$fruits" 'banana\tyellow'
+updates "$fruits" 'quince\tlast\n'
+updates "$fruits" 'fig\tgreen\n'
+updates "$fruits" 'fig\tblue\n'
+updates "$fruits" 'fig\t\n'
+updates "$fruits" 'fig\n'
+updates "$fruits" 'apple\nfig\npear\n'
+updates "$fruits" 'a\nbanana\nzebra\n'
+updates "$fruits" 'a\t1\napple\nbanana\t2\nfig\tgreen\npear\nquince\t3'
+updates "$fruits" 'fig\tone\ttwo\n'
+updates "$fruits" 'pear\t1\nfig\t2\npear\napple\t4\nfig\t5\n' --sort
+updates "$fruits" 'fig\nfig\t1\n' --sort
+updates "$fruits" 'fig\t1\nfig\n' --sort
+updates "$fruits" 'zoo\t1\na\t2\n' --sort
+updates '\xc3\xa4\t1\n' '\xc3\xa4\t2\n\xf0\x9d\x84\x9e\t3\n'
+
+# an empty line deletes the empty key; and lines that diff prints
+printf '\tv\na\t1\nb\t2\n' | "$program" build > old
+printf '\n' | "$program" update old | "$program" list | cmp -s - <(printf 'a\t1\nb\t2\n') || fail "the empty key is not deleted"
+printf 'a\t1\nb\t3\nc\t4\n' | "$program" build > new
+"$program" diff old new | cmp -s - <(printf '\nb\t3\nc\t4\n') || fail "diff: other lines"
+
+# A case of an error: the message, standard input with escapes, and the words. Nothing is written.
+refuses() {
+    local got=0
+    printf '%b' "$2" | "$program" "${@:3}" > written 2> said || got=$?
+    [[ $got == 2 && $(head -n 1 said) == "$1" && ! -s written ]] || fail "words ${*:3}: status $got: $(cat said)"
+}
+printf 'b\t1\na\t2\n' | "$program" build > unsorted
+printf 'abc' > short
+refuses 'btreekv: line 2: out of order' 'b\t1\na\t2\nc\t3\n' update old
+refuses 'btreekv: line 3: out of order' 'b\nc\nb\nd\n' update old
+refuses 'btreekv: line 4: out of order' 'a\nb\nc\nb\n' update old
+refuses 'btreekv: line 2: out of order' 'b\t1\nb\t2\n' update old
+refuses 'btreekv: line 1: not UTF-8' '\xff\na\n' update old
+refuses 'btreekv: line 2: not UTF-8' 'a\nb\t\xff\nc\n' update --sort old
+refuses 'btreekv: refused: unsorted: entry 1 is out of order' '' update unsorted
+refuses 'btreekv: refused: short: position 0 is out of range' '' update short
+refuses 'btreekv: refused: unsorted: entry 1 is out of order' '' diff old unsorted
+refuses 'btreekv: refused: unsorted: entry 1 is out of order' '' diff unsorted short
+refuses 'btreekv: refused: unsorted: entry 1 is out of order' '' merge old new unsorted short
+refuses 'btreekv: refused: short: position 0 is out of range' '' merge short unsorted
+refuses 'btreekv: refused: unsorted: entry 1 is out of order' '' merge old unsorted
+refuses 'btreekv: input failed: absent' '' merge old absent
+refuses 'btreekv: input failed: absent' '' update absent
+refuses 'btreekv: input failed: absent' '' update old absent
+refuses 'btreekv: input failed: absent' '' diff absent old
+refuses 'error: the following required arguments were not provided:' '' merge old
+
+# merges
+printf 'a\t1\nc\t1\ne\t1\n' > first.lines
+printf 'b\t2\nc\t2\nd\t2\n' > second.lines
+printf 'c\t3\nd\t3\nf\t3\n' > third.lines
+printf '' > none.lines
+for name in first second third none; do "$program" build "$name.lines" > "$name"; done
+merges() {
+    python3 dict.py merge "${@/%/.lines}" | "$program" build > expected
+    "$program" merge "$@" | cmp -s - expected || fail "merge $*: another archive"
+}
+merges first second
+merges second first
+merges first second third
+merges third second first
+merges third second first second none
+merges none none
+merges none first
+
+# 20000 entries, and some 3000 changes
+awk 'NR % 7 == 3 { print $0 " again" } NR % 11 == 5 { print substr($0, 1, 10) } NR % 13 == 1 { print substr($0, 1, 9) "\tnew" }' many \
+    | sort -s -t $'\t' -k 1,1 | awk -F '\t' '$1 != last { print; last = $1 }' > changes
+python3 dict.py update many < changes | "$program" build --strict > expected
+"$program" update archive changes -o changed || fail "20000 lines: not updated"
+cmp -s changed expected || fail "20000 lines: updated otherwise"
+"$program" diff archive changed | "$program" update archive | cmp -s - changed || fail "20000 lines: another difference"
+tac changes | "$program" update --sort archive | cmp -s - changed || fail "20000 lines: sorted otherwise"
+
+# Files that are written: an old one is replaced and keeps its mode, an input may be the output, and an error changes nothing.
+mkdir files
+printf 'old' > files/out
+chmod 640 files/out
+"$program" build -o files/out many || fail "-o: not built"
+cmp -s files/out archive && [[ $(stat -c %a files/out) == 640 ]] || fail "-o: another file or mode"
+(umask 027 && "$program" build --output files/new many)
+cmp -s files/new archive && [[ $(stat -c %a files/new) == 640 ]] || fail "-o: another new file or mode"
+"$program" update files/out changes -o files/out && cmp -s files/out changed || fail "-o: an input that is the output"
+"$program" merge files/out first -o files/out && "$program" merge changed first | cmp -s - files/out || fail "-o: merged into an input"
+"$program" list files/out > listed
+"$program" build --sort listed -o listed && cmp -s listed files/out || fail "-o: lines that are replaced by their archive"
+ln -s out files/link
+"$program" build many -o files/link && [[ -L files/link ]] && cmp -s files/out archive || fail "-o: a link"
+"$program" build many -o /dev/stdout | cat | cmp -s - archive || fail "-o: a pipe"
+refuses 'btreekv: line 1: not KEY TAB VALUE' 'no entry\n' build -o files/out
+refuses 'btreekv: not built: entry 1 is out of order' 'b\t1\na\t1\n' build --strict -o files/out
+refuses 'btreekv: line 2: out of order' 'b\na\n' update archive -o files/out
+refuses 'btreekv: output failed' '' update archive -o absent/out
+refuses 'btreekv: output failed' '' build -o files
+if [[ $(id -u) != 0 ]]; then
+    chmod 500 files
+    refuses 'btreekv: output failed' '' build -o files/out
+    refuses 'btreekv: output failed' '' build -o files/other
+    chmod 700 files
+fi
+if [[ -e /dev/full ]]; then
+    refuses 'btreekv: output failed' '' update archive -o /dev/full
+fi
+cmp -s files/out archive || fail "-o: another file after an error"
+[[ $(ls -A files | tr '\n' ' ') == 'link new out ' ]] || fail "-o: left in the folder: $(ls -A files)"
+
+# a kill at any moment leaves the old file or the new one
+cat > killed.py <<'E'
+import random, signal, subprocess, sys, time
+program, old, new, out = sys.argv[1:5]
+words = sys.argv[5:]
+read = lambda path: open(path, "rb").read()
+begun = time.monotonic()
+subprocess.run([program, *words], check=True)
+whole = time.monotonic() - begun
+moments = random.Random(58)
+seen = set()
+for _ in range(24):
+    with open(out, "wb") as file:
+        file.write(read(old))
+    child = subprocess.Popen([program, *words])
+    time.sleep(moments.random() * whole * 1.2)
+    child.send_signal(signal.SIGKILL)
+    child.wait()
+    held = read(out)
+    if held not in (read(old), read(new)):
+        sys.exit("killed: another file")
+    seen.add(held == read(new))
+if False not in seen:
+    sys.exit("killed: no run was killed in time")
+E
+python3 killed.py "$program" archive large files/out build -o files/out million 2> said || fail "$(cat said)"
+printf '1500000\n' > changes
+"$program" update large changes > expected
+python3 killed.py "$program" archive expected files/out update -o files/out large changes 2> said || fail "$(cat said)"
+
 # after a second of reading, standard error says how much was read if it is a terminal, and only then
 python3 -c '
 import os, pty, subprocess, sys, time

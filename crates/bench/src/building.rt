@@ -4,6 +4,7 @@
 use crate::maps::write;
 use crate::numbers::{Map, entries, entry};
 use crate::report::Report;
+use crate::updating;
 use anyhow::{Context, ensure};
 use rkyv_btree_base::archive::{Archive, Serialize};
 use rkyv_btree_base::check::Portable;
@@ -70,12 +71,13 @@ where
     Ok(())
 }
 
-/// Times the building of a map of numbers, and of one of texts to numbers.
+/// Times the building of a map of numbers, and of one of texts to numbers, and their updates.
 pub fn measure(report: &Report, alloc: Global) -> anyhow::Result<()> {
     let numbers = entries(alloc, report.count)?;
     measure_entries(report, alloc, "build", numbers.as_slice())?;
     let texts = texts(alloc, report.count)?;
-    measure_entries(report, alloc, "build of texts", texts.as_slice())
+    measure_entries(report, alloc, "build of texts", texts.as_slice())?;
+    updating::measure(report, alloc, texts.as_slice())
 }
 
 /// Writes a map of so many entries to a file, each computed when the builder takes it, and returns the map's position.

@@ -14,6 +14,7 @@ mod numbers;
 mod report;
 mod std_maps;
 mod unverified;
+mod updating;
 mod writes;
 
 use crate::maps::write;

@@ -1,5 +1,5 @@
 -- Two numbers at the front of bytes, and lines that are such.
-use Rattle.std.proofs.Common.{◌≡◌, ℕ, ◌-◌, List, [], ◌∷◌, ◌++◌, length, take, true, Option, Some, None, refl, sym, ap, subst, ◌∙◌, arith, append_assoc, append-nil}
+use Rattle.std.proofs.Common.{◌≡◌, ℕ, ◌-◌, List, [], ◌∷◌, ◌++◌, length, take, drop, get_or, true, Option, Some, None, refl, sym, ap, subst, ◌∙◌, arith, append_assoc, append-nil}
 use Rattle.std.proofs.lemmas.List.{length-append, take-append-le, take_all}
 use Rattle.std.specs.Io.KnownBytes.{Consumes, Keeps}
 use Rattle.btreearc_lines.specs.Grammar.{lines, IsEntry}
@@ -13,6 +13,14 @@ use Rattle.btreearc_lines.proofs.Splitting.{NoFeed, digits-no_feed, nil_feed, li
 
 pub no_space : (bytes space : List ℕ) (k : ℕ) → NumberFirst bytes k space → ((rest : List ℕ) → space ≡ 32 ∷ rest → ⊥) → (x : ℕ × ℕ) (rest : List ℕ) → PairFirst bytes x rest → ⊥
 no_space bytes space k p none x rest e = none e.after_space ((number_once bytes k x.0 space e.space p e.key).1 ∙ e.one_space)
+
+-- a list that begins with a space, by what is read there
+pub space_first : (space : List ℕ) → get_or space 0 0 ≡ 32 → space ≡ 32 ∷ take (length space - 1) (drop 1 space)
+space_first [] first = absurd (omega (arith, first))
+space_first (c ∷ cs) first =
+    let rest : take (length cs) cs ≡ cs = take_all (length cs) cs (omega arith) in
+    let size : length (c ∷ cs) - 1 ≡ length cs = omega arith in
+    rw (first, size, rest) refl
 
 same_digits : (bytes space digits : List ℕ) (k : ℕ) → NumberFirst bytes k space → space ≡ 32 ∷ digits → (x : ℕ × ℕ) (rest : List ℕ) → (e : PairFirst bytes x rest) → e.after_space ≡ digits
 same_digits bytes space digits k p one x rest e =

@@ -1,8 +1,8 @@
 -- What reading from the left finds.
-use Rattle.std.specs.Prelude.{◌≡◌, ℕ, ◌+◌, Bool, true, false, List, [], ◌∷◌, ◌++◌, Option, Some, None, IfSome, Result, Ok, Err}
+use Rattle.std.specs.Prelude.{◌≡◌, ℕ, ◌+◌, ◌<◌, ◌≤◌, Bool, true, false, List, [], ◌∷◌, ◌++◌, length, take, Option, Some, None, IfSome, Result, Ok, Err}
 use Rattle.std.specs.Io.KnownBytes.{Keeps}
 use Rattle.btreearc_lines.specs.Faults.{IsReadFault}
-use Rattle.btreearc_lines.specs.Grammar.{lines, IsDigit, IsEntry, IsNumber}
+use Rattle.btreearc_lines.specs.Grammar.{lines, AreDigits, IsDigit, IsEntry, IsNumber, value_after}
 use Rattle.btreearc_lines.specs.declared.entries.NextLine.{NextLine}
 use Rattle.btreearc_lines.specs.declared.entries.NextLine.TheVariants.{Entry, Bad, End}
 use Rattle.btreearc_lines.specs.declared.fault.ProgramFault.{ProgramFault}
@@ -11,6 +11,19 @@ use Rattle.btreearc_lines.specs.declared.fault.ProgramFault.{ProgramFault}
 abbrev pub NoDigitFirst : List ℕ → Type 0
 NoDigitFirst [] = Unit {0}
 NoDigitFirst (c ∷ cs) = IsDigit c → ⊥
+
+-- no more than ten bytes at the front are digits with this value
+pub record ReadDigits (bytes : List ℕ) (len value : ℕ) : Type 0 where
+  pub within : len ≤ length bytes
+  pub few : len ≤ 10
+  pub digits : AreDigits (take len bytes)
+  pub value_is : value_after 0 (take len bytes) ≡ value
+
+-- ten, or the number of all bytes if they are fewer
+pub record IsMost (bytes : List ℕ) (most : ℕ) : Type 0 where
+  pub within : most ≤ length bytes
+  pub few : most ≤ 10
+  pub all : most < 10 → length bytes ≡ most
 
 -- all digits at the front are a number, and rest is after them
 pub record NumberFirst (bytes : List ℕ) (n : ℕ) (rest : List ℕ) : Type 0 where

@@ -6,7 +6,7 @@ ghost use Rattle.btreearc_lines.specs.Grammar.{IsEntry};
 ghost use Rattle.btreearc_lines.specs.Reading.{GivesItem, ReadsNext, TakesAtHand, TakesLine};
 
 use crate::fault::ProgramFault;
-use crate::lines::{entry_of, first_pair};
+use crate::lines::{LONGEST_LINE, entry_of, first_pair, pair_within};
 use crate::streams::{read_fault, read_line};
 use std::alloc::Global;
 use std::io;
@@ -28,7 +28,6 @@ pub enum NextLine {
 /// # Errors
 ///
 /// Those of the reader. Nothing is taken then.
-#[inline(always)]
 fn take_at_hand<B: BufRead>(input: &mut B) -> io::Result<Option<(u32, u32)>>
     ensures { TakesAtHand (B.remaining input.old) result (B.remaining input.new) }
 {
@@ -47,6 +46,37 @@ fn take_at_hand<B: BufRead>(input: &mut B) -> io::Result<Option<(u32, u32)>>
     }
     let count = bytes.len() - after.len();
     input.consume(count);
+    Ok(Some(entry))
+}
+
+/// Takes the next line as `take_at_hand` does, if the reader has so many bytes at hand that no line of an entry is longer. Otherwise
+/// nothing is taken. Most lines are taken here.
+///
+/// # Errors
+///
+/// Those of the reader. Nothing is taken then.
+#[inline(always)]
+fn take_with_room<B: BufRead>(input: &mut B) -> io::Result<Option<(u32, u32)>>
+    ensures { TakesAtHand (B.remaining input.old) result (B.remaining input.new) }
+{
+    let bytes = match input.fill_buf() {
+        Ok(bytes) => bytes,
+        Err(error) => return Err(error),
+    };
+    if bytes.len() < LONGEST_LINE {
+        return Ok(None);
+    }
+    let Some((entry, rest)) = pair_within(bytes) else {
+        return Ok(None);
+    };
+    let Some((first, after)) = rest.split_first() else {
+        return Ok(None);
+    };
+    if *first != b'\n' {
+        return Ok(None);
+    }
+    let taken = bytes.len() - after.len();
+    input.consume(taken);
     Ok(Some(entry))
 }
 
@@ -72,6 +102,33 @@ fn read_whole<B: BufRead>(input: &mut B, line: &mut Vec<u8>) -> Result<NextLine,
     }
 }
 
+/// Reads the next line as `next_line` does, wherever the reader's bytes end.
+///
+/// # Errors
+///
+/// Those of `next_line`.
+#[inline(never)]
+fn next_without_room<B: BufRead>(
+    input: &mut B,
+    line: &mut Vec<u8>,
+) -> Result<NextLine, ProgramFault>
+    ensures next { IfOk result (λ next.
+        ReadsNext (B.remaining input.old) next (B.remaining input.new)) }
+    ensures err { IfErr result IsReadFault }
+{
+    match take_at_hand(input) {
+        Ok(Some(found)) => return Ok(NextLine::Entry(found)),
+        Ok(None) => {}
+        Err(error) => {
+            // `read_line` tries again where a read was interrupted
+            if error.kind() != ErrorKind::Interrupted {
+                return Err(read_fault(&error));
+            }
+        }
+    }
+    read_whole(input, line)
+}
+
 /// Reads the next line, and returns what it is. The last line may lack its line feed. `line` is a buffer for lines that the reader
 /// doesn't have at hand.
 ///
@@ -84,17 +141,17 @@ pub fn next_line<B: BufRead>(input: &mut B, line: &mut Vec<u8>) -> Result<NextLi
         ReadsNext (B.remaining input.old) next (B.remaining input.new)) }
     ensures err { IfErr result IsReadFault }
 {
-    match take_at_hand(input) {
+    match take_with_room(input) {
         Ok(Some(entry)) => return Ok(NextLine::Entry(entry)),
         Ok(None) => {}
         Err(error) => {
-            // `read_line` tries again where a read was interrupted
+            // a read that was interrupted is tried again below
             if error.kind() != ErrorKind::Interrupted {
                 return Err(read_fault(&error));
             }
         }
     }
-    read_whole(input, line)
+    next_without_room(input, line)
 }
 
 /// Returns the entry of the next line.

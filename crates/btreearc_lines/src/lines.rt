@@ -1,30 +1,91 @@
 //! Entries in lines of two numbers.
-ghost use Rattle.std.specs.Prelude.{◌≡◌, ℕ, List, ◌∷◌, IfSome, IfNone};
-ghost use Rattle.btreearc_lines.specs.Grammar.{IsEntry, IsNumber};
-ghost use Rattle.btreearc_lines.specs.Reading.{NumberFirst, PairFirst};
+ghost use Rattle.std.specs.Prelude.{◌≡◌, ℕ, ◌-◌, ◌<◌, ◌≤◌, List, ◌∷◌, length, get_or, true, false, IfSome, IfNone};
+ghost use Rattle.btreearc_lines.specs.Grammar.{IsDigit, IsEntry, IsNumber};
+ghost use Rattle.btreearc_lines.specs.Reading.{IsMost, NumberFirst, PairFirst, ReadDigits};
 
-/// The number of all digits at the front, and what is after them.
+/// The most digits of a number.
+const MOST_DIGITS: usize = 10;
+
+/// A line of two numbers that has its line feed is no longer than this.
+pub(crate) const LONGEST_LINE: usize = 22;
+
+/// The value of a digit.
 #[inline(always)]
-fn first_number(bytes: &[u8]) -> Option<(u32, &[u8])>
-    ensures found { IfSome result (λ r. NumberFirst bytes.now r.0 r.1.now) }
-    ensures none { IfNone result ((n : ℕ) (rest : List ℕ) → NumberFirst bytes.now n rest → ⊥) }
+fn digit_of(byte: u8) -> Option<u64>
+    ensures found { IfSome result (λ d. IsDigit byte × (d ≡ byte - 48)) }
+    ensures none { IfNone result (¬ IsDigit byte) }
+{
+    let digit = u64::from(byte).wrapping_sub(48);
+    if digit > 9 {
+        return None;
+    }
+    Some(digit)
+}
+
+/// Whether the byte at a position is a digit. There is none past the end.
+fn is_digit_at(bytes: &[u8], at: usize) -> bool
+    ensures digit { result ≡ true → IsDigit (get_or bytes.now at 0) }
+    ensures other { result ≡ false → ¬ IsDigit (get_or bytes.now at 0) }
+{
+    match bytes.get(at) {
+        Some(byte) => byte.is_ascii_digit(),
+        None => false,
+    }
+}
+
+/// The value of the digits at the front, and how many they are: no more than 10. `most` is 10, or the number of bytes if they are fewer.
+#[inline(always)]
+fn digits_in(bytes: &[u8], most: usize) -> (u64, usize)
+    requires most { IsMost bytes.now most }
+    ensures digits { ReadDigits bytes.now result.1 result.0 }
+    ensures end { result.1 < 10 → ¬ IsDigit (get_or bytes.now result.1 0) }
 {
     let mut value: u64 = 0;
     let mut len: usize = 0;
-    while len < bytes.len() && bytes[len].is_ascii_digit() {
-        if len == 10 {
-            return None;
+    while len < most {
+        match digit_of(bytes[len]) {
+            Some(digit) => {
+                value = value * 10 + digit;
+                len += 1;
+            }
+            None => return (value, len),
         }
-        value = value * 10 + u64::from(bytes[len] - b'0');
-        len += 1;
     }
+    (value, len)
+}
+
+/// The number of all digits at the front, and what is after them. `most` is as above.
+#[inline(always)]
+fn number_in(bytes: &[u8], most: usize) -> Option<(u32, &[u8])>
+    requires most { IsMost bytes.now most }
+    ensures found { IfSome result (λ r. NumberFirst bytes.now r.0 r.1.now) }
+    ensures none { IfNone result ((n : ℕ) (rest : List ℕ) → NumberFirst bytes.now n rest → ⊥) }
+{
+    let (value, len) = digits_in(bytes, most);
     if len == 0 {
+        return None;
+    }
+    if len < MOST_DIGITS {
+        return Some((value as u32, &bytes[len..]));
+    }
+    if is_digit_at(bytes, len) {
         return None;
     }
     if value > 4294967295 {
         return None;
     }
     Some((value as u32, &bytes[len..]))
+}
+
+/// The number of all digits at the front, and what is after them.
+fn first_number(bytes: &[u8]) -> Option<(u32, &[u8])>
+    ensures found { IfSome result (λ r. NumberFirst bytes.now r.0 r.1.now) }
+    ensures none { IfNone result ((n : ℕ) (rest : List ℕ) → NumberFirst bytes.now n rest → ⊥) }
+{
+    if bytes.len() < MOST_DIGITS {
+        return number_in(bytes, bytes.len());
+    }
+    number_in(bytes, MOST_DIGITS)
 }
 
 /// The number that a word is.
@@ -37,7 +98,6 @@ pub fn whole_number(word: &str) -> Option<u32>
 }
 
 /// What is after a space.
-#[inline(always)]
 fn after_space(bytes: &[u8]) -> Option<&[u8]>
     ensures found { IfSome result (λ rest. bytes.now ≡ 32 ∷ rest.now) }
     ensures none { IfNone result ((rest : List ℕ) → bytes.now ≡ 32 ∷ rest → ⊥) }
@@ -47,7 +107,6 @@ fn after_space(bytes: &[u8]) -> Option<&[u8]>
 }
 
 /// Returns the key and the value at the front, with a space between, and the bytes after them.
-#[inline(always)]
 pub(crate) fn first_pair(bytes: &[u8]) -> Option<((u32, u32), &[u8])>
     ensures found { IfSome result (λ r. PairFirst bytes.now r.0 r.1.now) }
     ensures none { IfNone result ((x : ℕ × ℕ) (rest : List ℕ) → PairFirst bytes.now x rest → ⊥) }
@@ -62,6 +121,26 @@ pub(crate) fn first_pair(bytes: &[u8]) -> Option<((u32, u32), &[u8])>
         return None;
     };
     Some(((key, value), rest))
+}
+
+/// Returns the key and the value at the front, with a space between, and the bytes after them. So many bytes are there that no number
+/// goes past them.
+#[inline(always)]
+pub(crate) fn pair_within(bytes: &[u8]) -> Option<((u32, u32), &[u8])>
+    requires room { 22 ≤ length bytes.now }
+    ensures found { IfSome result (λ r. PairFirst bytes.now r.0 r.1.now) }
+    ensures none { IfNone result ((x : ℕ × ℕ) (rest : List ℕ) → PairFirst bytes.now x rest → ⊥) }
+{
+    let Some((key, space)) = number_in(bytes, MOST_DIGITS) else {
+        return None;
+    };
+    if space[0] != b' ' {
+        return None;
+    }
+    let Some((value, after)) = number_in(&space[1..], MOST_DIGITS) else {
+        return None;
+    };
+    Some(((key, value), after))
 }
 
 /// Returns the entry that a line is.

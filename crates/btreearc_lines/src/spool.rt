@@ -16,8 +16,8 @@ const READ_LEN: usize = 65536;
 /// What comes by a pipe is held in memory up to this number of bytes.
 const HELD_LEN: u64 = 4194304;
 
-/// The number of bytes that one write of it into a file has.
-const SPOOLED_LEN: u64 = 1048576;
+/// The most bytes that one write of it into a file has.
+const SPOOLED_LEN: usize = 262144;
 
 /// Returns a reader with a buffer.
 ///
@@ -68,12 +68,17 @@ fn nameless(rt: &HostRuntime) -> Result<File, ProgramFault>
 
 /// Writes the first bytes of an input, and then the rest of it, into a file.
 fn spool<R: Read>(mut bytes: Vec<u8>, input: &mut R, file: &mut File) -> io::Result<()> {
+    file.write_all(&bytes)?;
+    bytes.resize(SPOOLED_LEN, 0)?;
     for _ in 0..u64::MAX {
-        file.write_all(&bytes)?;
-        bytes.clear();
-        let count = input.take(SPOOLED_LEN).read_to_end(&mut bytes)?;
-        if count == 0 {
-            return Ok(());
+        match input.read(&mut bytes) {
+            Ok(0) => return Ok(()),
+            Ok(count) => file.write_all(&bytes[..count])?,
+            Err(error) => {
+                if error.kind() != ErrorKind::Interrupted {
+                    return Err(error);
+                }
+            }
         }
     }
     Ok(())

@@ -1,7 +1,9 @@
 //! Archived maps of texts to texts: built from lines, checked, listed and looked up in.
 #![tactic(auto)]
 
+mod archives;
 mod files;
+mod output;
 mod progress;
 mod words;
 
@@ -11,7 +13,9 @@ use btreearc_lines::spool::{Bytes, read_bytes};
 use btreekv_commands::command::Command;
 use btreekv_commands::program::run;
 use btreekv_commands::streaming;
+use clap::ArgMatches;
 use files::Lines;
+use output::Output;
 use progress::Progress;
 use std::env;
 use std::fs::File;
@@ -22,7 +26,7 @@ use std::process::ExitCode;
 const WRITE_LEN: usize = 65536;
 
 /// Writes the line of an error.
-fn say(rt: &HostRuntime, fault: &ProgramFault) {
+pub(crate) fn say(rt: &HostRuntime, fault: &ProgramFault) {
     let _ = match fault {
         ProgramFault::Usage => eprintln!(rt; "btreekv: arguments failed"),
         ProgramFault::Line(line) => eprintln!(rt; "btreekv: line {line}: not KEY TAB VALUE"),
@@ -42,16 +46,37 @@ fn open(rt: &HostRuntime, path: &str) -> Result<File, ProgramFault> {
     }
 }
 
-/// Writes the archive of the lines of an input that can be read again.
+/// Runs a command over an input, and a file or standard output.
+fn run_over<R: Read>(
+    rt: &HostRuntime,
+    command: &Command,
+    input: &mut R,
+    output: Option<File>,
+) -> Result<u8, ProgramFault> {
+    match output {
+        Some(mut file) => run(rt.alloc(), command, input, &mut file),
+        None => run(rt.alloc(), command, input, &mut rt.stdout()),
+    }
+}
+
+/// Writes the archive of the lines of an input that can be read again to a file or to standard output.
 fn build_lines<R: Reopen>(
     rt: &HostRuntime,
     is_strict: bool,
     input: &R,
+    output: Option<File>,
 ) -> Result<u8, ProgramFault> {
-    let Ok(output) = BufWriter::with_capacity(rt.alloc(), WRITE_LEN, rt.stdout()) else {
+    let alloc = rt.alloc();
+    if let Some(file) = output {
+        let Ok(output) = BufWriter::with_capacity(alloc, WRITE_LEN, file) else {
+            return Err(ProgramFault::Memory);
+        };
+        return streaming::build(alloc, is_strict, input, output).0;
+    }
+    let Ok(output) = BufWriter::with_capacity(alloc, WRITE_LEN, rt.stdout()) else {
         return Err(ProgramFault::Memory);
     };
-    streaming::build(rt.alloc(), is_strict, input, output).0
+    streaming::build(alloc, is_strict, input, output).0
 }
 
 /// Writes the archive of the lines of an input that can't seek.
@@ -59,6 +84,7 @@ fn build_bytes<R: Read + Drop>(
     rt: &HostRuntime,
     is_strict: bool,
     input: R,
+    output: Option<File>,
 ) -> Result<u8, ProgramFault> {
     match read_bytes(rt, Progress::new(rt, input))? {
         Bytes::Held(bytes) => {
@@ -67,48 +93,61 @@ fn build_bytes<R: Read + Drop>(
             } else {
                 Command::Build
             };
-            run(
-                rt.alloc(),
-                &command,
-                &mut bytes.as_slice(),
-                &mut rt.stdout(),
-            )
+            run_over(rt, &command, &mut bytes.as_slice(), output)
         }
-        Bytes::Spooled(spooled) => build_lines(rt, is_strict, &spooled),
+        Bytes::Spooled(spooled) => build_lines(rt, is_strict, &spooled, output),
     }
 }
 
 /// Writes the archive of the lines of a file, or of standard input.
-fn build(rt: &HostRuntime, is_strict: bool, path: Option<&str>) -> Result<u8, ProgramFault> {
+fn build(
+    rt: &HostRuntime,
+    is_strict: bool,
+    path: Option<&str>,
+    output: Option<File>,
+) -> Result<u8, ProgramFault> {
     let Some(path) = path else {
-        return build_bytes(rt, is_strict, rt.stdin());
+        return build_bytes(rt, is_strict, rt.stdin(), output);
     };
     let file = open(rt, path)?;
     if from_start(&file).is_ok() {
-        build_lines(rt, is_strict, &Lines::new(rt, file))
+        build_lines(rt, is_strict, &Lines::new(rt, file), output)
     } else {
-        build_bytes(rt, is_strict, file)
+        build_bytes(rt, is_strict, file, output)
     }
 }
 
-/// Runs a command over a file, or over standard input, and standard output.
-fn start(rt: &HostRuntime, command: &Command, file: Option<&str>) -> Result<u8, ProgramFault> {
+/// Runs a command over a file or standard input, and a file or standard output.
+fn start(
+    rt: &HostRuntime,
+    command: &Command,
+    path: Option<&str>,
+    output: Option<File>,
+) -> Result<u8, ProgramFault> {
     match command {
-        Command::Build => return build(rt, false, file),
-        Command::BuildStrict => return build(rt, true, file),
+        Command::Build => return build(rt, false, path, output),
+        Command::BuildStrict => return build(rt, true, path, output),
         _ => {}
     }
-    let mut output = rt.stdout();
-    match file {
-        None => {
-            let mut input = Progress::new(rt, rt.stdin());
-            run(rt.alloc(), command, &mut input, &mut output)
-        }
-        Some(path) => {
-            let mut input = Progress::new(rt, open(rt, path)?);
-            run(rt.alloc(), command, &mut input, &mut output)
-        }
+    match path {
+        None => run_over(rt, command, &mut Progress::new(rt, rt.stdin()), output),
+        Some(path) => run_over(rt, command, &mut Progress::new(rt, open(rt, path)?), output),
     }
+}
+
+/// Runs a command whose output takes the place of a file.
+fn start_into(
+    rt: &HostRuntime,
+    command: &Command,
+    path: Option<&str>,
+    output: &str,
+) -> Result<u8, ProgramFault> {
+    let output = Output::open(rt, output)?;
+    let done = match output.file() {
+        Ok(file) => start(rt, command, path, Some(file)),
+        Err(fault) => Err(fault),
+    };
+    output.finish(done)
 }
 
 /// Returns the words of the command line.
@@ -125,6 +164,18 @@ fn arguments(rt: &HostRuntime) -> Result<Vec<String>, ProgramFault> {
     Ok(words)
 }
 
+/// Does what the words of a command over one file say, and returns the exit status.
+fn one_file(rt: &HostRuntime, name: &str, matches: &ArgMatches<'_>) -> Result<u8, ProgramFault> {
+    let Ok(command) = words::command_of(rt.alloc(), name, matches) else {
+        return Err(ProgramFault::Memory);
+    };
+    let path = matches.get_str("FILE");
+    match words::output_of(name, matches) {
+        Some(output) => start_into(rt, &command, path, output),
+        None => start(rt, &command, path, None),
+    }
+}
+
 /// Does what the words say, and returns the exit status.
 fn status(rt: &HostRuntime) -> Result<u8, ProgramFault> {
     let words = arguments(rt)?;
@@ -138,10 +189,12 @@ fn status(rt: &HostRuntime) -> Result<u8, ProgramFault> {
     let Some((name, matches)) = matches.subcommand() else {
         return Err(ProgramFault::Usage);
     };
-    let Ok(command) = words::command_of(rt.alloc(), name, matches) else {
-        return Err(ProgramFault::Memory);
-    };
-    start(rt, &command, matches.get_str("FILE"))
+    match name {
+        "update" => Ok(archives::update(rt, matches)),
+        "merge" => Ok(archives::merge(rt, matches)),
+        "diff" => Ok(archives::diff(rt, matches)),
+        _ => one_file(rt, name, matches),
+    }
 }
 
 fn main(rt: HostRuntime) -> ExitCode {

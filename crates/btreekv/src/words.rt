@@ -27,6 +27,23 @@ fn file<'a>(alloc: Global) -> Arg<'a> {
         .action(ArgAction::Set)
 }
 
+/// Returns the option of a file to write.
+fn output<'a>(alloc: Global) -> Arg<'a> {
+    Arg::new(alloc, "OUTPUT")
+        .short('o')
+        .long("output")
+        .help("the file to write, if not standard output; it is whole at any moment")
+        .action(ArgAction::Set)
+}
+
+/// Returns a required file of a command.
+fn required<'a>(alloc: Global, name: &'a str, help: &'a str) -> Arg<'a> {
+    Arg::new(alloc, name)
+        .required(true)
+        .help(help)
+        .action(ArgAction::Set)
+}
+
 /// Returns the words of `build`.
 fn build<'a>(alloc: Global) -> Result<Command<'a>, AllocError> {
     let sort = flag(
@@ -38,7 +55,48 @@ fn build<'a>(alloc: Global) -> Result<Command<'a>, AllocError> {
         .about("write the archive of lines KEY TAB VALUE")
         .arg(sort.conflicts_with("strict")?)?
         .arg(flag(alloc, "strict", "fail unless the keys increase"))?
+        .arg(output(alloc))?
         .arg(file(alloc))
+}
+
+/// Returns the words of `update`.
+fn update<'a>(alloc: Global) -> Result<Command<'a>, AllocError> {
+    let sort = flag(
+        alloc,
+        "sort",
+        "sort the lines by keys, in memory; of equal keys the last line counts",
+    );
+    let changes = Arg::new(alloc, "CHANGES")
+        .help("the lines to read, if not standard input")
+        .action(ArgAction::Set);
+    Command::new(alloc, "update")
+        .about("write an archive after changes: lines KEY TAB VALUE put, and lines KEY delete")
+        .arg(sort)?
+        .arg(output(alloc))?
+        .arg(required(alloc, "ARCHIVE", "the archive to change"))?
+        .arg(changes)
+}
+
+/// Returns the words of `merge`.
+fn merge<'a>(alloc: Global) -> Result<Command<'a>, AllocError> {
+    let others = required(
+        alloc,
+        "OTHERS",
+        "further archives, of which the last one wins",
+    );
+    Command::new(alloc, "merge")
+        .about("write the archive of the entries of several archives")
+        .arg(output(alloc))?
+        .arg(required(alloc, "ARCHIVE", "the first archive"))?
+        .arg(others.num_args(1..))
+}
+
+/// Returns the words of `diff`.
+fn diff<'a>(alloc: Global) -> Result<Command<'a>, AllocError> {
+    Command::new(alloc, "diff")
+        .about("write the lines by which update makes one archive of another")
+        .arg(required(alloc, "OLD", "the archive to change"))?
+        .arg(required(alloc, "NEW", "the archive that it becomes"))
 }
 
 /// Returns the words of `list`.
@@ -97,27 +155,33 @@ fn prefix<'a>(alloc: Global) -> Result<Command<'a>, AllocError> {
         .arg(file(alloc))
 }
 
+/// Adds the commands that make archives, and the one that compares two.
+fn with_makers<'a>(alloc: Global, command: Command<'a>) -> Result<Command<'a>, AllocError> {
+    command
+        .subcommand(build(alloc)?)?
+        .subcommand(update(alloc)?)?
+        .subcommand(merge(alloc)?)?
+        .subcommand(diff(alloc)?)
+}
+
+/// Adds the commands that read one archive.
+fn with_readers<'a>(alloc: Global, command: Command<'a>) -> Result<Command<'a>, AllocError> {
+    command
+        .subcommand(list(alloc)?)?
+        .subcommand(check(alloc)?)?
+        .subcommand(stat(alloc)?)?
+        .subcommand(explain(alloc)?)?
+        .subcommand(get(alloc)?)?
+        .subcommand(range(alloc)?)?
+        .subcommand(prefix(alloc)?)
+}
+
 /// Returns what the program understands.
 fn grammar<'a>(alloc: Global) -> Result<Command<'a>, AllocError> {
-    let build = build(alloc)?;
-    let list = list(alloc)?;
-    let check = check(alloc)?;
-    let stat = stat(alloc)?;
-    let explain = explain(alloc)?;
-    let get = get(alloc)?;
-    let range = range(alloc)?;
-    let prefix = prefix(alloc)?;
-    Command::new(alloc, "btreekv")
-        .about("Builds, validates and queries archived maps of texts")
-        .subcommand_required(true)
-        .subcommand(build)?
-        .subcommand(list)?
-        .subcommand(check)?
-        .subcommand(stat)?
-        .subcommand(explain)?
-        .subcommand(get)?
-        .subcommand(range)?
-        .subcommand(prefix)
+    let command = Command::new(alloc, "btreekv")
+        .about("Builds, validates, queries and changes archived maps of texts")
+        .subcommand_required(true);
+    with_readers(alloc, with_makers(alloc, command)?)
 }
 
 /// Reads the words of the command line.
@@ -174,5 +238,13 @@ pub fn command_of(
             Ok(command::Command::List)
         }
         _ => Ok(command::Command::List),
+    }
+}
+
+/// Returns the file that a command is to write, if it isn't standard output.
+pub fn output_of<'a>(name: &str, matches: &ArgMatches<'a>) -> Option<&'a str> {
+    match name {
+        "build" | "update" | "merge" => matches.get_str("OUTPUT"),
+        _ => None,
     }
 }

@@ -1,4 +1,5 @@
 pub mod Building
+pub mod Changing
 pub mod Commands
 pub mod Figures
 pub mod Json
@@ -8,3 +9,4 @@ pub mod Prefixes
 pub mod Reading
 pub mod Streaming
 pub mod Texts
+pub mod Updating

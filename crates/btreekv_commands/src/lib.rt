@@ -3,15 +3,20 @@
 #![tactic(auto)]
 
 pub mod building;
+mod changes;
 pub mod command;
+pub mod differences;
 mod entries;
 pub mod explaining;
 pub mod figures;
 pub mod json;
 pub mod lines;
 pub mod listing;
+pub mod merging;
 pub mod opening;
 pub mod prefixes;
 pub mod program;
 pub mod streaming;
 mod text;
+pub mod update_fault;
+pub mod updating;

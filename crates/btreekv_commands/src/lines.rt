@@ -9,7 +9,7 @@ use std::alloc::Global;
 use std::str::from_utf8;
 
 /// Splits bytes around the first of a byte.
-fn split_at_first(bytes: &[u8], byte: u8) -> Option<(&[u8], &[u8])>
+pub(crate) fn split_at_first(bytes: &[u8], byte: u8) -> Option<(&[u8], &[u8])>
     ensures found { IfSome result (λ r. bytes.now ≡ r.0.now ++ byte ∷ r.1.now) }
     ensures first { IfSome result (λ r. Lacks byte r.0.now) }
     ensures none { IfNone result (Lacks byte bytes.now) }
@@ -40,7 +40,7 @@ pub(crate) fn entry_of(line: &[u8]) -> Option<(&str, &str)>
 }
 
 /// Returns the first line, and the bytes after it.
-fn first_line(bytes: &[u8]) -> (&[u8], &[u8])
+pub(crate) fn first_line(bytes: &[u8]) -> (&[u8], &[u8])
     requires { 0 < length bytes.now }
     ensures lines { lines bytes.now ≡ result.0.now ∷ lines result.1.now }
     ensures shorter { length result.1.now < length bytes.now }

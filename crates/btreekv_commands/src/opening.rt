@@ -4,12 +4,15 @@ ghost use Rattle.rkyv_btree_base.specs.Text.{text_kind};
 ghost use Rattle.rkyv_btree_base.specs.Whole.{own_at};
 ghost use Rattle.rkyv_btree_view.specs.View.{entries_of};
 ghost use Rattle.btreekv_commands.specs.Opening.{texts, CountsStrict, IsArchive, IsOpenFault, RefusesArchive, RefusesStrictArchive};
+ghost use Rattle.btreekv_commands.specs.Updating.{IsStrictArchive};
 
 use btreearc_lines::fault::ProgramFault;
 use rkyv_btree_base::map::ArchivedBTreeMap;
+use rkyv_btree_base::refusal::Refusal;
 use rkyv_btree_base::text::ArchivedText;
 use rkyv_btree_convert::from_archive as whole;
 use rkyv_btree_strict::strict::open_strict;
+use rkyv_btree_strict::strict_map::StrictView;
 use rkyv_btree_view::view::View;
 
 /// The maps that the program archives.
@@ -47,5 +50,24 @@ pub fn strict_count(archive: &[u8]) -> Result<usize, ProgramFault>
     match open_strict::<ArchivedText, ArchivedText, 5>(archive) {
         Ok(map) => Ok(map.len()),
         Err(refusal) => Err(ProgramFault::Refused(refusal)),
+    }
+}
+
+/// Returns the map of an archive whose keys increase.
+///
+/// # Errors
+///
+/// The first error of bytes that are no such archive.
+#[tactic(auto, using(crate::proofs::Fits::texts_fit))]
+pub(crate) fn open_increasing(
+    archive: &[u8],
+) -> Result<StrictView<'_, ArchivedText, ArchivedText, 5>, Refusal>
+    ensures ok { IfOk result (λ map.
+        IsStrictArchive archive.now (entries_of text_kind text_kind 5 map.view)) }
+    ensures err { IfErr result (RefusesStrictArchive archive.now) }
+{
+    match open_strict::<ArchivedText, ArchivedText, 5>(archive) {
+        Ok(map) => Ok(map),
+        Err(refusal) => Err(refusal),
     }
 }

@@ -30,10 +30,10 @@ fn builds_the_same(
     };
     let mut input = lines;
     let mut whole = Vec::new(alloc);
-    let told = run(alloc, &command, &mut input, &mut whole);
+    let expected = run(alloc, &command, &mut input, &mut whole);
     let (streamed, output) = build(alloc, is_strict, &lines, Vec::new(alloc));
     same(rt, output.as_slice(), whole.as_slice());
-    same(rt, fault_of(alloc, streamed)?, fault_of(alloc, told)?);
+    same(rt, fault_of(alloc, streamed)?, fault_of(alloc, expected)?);
     Ok(())
 }
 
@@ -48,16 +48,16 @@ fn numbers_build_the_same(
     let words = words_of(alloc, &[word])?;
     let mut input = lines;
     let mut whole = Vec::new(alloc);
-    let told = program::run(alloc, &words, &mut input, &mut whole);
+    let expected = program::run(alloc, &words, &mut input, &mut whole);
     let (streamed, output) = streaming::build(alloc, is_strict, &lines, Vec::new(alloc));
     same(rt, output.as_slice(), whole.as_slice());
-    same(rt, fault_of(alloc, streamed)?, fault_of(alloc, told)?);
+    same(rt, fault_of(alloc, streamed)?, fault_of(alloc, expected)?);
     Ok(())
 }
 
 /// The line of an error, or nothing.
-fn fault_of(alloc: Global, answer: Result<u8, ProgramFault>) -> Result<String, Fail> {
-    match answer {
+fn fault_of(alloc: Global, built: Result<u8, ProgramFault>) -> Result<String, Fail> {
+    match built {
         Ok(_) => Ok(String::new(alloc)),
         Err(fault) => Ok(format!(in alloc; "{fault}")?),
     }

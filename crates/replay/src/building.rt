@@ -87,7 +87,7 @@ fn take_claimed<KU: Wire, VU: Wire>(
 }
 
 /// Appends the position of a map and the bytes of its writer, or why it isn't built.
-fn show_built(
+pub(crate) fn show_built(
     built: Result<u32, Fault<AllocError>>,
     writer: &VecWriter,
     out: &mut String,

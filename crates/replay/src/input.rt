@@ -25,6 +25,25 @@ impl<'a> Input<'a> {
     pub fn number(&mut self) -> anyhow::Result<u32> {
         Ok(u32::from_le_bytes(self.array::<4>()?))
     }
+
+    /// Takes bytes, after their number.
+    pub fn bytes(&mut self) -> anyhow::Result<&'a [u8]> {
+        let len = self.number()? as usize;
+        let (front, back) = self
+            .rest
+            .split_at_checked(len)
+            .context("the case is too short")?;
+        self.rest = back;
+        Ok(front)
+    }
+
+    /// Takes a text, after the number of its bytes.
+    pub fn text(&mut self) -> anyhow::Result<&'a str> {
+        match str::from_utf8(self.bytes()?) {
+            Ok(text) => Ok(text),
+            Err(_) => bail!("a text of the case isn't UTF-8"),
+        }
+    }
 }
 
 /// A native type whose values cases hold.
@@ -94,16 +113,7 @@ impl Wire for () {
 
 impl Wire for String {
     fn take(alloc: Global, input: &mut Input<'_>) -> anyhow::Result<String> {
-        let len = input.number()? as usize;
-        let (front, back) = input
-            .rest
-            .split_at_checked(len)
-            .context("the case is too short")?;
-        input.rest = back;
-        match str::from_utf8(front) {
-            Ok(text) => Ok(String::from_str(alloc, text)?),
-            Err(_) => bail!("a text of the case isn't UTF-8"),
-        }
+        Ok(String::from_str(alloc, input.text()?)?)
     }
 }
 

@@ -4,8 +4,10 @@
 
 mod asking;
 mod building;
+mod changing;
 mod damage;
 mod input;
+mod lent;
 mod modes;
 mod opening;
 mod shown;
@@ -13,6 +15,7 @@ mod sources;
 mod unverified;
 mod writing;
 
+use crate::changing::changed;
 use crate::modes::{Mode, built, native, sealed};
 use anyhow::{Context, bail};
 use rkyv_btree::prelude::*;
@@ -87,6 +90,34 @@ fn of_others(
     }
 }
 
+/// Runs a case of a map that is changed.
+fn of_changes(
+    alloc: Global,
+    kind: &str,
+    mode: changing::Mode,
+    case: &[u8],
+    out: &mut String,
+) -> anyhow::Result<()> {
+    match kind {
+        "u32,u32,5" => changed::<u32, u32, ArchivedU32, ArchivedU32, 5>(alloc, mode, case, out),
+        "u32,u32,2" => changed::<u32, u32, ArchivedU32, ArchivedU32, 2>(alloc, mode, case, out),
+        "u32,u32,1" => changed::<u32, u32, ArchivedU32, ArchivedU32, 1>(alloc, mode, case, out),
+        "u64,u8,1" => changed::<u64, u8, ArchivedU64, u8, 1>(alloc, mode, case, out),
+        "u8,u16,3" => changed::<u8, u16, u8, ArchivedU16, 3>(alloc, mode, case, out),
+        "u32,unit,5" => changed::<u32, (), ArchivedU32, (), 5>(alloc, mode, case, out),
+        "text,i32,5" => changed::<&str, i32, ArchivedText, ArchivedI32, 5>(alloc, mode, case, out),
+        "u32,pair(u8,u64),3" => changed::<u32, (u8, u64), ArchivedU32, Entry<u8, ArchivedU64>, 3>(
+            alloc, mode, case, out,
+        ),
+        "pair(u16,text),u8,2" => {
+            changed::<(u16, &str), u8, Entry<ArchivedU16, ArchivedText>, u8, 2>(
+                alloc, mode, case, out,
+            )
+        }
+        _ => bail!("no such type"),
+    }
+}
+
 /// The number that a digit of base 16 is.
 fn digit(byte: Option<&u8>) -> anyhow::Result<u8> {
     match byte {
@@ -123,6 +154,9 @@ fn replay_line(alloc: Global, line: &str, out: &mut String) -> anyhow::Result<()
     let case = bytes_of(alloc, digits)?;
     if name == "source" {
         return sources::lookup(alloc, kind, &case, out);
+    }
+    if let Some(change) = changing::Mode::named(name) {
+        return of_changes(alloc, kind, change, &case, out);
     }
     let mode = Mode::named(name).context("no such mode")?;
     of_numbers(alloc, kind, mode, &case, out)

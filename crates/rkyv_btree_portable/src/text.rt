@@ -1,5 +1,7 @@
 //! Archived text.
-ghost use Rattle.std.specs.Prelude.{◌≡◌, ℕ, ◌+◌, ◌≤◌, ◌<◌, length, string_bytes, IfSome, IfNone, OnOk, IfErr, IsErrOf, IsUtf8, MatchBool, ◌↔◌};
+ghost use Rattle.std.specs.Prelude.{◌≡◌, ℕ, ◌+◌, ◌≤◌, ◌<◌, length, string_bytes, IfSome, IfNone, OnOk, IfErr, IsErrOf, IsTrue, IsUtf8, MatchBool, ◌↔◌};
+ghost use Rattle.std.specs.Str.{IsAscii};
+ghost use Rattle.rkyv_btree_portable.specs.Bytes.{bytes_at};
 ghost use Rattle.rkyv_btree_portable.specs.Refusing.{RefusesWhole};
 ghost use Rattle.rkyv_btree_portable.specs.Text.{IsTextRange, text_kind};
 ghost use Rattle.rkyv_btree_portable.specs.laws.Refusing.{whole_refusals};
@@ -8,6 +10,7 @@ ghost use Rattle.rkyv_btree_portable.specs.laws.TextLaws.{text_laws};
 use crate::bytes::{num32, pointed_at};
 use crate::check::{CheckBytes, Portable, Window, check_place};
 use crate::refusal::Refusal;
+use std::simd::u8x32;
 use std::str::from_utf8;
 
 /// A text, by an offset to its bytes and their number, four bytes each.
@@ -58,15 +61,47 @@ pub fn is_utf8(bytes: &[u8]) -> bool
     bytes.is_ascii() || from_utf8(bytes).is_ok()
 }
 
+/// Returns whether `len` bytes from `lo` on are ASCII, if a block that begins with them lies in the buffer. It is read as a whole, so
+/// that no jump depends on their number.
+#[inline(always)]
+fn is_ascii_in_block(buf: &[u8], lo: usize, len: usize) -> bool
+    requires { lo + len ≤ length buf.now }
+    ensures { IsTrue result → IsAscii (bytes_at buf.now lo len) }
+{
+    if len > u8x32::LEN || buf.len() - lo < u8x32::LEN {
+        return false;
+    }
+    let others = u8x32::from_slice(&buf[lo..]).simd_ge(u8x32::splat(0x80));
+    len <= others.to_bitmask().trailing_zeros() as usize
+}
+
+/// Returns whether the bytes of a long text, or of one that isn't ASCII, are valid UTF-8.
+#[inline(never)]
+fn is_other_utf8(bytes: &[u8]) -> bool
+    ensures { MatchBool result (IsUtf8 bytes.now) (¬ IsUtf8 bytes.now) }
+{
+    is_utf8(bytes)
+}
+
+/// Returns whether `len` bytes from `lo` on are valid UTF-8.
+#[inline(always)]
+fn is_text(buf: &[u8], lo: usize, len: usize) -> bool
+    requires { lo + len ≤ length buf.now }
+    ensures { MatchBool result (IsUtf8 (bytes_at buf.now lo len)) (¬ IsUtf8 (bytes_at buf.now lo len)) }
+{
+    is_ascii_in_block(buf, lo, len) || is_other_utf8(&buf[lo..lo + len])
+}
+
 impl CheckBytes for ArchivedText {
     ghost Refuses = { RefusesWhole text_kind };
 
+    #[inline(always)]
     fn check(buf: &[u8], pos: u32, window: Window) -> Result<Window, Refusal> {
         check_place::<ArchivedText>(buf, pos)?;
         let Some(text) = text_range(buf, pos, window) else {
             return Err(Refusal::BadEntry { pos });
         };
-        if !is_utf8(&buf[text.lo as usize..text.hi as usize]) {
+        if !is_text(buf, text.lo as usize, (text.hi - text.lo) as usize) {
             return Err(Refusal::BadEntry { pos });
         }
         Ok(Window {

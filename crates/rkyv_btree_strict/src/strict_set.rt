@@ -107,6 +107,15 @@ impl<'a, K: ViewOrd, const E: usize> Strict<'a, ArchivedBTreeSet<K, E>> {
         }
     }
 
+    /// Returns the set as a strict map whose values are `()`. No byte is read.
+    pub fn as_map(self) -> StrictView<'a, K, (), E>
+        ensures buffer { result.view.buf.now ≡ self.entry.view.buf.now }
+        ensures position { result.view.pos ≡ self.entry.view.pos }
+    {
+        let set = self.view;
+        Strict { view: set.as_map() }
+    }
+
     /// Returns the view of the set.
     pub fn as_view(self) -> View<'a, ArchivedBTreeSet<K, E>>
         ensures buffer { result.buf.now ≡ self.entry.view.buf.now }

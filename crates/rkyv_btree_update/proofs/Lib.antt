@@ -5,3 +5,4 @@ pub mod Merged
 pub mod Meant
 pub mod Writes
 pub mod Compared
+pub mod Ends

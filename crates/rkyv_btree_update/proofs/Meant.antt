@@ -10,7 +10,7 @@ use Rattle.std.specs.declared.cmp.Ordering.TheVariants.{Less, Equal, Greater}
 use Rattle.rkyv_btree_base.specs.Kind.{Kind}
 use Rattle.rkyv_btree_base.specs.Read.{entry_at, read_map}
 use Rattle.rkyv_btree_base.specs.Archiving.{Archival}
-use Rattle.rkyv_btree_update.specs.Natives.{IsLent, both, key_change, read_shown, shown_at}
+use Rattle.rkyv_btree_update.specs.Natives.{IsLent, both, read_shown, shown_at}
 use Rattle.rkyv_btree_update.specs.Updated.{all_put, changed, updated, change_meant, changes_meant}
 use Rattle.rkyv_btree_update.specs.declared.change.Change.{Change}
 use Rattle.rkyv_btree_update.specs.declared.change.Change.TheVariants.{Put, Delete}
@@ -87,7 +87,7 @@ module _ {X Y T U A B : Type 0} (key : X → A) (value : Y → B) (key_shown : X
   change_through (Put v) = ap Put (values v)
   change_through Delete = refl
 
-  pub changes_through : (cs : List (X × Change Y)) → changes_meant key value cs ≡ changes_meant key_meant value_meant (map (key_change key_shown value_shown) cs)
+  pub changes_through : (cs : List (X × Change Y)) → changes_meant key value cs ≡ changes_meant key_meant value_meant (changes_meant key_shown value_shown cs)
   changes_through [] = refl
   changes_through (c ∷ cs) = rw (keys c.0, change_through c.1, changes_through cs) refl
 

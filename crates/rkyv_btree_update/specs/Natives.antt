@@ -7,18 +7,18 @@ use Rattle.rkyv_btree_base.specs.Archiving.{Archival, Matches}
 use Rattle.rkyv_btree_base.specs.Kind.{Kind}
 use Rattle.rkyv_btree_base.specs.Layout.{layout_of, key_at, value_at}
 use Rattle.rkyv_btree_portable.specs.declared.check.Portable
-use Rattle.rkyv_btree_update.specs.declared.change.Change.{Change}
-use Rattle.rkyv_btree_update.specs.Updated.{change_meant}
 use Rattle.rkyv_btree_view.specs.declared.view.View.{View}
 use Rattle.rkyv_btree_walk.specs.EntryPlaces.{entry_places}
 
 -- what a native value means
-abbrev pub meaning : {X R : Type 0} {kind : Kind} (archival : Archival X R) → Matches archival.kind kind → X → kind.Value
+abbrev pub meaning : {X R : Type 0} {kind : Kind} (archival : Archival X R)
+    → Matches archival.kind kind → X → kind.Value
 meaning archival same x = same.to (archival.meaning x)
 
 -- Values of X are compared by what they show, of type Y. What one shows is what an archived value means, and what is read at a
 -- position shows what the bytes there mean.
-pub record IsLent {X Y R : Type 0} (archival : Archival X R) (kind : Kind) (shown : X → Y) (order : Y → Y → Ordering) (lent : List ℕ → ℕ → Y) (cmp : X → X → Ordering) : Type 0 where
+pub record IsLent {X Y R : Type 0} (archival : Archival X R) (kind : Kind) (shown : X → Y) (order : Y → Y → Ordering)
+    (lent : List ℕ → ℕ → Y) (cmp : X → X → Ordering) : Type 0 where
   pub same : Matches archival.kind kind
   -- what a shown value means, and the shown value of each archived one
   pub meant : Y → kind.Value
@@ -32,17 +32,15 @@ pub record IsLent {X Y R : Type 0} (archival : Archival X R) (kind : Kind) (show
   pub total : IsTotalOrder order
   pub exact : (x y : Y) → order x y ≡ Equal → x ≡ y
 
--- what a key and a value show, and a key and its change
+-- what a key and a value show
 abbrev pub both : {T U A B : Type 0} → (T → A) → (U → B) → T × U → A × B
 both key value e = (key e.0, value e.1)
-
-abbrev pub key_change : {T U A B : Type 0} → (T → A) → (U → B) → T × Change U → A × Change B
-key_change key value c = (key c.0, change_meant value c.1)
 
 module _ {T U : Type 0} (K V : Kind) (E : ℕ) (key_lent : List ℕ → ℕ → T) (value_lent : List ℕ → ℕ → U) where
   -- what an entry shows
   abbrev pub shown_at : List ℕ → ℕ × ℕ → T × U
-  shown_at b e = (key_lent b (e.0 + key_at (layout_of K V E) e.1), value_lent b (e.0 + value_at (layout_of K V E) e.1))
+  shown_at b e =
+      (key_lent b (e.0 + key_at (layout_of K V E) e.1), value_lent b (e.0 + value_at (layout_of K V E) e.1))
 
   -- what the entries of the map at a position show, in order
   abbrev pub read_shown : List ℕ → ℕ → List (T × U)

@@ -28,8 +28,11 @@ abbrev pub change_meant : {U B : Type 0} → (U → B) → Change U → Change B
 change_meant value (Put v) = Put (value v)
 change_meant value Delete = Delete
 
+abbrev pub key_change : {T U A B : Type 0} → (T → A) → (U → B) → T × Change U → A × Change B
+key_change key value c = (key c.0, change_meant value c.1)
+
 abbrev pub changes_meant : {T U A B : Type 0} → (T → A) → (U → B) → List (T × Change U) → List (A × Change B)
-changes_meant key value changes = map (λ c. (key c.0, change_meant value c.1)) changes
+changes_meant key value changes = map (key_change key value) changes
 
 -- the entries of a list, each put
 abbrev pub all_put : {A B : Type 0} → List (A × B) → List (A × Change B)

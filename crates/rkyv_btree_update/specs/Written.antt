@@ -25,9 +25,11 @@ module _ (K V : Kind) (E : ℕ) (m : List (K.Value × V.Value)) (from : Writing)
   -- and this is a smallest one
   abbrev pub WritesSmallest : Type 0
   WritesSmallest =
-      (front : List ℕ) → length front ≡ from.base → (left : ℕ) × (a : Accepted K V E (front ++ to.contents) 0 at at left m) × IsSmallestMap (map_at a)
+      (front : List ℕ) → length front ≡ from.base
+      → (left : ℕ) × (a : Accepted K V E (front ++ to.contents) 0 at at left m) × IsSmallestMap (map_at a)
 
-module _ {X Y T U R S : Type 0} (K V : Kind) (E : ℕ) (KA : Archival X R) (VA : Archival Y S) (key : X → T) (value : Y → U) where
+module _ {X Y T U R S : Type 0} (K V : Kind) (E : ℕ) (KA : Archival X R) (VA : Archival Y S)
+    (key : X → T) (value : Y → U) where
   -- why entries that show a list aren't written as a map, and the state that is left
   pub data StopsWriting {F : Type 0} (list : List (T × U)) (from : Writing) (fault : Fault F) (to : Writing) : Type 0 where
     -- they are more than 4294967295, and nothing was written
@@ -36,11 +38,13 @@ module _ {X Y T U R S : Type 0} (K V : Kind) (E : ℕ) (KA : Archival X R) (VA :
     no_memory : (error : _) → fault ≡ Memory error → to ≡ from → StopsWriting list from fault to
     -- some first entries were taken, and whatever the others are, the writing of the tree of all is stopped
     in_tree : (items : List (X × Y)) (later : List (T × U)) → list ≡ map (both key value) items ++ later
-        → ((entries rest : List (X × Y)) → entries ≡ items ++ rest → length entries ≡ length list → ChildStopped (layout_of K V E) KA VA from (planned_alone E entries) fault to)
+        → ((entries rest : List (X × Y)) → entries ≡ items ++ rest → length entries ≡ length list
+        → ChildStopped (layout_of K V E) KA VA from (planned_alone E entries) fault to)
         → StopsWriting list from fault to
     -- the tree was written, and the map after it wasn't
     in_map : (entries : List (X × Y)) → map (both key value) entries ≡ list → (root : ℕ) (mid : Writing)
-        → Built (layout_of K V E) KA VA from entries root mid → RootFault root (length list) mid fault to → StopsWriting list from fault to
+        → Built (layout_of K V E) KA VA from entries root mid → RootFault root (length list) mid fault to
+        → StopsWriting list from fault to
 
   -- the same, by the fault: none is that of an entry out of order
   abbrev pub FailsToWrite : {F : Type 0} → List (T × U) → Writing → Fault F → Writing → Type 0

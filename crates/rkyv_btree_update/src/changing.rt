@@ -3,8 +3,8 @@ ghost use Rattle.std.specs.Iterator.{YieldsFirst};
 ghost use Rattle.std.specs.Option.{option_map};
 ghost use Rattle.std.specs.Prelude.{◌≡◌, length};
 ghost use Rattle.rkyv_btree_base.specs.Increasing.{Increasing};
-ghost use Rattle.rkyv_btree_update.specs.Natives.{key_change, shown_of};
-ghost use Rattle.rkyv_btree_update.specs.Updated.{all_put};
+ghost use Rattle.rkyv_btree_update.specs.Natives.{shown_of};
+ghost use Rattle.rkyv_btree_update.specs.Updated.{all_put, key_change};
 ghost use Rattle.rkyv_btree_update.specs.mirror.Merged.{changing_left};
 
 use crate::change::Change;

@@ -3,8 +3,8 @@ ghost use Rattle.std.specs.Iterator.{Drains, IsFinite, YieldsFirst, item_count};
 ghost use Rattle.std.specs.Option.{option_map};
 ghost use Rattle.std.specs.Prelude.{◌≡◌, ◌<◌, List, map, MatchOption};
 ghost use Rattle.rkyv_btree_update.specs.Differences.{IsDifference};
-ghost use Rattle.rkyv_btree_update.specs.Natives.{IsLent, key_change, meaning, shown_of};
-ghost use Rattle.rkyv_btree_update.specs.Updated.{changes_meant, updated};
+ghost use Rattle.rkyv_btree_update.specs.Natives.{IsLent, meaning, shown_of};
+ghost use Rattle.rkyv_btree_update.specs.Updated.{changes_meant, key_change, updated};
 ghost use Rattle.rkyv_btree_update.specs.mirror.Merged.{diff_left, diff_size};
 ghost use Rattle.rkyv_btree_view.specs.View.{entries_of};
 
@@ -124,7 +124,7 @@ where
         IsDifference KU.order
         (shown_of K.kind V.kind M.E KU.lent VU.lent old.entry.view)
         (shown_of K.kind V.kind M.E KU.lent VU.lent new.entry.view)
-        (map (key_change KU.shown VU.shown) changes) }
+        (changes_meant KU.shown VU.shown changes) }
     // So an update of the old map by the changes has the entries of the new one.
     ensures leads { (keys : IsLent KU.archival K.kind KU.shown KU.order KU.lent KU.cmp) →
         (values : IsLent VU.archival V.kind VU.shown VU.order VU.lent VU.cmp) →

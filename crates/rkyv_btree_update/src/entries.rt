@@ -23,6 +23,7 @@ pub(crate) struct Entries<'a, M: ArchivedMap, KU, VU> {
 }
 
 /// Takes the next entry of a map, as native values.
+#[inline(always)]
 pub(crate) fn next_native<'a, K, V, M, KU, VU>(entries: &mut Iter<'a, M>) -> Option<(KU, VU)>
 where
     K: Portable,
@@ -65,6 +66,7 @@ where
     }
 
     /// Takes the next entry.
+    #[inline(always)]
     pub(crate) fn take(&mut self) -> Option<(KU, VU)>
         ensures { YieldsFirst (entries_ahead KU.lent VU.lent KU.shown VU.shown) self.old
             (option_map (both KU.shown VU.shown) result) self.new }

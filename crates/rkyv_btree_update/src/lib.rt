@@ -8,6 +8,7 @@ mod entries;
 pub mod from_archived;
 mod natives;
 mod order;
+mod pairs;
 pub mod update;
 pub mod update_laws;
 mod updates;

@@ -1,8 +1,11 @@
-//! Numbers, truth values, characters and text, made of archived ones.
+//! Numbers, truth values, characters, `()` and text, made of archived ones.
 ghost use Rattle.std.specs.Cmp.Lexicographic.{slice_cmp};
+ghost use Rattle.std.specs.Int.NonZero.{non_zero_u32_get};
 ghost use Rattle.std.specs.Ordering.{bool_cmp, int_cmp, nat_cmp};
 ghost use Rattle.std.specs.Prelude.{◌≡◌, ℕ, ℤ, Bool, IsTrue, List};
-ghost use Rattle.rkyv_btree_base.specs.Scalars.{bool_kind, char_kind, i16_kind, i32_kind, i64_kind, i8_kind, u16_kind, u32_kind, u64_kind, u8_kind};
+ghost use Rattle.std.specs.declared.cmp.Ordering.TheVariants.{Equal};
+ghost use Rattle.rkyv_btree_base.specs.Scalars.{bool_kind, char_kind, i16_kind, i32_kind, i64_kind, i8_kind, non_zero_kind};
+ghost use Rattle.rkyv_btree_base.specs.Scalars.{u16_kind, u32_kind, u64_kind, u8_kind, unit_kind};
 ghost use Rattle.rkyv_btree_base.specs.Text.{text_kind};
 ghost use Rattle.rkyv_btree_base.specs.TextArchival.{text_archival};
 ghost use Rattle.rkyv_btree_base.specs.Views.{stands};
@@ -11,11 +14,12 @@ ghost use Rattle.rkyv_btree_update.specs.Natives.{IsLent};
 use crate::from_archived::FromArchived;
 use rkyv_btree_base::archive::Archive;
 use rkyv_btree_base::numbers::{ArchivedU16, ArchivedU32, ArchivedU64};
-use rkyv_btree_base::scalars::ArchivedChar;
+use rkyv_btree_base::scalars::{ArchivedChar, ArchivedNonZeroU32};
 use rkyv_btree_base::signed::{ArchivedI16, ArchivedI32, ArchivedI64};
 use rkyv_btree_base::text::ArchivedText;
 use rkyv_btree_view::view::View;
 use rkyv_btree_walk::shows::Shows;
+use std::num::NonZeroU32;
 
 impl<'a> FromArchived<'a> for u8 {
     ghost Shown = { ℕ };
@@ -203,6 +207,39 @@ impl<'a> FromArchived<'a> for char {
     {
         View::<ArchivedChar>::at(buf, pos).to_native()
     }
+
+    fn is_lent() {}
+}
+
+impl<'a> FromArchived<'a> for NonZeroU32 {
+    ghost Shown = { ℕ };
+
+    ghost shown = { non_zero_u32_get };
+
+    ghost order = { nat_cmp };
+
+    ghost lent = { non_zero_kind.read };
+
+    fn from_archived(buf: &'a [u8], pos: u32) -> NonZeroU32
+        requires { IsTrue (stands non_zero_kind buf.now pos) }
+        ensures { non_zero_u32_get result ≡ non_zero_kind.read buf.now pos }
+    {
+        View::<ArchivedNonZeroU32>::at(buf, pos).to_native()
+    }
+
+    fn is_lent() {}
+}
+
+impl<'a> FromArchived<'a> for () {
+    ghost Shown = { Unit {0} };
+
+    ghost shown = { λ x. x };
+
+    ghost order = { λ x y. Equal };
+
+    ghost lent = { unit_kind.read };
+
+    fn from_archived(_buf: &'a [u8], _pos: u32) {}
 
     fn is_lent() {}
 }

@@ -1,7 +1,7 @@
 //! The order of the keys of changes.
 ghost use Rattle.std.specs.Prelude.{MatchOption, map};
 ghost use Rattle.rkyv_btree_base.specs.Increasing.{Increasing, IsOutOfOrder};
-ghost use Rattle.rkyv_btree_update.specs.Natives.{key_change};
+ghost use Rattle.rkyv_btree_update.specs.Updated.{changes_meant};
 
 use crate::change::Change;
 use crate::from_archived::FromArchived;
@@ -33,7 +33,7 @@ pub(crate) fn first_disorder<'a, KU: FromArchived<'a>, VU: FromArchived<'a>>(
 ) -> Option<u64>
     ensures { MatchOption result
         (Increasing KU.cmp changes.now
-        × Increasing KU.order (map (key_change KU.shown VU.shown) changes.now))
+        × Increasing KU.order (changes_meant KU.shown VU.shown changes.now))
         (IsOutOfOrder KU.cmp changes.now) }
 {
     KU::is_lent();

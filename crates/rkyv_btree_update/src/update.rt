@@ -1,10 +1,11 @@
 //! New archives of maps, from old ones and changes.
-ghost use Rattle.std.specs.Prelude.{◌≡◌, ◌<◌, ◌≤◌, ℕ, length, map, IsErrOf, IsTrue, IfErr, IfOk, MatchOption, OnErr, OnOk};
+ghost use Rattle.std.specs.Prelude.{◌≡◌, ◌+◌, ◌<◌, ◌≤◌, ℕ, length, IsErrOf, IsTrue, IfErr, IfOk, MatchOption, OnErr, OnOk};
 ghost use Rattle.rkyv_btree_base.specs.Archiving.{BeginsWith};
 ghost use Rattle.rkyv_btree_base.specs.Increasing.{Increasing, IsOutOfOrder};
 ghost use Rattle.rkyv_btree_base.specs.Kept.{OnlyAppended};
 ghost use Rattle.rkyv_btree_base.specs.Layout.{are_fitting};
-ghost use Rattle.rkyv_btree_update.specs.Natives.{IsLent, key_change, meaning, shown_of};
+ghost use Rattle.rkyv_btree_base.specs.Writing.{position};
+ghost use Rattle.rkyv_btree_update.specs.Natives.{IsLent, meaning, shown_of};
 ghost use Rattle.rkyv_btree_update.specs.Updated.{all_put, changes_meant, updated};
 ghost use Rattle.rkyv_btree_update.specs.Written.{FailsToUpdate, FailsToWrite, WritesSmallest, WritesStrict};
 ghost use Rattle.rkyv_btree_update.specs.mirror.Merged.{AreOrdered, changing_left, merged, new_left, old_left};
@@ -73,13 +74,6 @@ where
     requires same { changing_left KU.lent VU.lent KU.shown VU.shown counted
         ≡ changing_left KU.lent VU.lent KU.shown VU.shown changes }
     requires in_order { Increasing KU.order (changing_left KU.lent VU.lent KU.shown VU.shown changes) }
-    ensures strict { (keys : IsLent KU.archival K.kind KU.shown KU.order KU.lent KU.cmp) →
-        (values : IsLent VU.archival V.kind VU.shown VU.order VU.lent VU.cmp) →
-        IfOk result (λ at. WritesStrict K.kind V.kind E
-        (updated K.kind.order (entries_of K.kind V.kind M.E old.entry.view)
-        (changes_meant keys.meant values.meant
-        (changing_left KU.lent VU.lent KU.shown VU.shown changes.entry)))
-        (W.state writer.old) at (W.state writer.new)) }
     ensures smallest { (keys : IsLent KU.archival K.kind KU.shown KU.order KU.lent KU.cmp) →
         (values : IsLent VU.archival V.kind VU.shown VU.order VU.lent VU.cmp) →
         IfOk result (λ at. WritesSmallest K.kind V.kind E
@@ -92,6 +86,7 @@ where
         (shown_of K.kind V.kind M.E KU.lent VU.lent old.entry.view)
         (changing_left KU.lent VU.lent KU.shown VU.shown changes.entry))
         (W.state writer.old) fault (W.state writer.new)) }
+    ensures end { IfOk result (λ at. position (W.state writer.new) ≡ at + 8) }
     ensures went { OnOk result (OnlyAppended (W.state writer.old) (W.state writer.new)) }
     ensures kept { OnErr result (BeginsWith (W.state writer.new) (W.state writer.old)) }
 {
@@ -122,17 +117,11 @@ where
     VU: FromArchived<'a> + Archive<Archived = V> + Serialize<W, Global>,
     W: Writer,
     requires fitting { IsTrue (are_fitting K.kind V.kind E) }
-    ensures strict { (keys : IsLent KU.archival K.kind KU.shown KU.order KU.lent KU.cmp) →
-        (values : IsLent VU.archival V.kind VU.shown VU.order VU.lent VU.cmp) →
-        IfOk result (λ at. WritesStrict K.kind V.kind E
-        (updated K.kind.order (entries_of K.kind V.kind M.E old.entry.view)
-        (changes_meant keys.meant values.meant (map (key_change KU.shown VU.shown) changes.now)))
-        (W.state writer.old) at (W.state writer.new)) }
     ensures smallest { (keys : IsLent KU.archival K.kind KU.shown KU.order KU.lent KU.cmp) →
         (values : IsLent VU.archival V.kind VU.shown VU.order VU.lent VU.cmp) →
         IfOk result (λ at. WritesSmallest K.kind V.kind E
         (updated K.kind.order (entries_of K.kind V.kind M.E old.entry.view)
-        (changes_meant keys.meant values.meant (map (key_change KU.shown VU.shown) changes.now)))
+        (changes_meant keys.meant values.meant (changes_meant KU.shown VU.shown changes.now)))
         (W.state writer.old) at (W.state writer.new)) }
     ensures in_order { OnOk result (Increasing KU.cmp changes.now) }
     ensures out_of_order { (index : ℕ) → IsOutOfOrder KU.cmp changes.now index →
@@ -140,8 +129,9 @@ where
     ensures err { IfErr result (λ fault. FailsToUpdate K.kind V.kind E KU.archival VU.archival
         KU.shown VU.shown KU.cmp changes.now (updated KU.order
         (shown_of K.kind V.kind M.E KU.lent VU.lent old.entry.view)
-        (map (key_change KU.shown VU.shown) changes.now))
+        (changes_meant KU.shown VU.shown changes.now))
         (W.state writer.old) fault (W.state writer.new)) }
+    ensures end { IfOk result (λ at. position (W.state writer.new) ≡ at + 8) }
     ensures went { OnOk result (OnlyAppended (W.state writer.old) (W.state writer.new)) }
     ensures kept { OnErr result (BeginsWith (W.state writer.new) (W.state writer.old)) }
 {
@@ -172,12 +162,6 @@ where
     VU: FromArchived<'a> + Archive<Archived = V> + Serialize<W, Global> + 'a,
     W: Writer,
     requires fitting { IsTrue (are_fitting K.kind V.kind E) }
-    ensures strict { (keys : IsLent KU.archival K.kind KU.shown KU.order KU.lent KU.cmp) →
-        (values : IsLent VU.archival V.kind VU.shown VU.order VU.lent VU.cmp) →
-        IfOk result (λ at. WritesStrict K.kind V.kind E
-        (updated K.kind.order (entries_of K.kind V.kind M.E old.entry.view)
-        (changes_meant keys.meant values.meant (all_put (shown_of K.kind V.kind M.E KU.lent VU.lent new.entry.view))))
-        (W.state writer.old) at (W.state writer.new)) }
     ensures smallest { (keys : IsLent KU.archival K.kind KU.shown KU.order KU.lent KU.cmp) →
         (values : IsLent VU.archival V.kind VU.shown VU.order VU.lent VU.cmp) →
         IfOk result (λ at. WritesSmallest K.kind V.kind E
@@ -188,6 +172,7 @@ where
         KU.shown VU.shown (updated KU.order
         (shown_of K.kind V.kind M.E KU.lent VU.lent old.entry.view) (all_put (shown_of K.kind V.kind M.E KU.lent VU.lent new.entry.view)))
         (W.state writer.old) fault (W.state writer.new)) }
+    ensures end { IfOk result (λ at. position (W.state writer.new) ≡ at + 8) }
     ensures went { OnOk result (OnlyAppended (W.state writer.old) (W.state writer.new)) }
     ensures kept { OnErr result (BeginsWith (W.state writer.new) (W.state writer.old)) }
 {
@@ -245,8 +230,10 @@ where
     ensures err { IfErr result (λ fault. FailsToUpdate K.kind V.kind E KU.archival VU.archival
         KU.shown VU.shown KU.cmp changes.now (updated KU.order
         (shown_of K.kind V.kind E KU.lent VU.lent old.entry.view)
-        (map (key_change KU.shown VU.shown) changes.now)) (W.state writer.old) fault
+        (changes_meant KU.shown VU.shown changes.now)) (W.state writer.old) fault
         (W.state writer.new)) }
+    // The map is the last of the writer's bytes.
+    ensures end { IfOk result (λ at. position (W.state writer.new) ≡ at + 8) }
     // On success no write has failed, and bytes were only appended.
     ensures went { OnOk result (OnlyAppended (W.state writer.old) (W.state writer.new)) }
     // After any error the contents begin with the old ones.
@@ -294,6 +281,8 @@ where
         (shown_of K.kind V.kind E KU.lent VU.lent first.entry.view)
         (all_put (shown_of K.kind V.kind E KU.lent VU.lent second.entry.view))) (W.state writer.old) fault
         (W.state writer.new)) }
+    // The map is the last of the writer's bytes.
+    ensures end { IfOk result (λ at. position (W.state writer.new) ≡ at + 8) }
     // On success no write has failed, and bytes were only appended.
     ensures went { OnOk result (OnlyAppended (W.state writer.old) (W.state writer.new)) }
     // After any error the contents begin with the old ones.

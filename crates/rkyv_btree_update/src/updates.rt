@@ -1,25 +1,29 @@
 //! The entries of a map after changes, one after another.
 ghost use Rattle.std.specs.Iterator.{YieldsFirst, item_count};
 ghost use Rattle.std.specs.Option.{option_map};
-ghost use Rattle.std.specs.Prelude.{◌≡◌};
+ghost use Rattle.std.specs.Prelude.{◌≡◌, None};
 ghost use Rattle.rkyv_btree_update.specs.Natives.{both, shown_of};
 ghost use Rattle.rkyv_btree_update.specs.mirror.Merged.{AreOrdered, Steps, changing_left, entry_put, merged, new_left, old_left};
 
 use crate::change::Change;
 use crate::changing::Changing;
-use crate::entries::Entries;
+use crate::entries::next_native;
 use crate::from_archived::FromArchived;
 use rkyv_btree_base::archive::Archive;
 use rkyv_btree_base::check::Portable;
 use rkyv_btree_strict::strict_map::{Strict, StrictEntries};
 use rkyv_btree_view::compare::ViewOrd;
+use rkyv_btree_view::iter::Iter;
 use rkyv_btree_walk::archived_map::ArchivedMap;
 use std::cmp::Ordering;
 
 /// The entries of a strict map after changes whose keys increase: a merge of both.
 #[derive(Drop)]
 pub(crate) struct Updates<'a, 'x, M: ArchivedMap, KU, VU> {
-    entries: Entries<'a, M, KU, VU>,
+    /// An entry that was taken and comes next, since a change came before it.
+    ahead: Option<(KU, VU)>,
+    /// The entries after it.
+    entries: Iter<'a, M>,
     /// The next change.
     change: Option<(KU, Change<VU>)>,
     /// Those after it.
@@ -27,6 +31,7 @@ pub(crate) struct Updates<'a, 'x, M: ArchivedMap, KU, VU> {
 }
 
 /// Returns the entry of a key after a change, if there is one.
+#[inline(always)]
 fn put_entry<KU: Drop, VU: Drop>(key: KU, change: Change<VU>) -> Option<Option<(KU, VU)>>
     ensures { result ≡ entry_put key change }
 {
@@ -54,24 +59,48 @@ where
         ensures new { new_left KU.lent VU.lent KU.shown VU.shown result
             ≡ changing_left KU.lent VU.lent KU.shown VU.shown changes.entry }
     {
+        KU::is_lent();
+        VU::is_lent();
         let mut changes = changes;
         Updates {
-            entries: Entries::of(view),
+            ahead: None,
+            entries: view.iter(),
             change: changes.take(),
             changes,
         }
     }
 
+    /// Takes the next entry of the map.
+    #[inline(always)]
+    fn take_own(&mut self) -> Option<(KU, VU)>
+        ensures taken { YieldsFirst (old_left KU.lent VU.lent KU.shown VU.shown) self.old
+            (option_map (both KU.shown VU.shown) result) self.new }
+        ensures none { self.new.ahead ≡ None }
+        ensures change { self.new.change ≡ self.old.change }
+        ensures changes { self.new.changes ≡ self.old.changes }
+    {
+        match self.ahead {
+            Some(entry) => {
+                self.ahead = None;
+                Some(entry)
+            }
+            None => next_native(&mut self.entries),
+        }
+    }
+
     /// Passes over the next change, if there is one.
+    #[inline(never)]
     fn pass_change(&mut self)
         ensures rest { new_left KU.lent VU.lent KU.shown VU.shown self.new
             ≡ changing_left KU.lent VU.lent KU.shown VU.shown self.old.changes }
-        ensures entries { self.new.entries ≡ self.old.entries }
+        ensures old { old_left KU.lent VU.lent KU.shown VU.shown self.new
+            ≡ old_left KU.lent VU.lent KU.shown VU.shown self.old }
     {
         self.change = self.changes.take();
     }
 
     /// Takes the next entry, or passes over a change that deletes.
+    #[inline(always)]
     fn step(&mut self) -> Option<Option<(KU, VU)>>
         requires { AreOrdered KU.order (old_left KU.lent VU.lent KU.shown VU.shown)
             (new_left KU.lent VU.lent KU.shown VU.shown)
@@ -81,21 +110,24 @@ where
             self.old (option_map (option_map (both KU.shown VU.shown)) result) self.new }
     {
         KU::is_lent();
-        let Some((key, change)) = self.change else {
-            return Some(self.entries.take());
-        };
-        let Some((own, _)) = self.entries.next else {
+        let Some(entry) = self.take_own() else {
+            let Some((key, change)) = self.change else {
+                return Some(None);
+            };
             self.pass_change();
             return put_entry(key, change);
         };
-        match own.cmp(&key) {
-            Ordering::Less => Some(self.entries.take()),
+        let Some((key, change)) = self.change else {
+            return Some(Some(entry));
+        };
+        match entry.0.cmp(&key) {
+            Ordering::Less => Some(Some(entry)),
             Ordering::Equal => {
-                let _ = self.entries.take();
                 self.pass_change();
-                put_entry(own, change)
+                put_entry(entry.0, change)
             }
             Ordering::Greater => {
+                self.ahead = Some(entry);
                 self.pass_change();
                 put_entry(key, change)
             }
@@ -123,6 +155,7 @@ where
     ghost remaining = { item_count (merged KU.order
         (old_left KU.lent VU.lent KU.shown VU.shown) (new_left KU.lent VU.lent KU.shown VU.shown)) };
 
+    #[inline(always)]
     fn next(&mut self) -> Option<(KU, VU)> {
         loop {
             if let Some(item) = self.step() {

@@ -1,7 +1,8 @@
 //! Comparisons of views with native values: their order, by which keys are looked up, and their equality.
-ghost use Rattle.std.specs.Prelude.{◌≡◌, ◌+◌, ℕ, List, ◌&&◌, Bool, IsTrue, length, map, nat_eq};
+ghost use Rattle.std.specs.Prelude.{◌≡◌, ◌+◌, ◌≤◌, ℕ, List, ◌&&◌, Bool, IfSome, IsTrue, length, map, nat_eq};
 ghost use Rattle.std.specs.Cmp.{nat_cmp_total, nat_eq_equiv};
 ghost use Rattle.std.specs.Cmp.Lexicographic.{nat_list_cmp_total, slice_cmp, nat_list_eq_equiv, pointwise};
+ghost use Rattle.std.specs.Int.{from_be_bytes, w64};
 ghost use Rattle.std.specs.Int.NonZero.{non_zero_u32_get};
 ghost use Rattle.std.specs.Ordering.{nat_cmp, ordering_then};
 ghost use Rattle.std.specs.declared.cmp.Ordering.{Ordering as Comparison};
@@ -100,11 +101,57 @@ impl CompareWith<NonZeroU32> for ArchivedNonZeroU32 {
     ghost compares = { order_compares non_zero_kind nat_cmp_total non_zero_u32_get };
 }
 
+/// The first eight bytes as a number, in which the first counts most.
+#[inline(always)]
+fn front(bytes: &[u8]) -> u64
+    requires { 8 ≤ length bytes.now }
+    ensures { result ≡ from_be_bytes w64 bytes.now }
+{
+    u64::from_be_bytes([
+        bytes[0], bytes[1], bytes[2], bytes[3], bytes[4], bytes[5], bytes[6], bytes[7],
+    ])
+}
+
+/// How bytes are ordered, if both have eight and differ in these.
+#[inline(always)]
+fn order_of_fronts(a: &[u8], b: &[u8]) -> Option<Ordering>
+    ensures { IfSome result (λ order. order ≡ slice_cmp nat_cmp a.now b.now) }
+{
+    if a.len() < 8 {
+        return None;
+    }
+    if b.len() < 8 {
+        return None;
+    }
+    let (x, y) = (front(a), front(b));
+    if x == y {
+        return None;
+    }
+    Some(if x < y {
+        Ordering::Less
+    } else {
+        Ordering::Greater
+    })
+}
+
+/// How texts are ordered, from their first byte on.
+#[inline(never)]
+fn order_of_texts(a: &str, b: &str) -> Ordering
+    ensures { result ≡ slice_cmp nat_cmp a.now b.now }
+{
+    a.cmp(b)
+}
+
 impl<'t> CompareWith<&'t str> for ArchivedText {
     ghost compared_at = { λ native b at. slice_cmp nat_cmp native.now (text_kind.read b at) };
 
+    #[inline(always)]
     fn compare_with(native: &&'t str, view: &View<'_, ArchivedText>) -> Ordering {
-        (*native).cmp(view.as_str())
+        let text = view.as_str();
+        match order_of_fronts((*native).as_bytes(), text.as_bytes()) {
+            Some(order) => order,
+            None => order_of_texts(*native, text),
+        }
     }
 
     ghost compares = { order_compares text_kind nat_list_cmp_total (λ native. native.now) };

@@ -1,12 +1,6 @@
-//! Updates of archives: a caller, which the documents show, and tests at concrete types.
+//! Updates of archives: callers, which the documents show, and what they do with texts.
 #![tactic(auto)]
 
 #[cfg(test)]
-mod compared;
-#[cfg(test)]
 mod made;
-#[cfg(test)]
-mod refused;
-#[cfg(test)]
-mod rewritten;
 pub mod updating;

@@ -2,12 +2,12 @@
 use Rattle.std.specs.Iterator.{YieldsFirst}
 use Rattle.std.specs.Option.{option_map}
 use Rattle.std.specs.Ordering.{is_eq}
-use Rattle.std.specs.Prelude.{◌≡◌, ℕ, ◌+◌, ◌-◌, ◌<◌, List, [], ◌∷◌, length, map, Option, None, Some, IfSome, MatchOption}
+use Rattle.std.specs.Prelude.{◌≡◌, ℕ, ◌+◌, ◌-◌, ◌<◌, List, [], ◌∷◌, length, Option, None, Some, IfSome, MatchOption}
 use Rattle.std.specs.declared.cmp.Ordering.{Ordering}
 use Rattle.rkyv_btree_base.specs.Increasing.{Increasing}
 use Rattle.rkyv_btree_portable.specs.declared.check.Portable
-use Rattle.rkyv_btree_update.specs.Natives.{both, key_change, read_shown}
-use Rattle.rkyv_btree_update.specs.Updated.{all_put, updated}
+use Rattle.rkyv_btree_update.specs.Natives.{both, read_shown}
+use Rattle.rkyv_btree_update.specs.Updated.{all_put, changes_meant, key_change, updated}
 use Rattle.rkyv_btree_update.specs.declared.change.Change.{Change}
 use Rattle.rkyv_btree_update.specs.declared.change.Change.TheVariants.{Put, Delete}
 use Rattle.rkyv_btree_update.specs.mirror.Compared.{compared}
@@ -56,26 +56,36 @@ module _ {T U S : Type 0} (cmp : T → T → Ordering) (old : S → List (T × U
       MatchOption step ((merged s ≡ merged t) × AreOrdered t × (length (new t) < length (new s)))
       (λ item. YieldsFirst merged s item t × IfSome item (λ _. AreOrdered t))
 
+-- an element that was put back, and those after it
+abbrev pub put_back : {X : Type 0} → Option X → List X → List X
+put_back None rest = rest
+put_back (Some x) rest = x ∷ rest
+
 -- what the entries and the changes that are left of a merge show
 abbrev pub old_left : {M K V A B T U : Type 0} {g : ArchivedMap.Ghosts M K V} {m : Portable.Ghosts M} {k : Portable.Ghosts K} {v : Portable.Ghosts V}
     → (List ℕ → ℕ → T) → (List ℕ → ℕ → U) → (A → T) → (B → U) → Updates M A B K V g m k v → List (T × U)
-old_left key_lent value_lent key value s = entries_ahead key_lent value_lent key value s.entries
+old_left key_lent value_lent key value s =
+    put_back (option_map (both key value) s.ahead) (shown_left key_lent value_lent s.entries)
 
 -- and the changes alone
 abbrev pub changing_left : {M K V A B T U : Type 0} {g : ArchivedMap.Ghosts M K V} {m : Portable.Ghosts M} {k : Portable.Ghosts K} {v : Portable.Ghosts V}
     → (List ℕ → ℕ → T) → (List ℕ → ℕ → U) → (A → T) → (B → U) → Changing M A B K V g m k v → List (T × Change U)
-changing_left key_lent value_lent key value (Listed changes) = map (key_change key value) changes.now
+changing_left key_lent value_lent key value (Listed changes) = changes_meant key value changes.now
 changing_left key_lent value_lent key value (Puts entries) = all_put (shown_left key_lent value_lent entries)
 
 abbrev pub new_left : {M K V A B T U : Type 0} {g : ArchivedMap.Ghosts M K V} {m : Portable.Ghosts M} {k : Portable.Ghosts K} {v : Portable.Ghosts V}
     → (List ℕ → ℕ → T) → (List ℕ → ℕ → U) → (A → T) → (B → U) → Updates M A B K V g m k v → List (T × Change U)
-new_left key_lent value_lent key value s = ahead (option_map (key_change key value) s.change) (changing_left key_lent value_lent key value s.changes)
+new_left key_lent value_lent key value s =
+    ahead (option_map (key_change key value) s.change) (changing_left key_lent value_lent key value s.changes)
 
 -- what is left of a comparison of two maps: the changes, and how many entries
 module _ {M K V A B T U : Type 0} {g : ArchivedMap.Ghosts M K V} {m : Portable.Ghosts M} {k : Portable.Ghosts K} {v : Portable.Ghosts V} where
-  abbrev pub diff_left : (T → T → Ordering) → (U → U → Ordering) → (List ℕ → ℕ → T) → (List ℕ → ℕ → U) → (A → T) → (B → U) → Differences M A B K V g m k v → List (T × Change U)
+  abbrev pub diff_left : (T → T → Ordering) → (U → U → Ordering) → (List ℕ → ℕ → T) → (List ℕ → ℕ → U) → (A → T) → (B → U)
+      → Differences M A B K V g m k v → List (T × Change U)
   diff_left order value_order key_lent value_lent key value s =
-      compared order (λ x y. is_eq (value_order x y)) (entries_ahead key_lent value_lent key value s.from) (entries_ahead key_lent value_lent key value s.to)
+      compared order (λ x y. is_eq (value_order x y)) (entries_ahead key_lent value_lent key value s.from)
+      (entries_ahead key_lent value_lent key value s.to)
 
   abbrev pub diff_size : (List ℕ → ℕ → T) → (List ℕ → ℕ → U) → (A → T) → (B → U) → Differences M A B K V g m k v → ℕ
-  diff_size key_lent value_lent key value s = length (entries_ahead key_lent value_lent key value s.from) + length (entries_ahead key_lent value_lent key value s.to)
+  diff_size key_lent value_lent key value s =
+      length (entries_ahead key_lent value_lent key value s.from) + length (entries_ahead key_lent value_lent key value s.to)

@@ -5,8 +5,8 @@ use Rattle.rkyv_btree_update.proofs.Compared.{difference_by_order}
 use Rattle.rkyv_btree_update.proofs.Meant.{changes_through, read_meant, shown_increase, shown_meant, shown_updated}
 use Rattle.rkyv_btree_update.proofs.Writes.{drained}
 use Rattle.rkyv_btree_update.specs.Differences.{IsDifference}
-use Rattle.rkyv_btree_update.specs.Natives.{both, key_change, meaning, shown_of}
-use Rattle.rkyv_btree_update.specs.Updated.{updated}
+use Rattle.rkyv_btree_update.specs.Natives.{both, meaning, shown_of}
+use Rattle.rkyv_btree_update.specs.Updated.{changes_meant, key_change, updated}
 use Rattle.rkyv_btree_update.specs.mirror.Compared.{compared}
 use Rattle.rkyv_btree_update.specs.mirror.Merged.{diff_left, entries_ahead}
 use Rattle.rkyv_btree_update.proofs.diff.diff.Goals as goal
@@ -22,7 +22,7 @@ returns-clause-difference g c changes all =
     let value = c.is_lent-2.ensures in
     let order = g.KU.FromArchived.order in
     let same = λ (x y : g.VU.FromArchived.Shown). is_eq (g.VU.FromArchived.order x y) in
-    let are : map (key_change g.KU.FromArchived.shown g.VU.FromArchived.shown) changes ≡ compared order same shown_old shown_new =
+    let are : changes_meant g.KU.FromArchived.shown g.VU.FromArchived.shown changes ≡ compared order same shown_old shown_new =
     sym (drained (key_change g.KU.FromArchived.shown g.VU.FromArchived.shown) left (record { from = c.of.result; to = c.of-2.result }) changes all)
     ∙ ap (λ zs. compared order same zs (entries_ahead {g = g.M.ArchivedMap} {m = g.M.Portable} {k = g.K.Portable} {v = g.V.Portable} g.KU.FromArchived.lent g.VU.FromArchived.lent g.KU.FromArchived.shown g.VU.FromArchived.shown c.of-2.result)) c.of.ensures ∙ ap (compared order same shown_old) c.of-2.ensures in
     subst (IsDifference order shown_old shown_new) (sym are)
@@ -37,6 +37,6 @@ returns-clause-leads g c keys values changes all =
     let order = g.KU.FromArchived.order in
     let leads = (returns-clause-difference g c changes all).leads in
     ap (updated g.K.Portable.kind.order _) (changes_through (meaning g.KU.Archive.archival keys.same) (meaning g.VU.Archive.archival values.same) g.KU.FromArchived.shown g.VU.FromArchived.shown keys.meant values.meant keys.means values.means changes)
-    ∙ sym (shown_updated g.K.Portable.kind g.V.Portable.kind g.M.ArchivedMap.E g.KU.FromArchived.lent g.VU.FromArchived.lent keys.meant values.meant (read_meant keys) (read_meant values) old.buf.now order keys.alike old.pos (map (key_change g.KU.FromArchived.shown g.VU.FromArchived.shown) changes))
+    ∙ sym (shown_updated g.K.Portable.kind g.V.Portable.kind g.M.ArchivedMap.E g.KU.FromArchived.lent g.VU.FromArchived.lent keys.meant values.meant (read_meant keys) (read_meant values) old.buf.now order keys.alike old.pos (changes_meant g.KU.FromArchived.shown g.VU.FromArchived.shown changes))
     ∙ ap (map (both keys.meant values.meant)) leads
     ∙ shown_meant g.K.Portable.kind g.V.Portable.kind g.M.ArchivedMap.E g.KU.FromArchived.lent g.VU.FromArchived.lent keys.meant values.meant (read_meant keys) (read_meant values) new.buf.now new.pos

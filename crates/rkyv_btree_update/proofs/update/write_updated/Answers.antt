@@ -1,14 +1,14 @@
--- The merge is written, and what is written of it is strict.
+-- The merge is written.
 use Rattle.std.proofs.Common.{◌<◌, length, map, refl, sym, ap, subst, ◌∙◌, arith}
 use Rattle.std.proofs.lemmas.Result.{err_from_is_err_and, on_err_weaker, on_ok_weaker}
 use Rattle.rkyv_btree_strict.proofs.Migrated.{then_appended, then_begins}
-use Rattle.rkyv_btree_update.proofs.Changed.{sorted_updated}
+use Rattle.rkyv_btree_update.proofs.Ends.{map_ends}
 use Rattle.rkyv_btree_update.proofs.Meant.{entries_through, read_meant, shown_increase, shown_updated}
 use Rattle.rkyv_btree_update.proofs.Merged.{merged_lists, ordered_lists}
-use Rattle.rkyv_btree_update.proofs.Writes.{items_are, smallest_built, unbuilt, unrooted, writes_smallest, writes_strict}
+use Rattle.rkyv_btree_update.proofs.Writes.{items_are, smallest_built, unbuilt, unrooted, writes_smallest}
 use Rattle.rkyv_btree_update.specs.Natives.{both, meaning, shown_of}
 use Rattle.rkyv_btree_update.specs.Written.{too_many}
-use Rattle.rkyv_btree_update.specs.Updated.{changes_meant, updated}
+use Rattle.rkyv_btree_update.specs.Updated.{updated}
 use Rattle.rkyv_btree_update.specs.mirror.Merged.{changing_left, merged, new_left, old_left}
 use Rattle.rkyv_btree_update.proofs.update.write_updated.Goals as goal
 
@@ -104,12 +104,6 @@ returns-clause-smallest g c keys values =
     (g.W.Writer.state c.args.writer.now) (g.W.Writer.state c.serialize_from_ordered_iter.new.writer) (g.W.Writer.state c.write_root.new.writer) c.in_ok-root.root
     c.write_root.result c.in-Some.len (sym is.0.count) least c.in_ok-root.ensures.went c.write_root.ensures.pos c.write_root.ensures.ok c.write_root.ensures.last
 
-pub returns-clause-strict : goal.returns-clause-strict
-returns-clause-strict g c keys values =
-    writes_strict g.K.Portable.kind g.V.Portable.kind g.row.E g.KU.Archive.archival g.VU.Archive.archival c.write_root.result _ (g.W.Writer.state c.args.writer.now) (g.W.Writer.state c.write_root.new.writer)
-    (sorted_updated g.met.K.ViewOrd.total _ (changes_meant keys.meant values.meant (changing_left {g = g.M.ArchivedMap} {m = g.M.Portable} {k = g.K.Portable} {v = g.V.Portable} g.KU.FromArchived.lent g.VU.FromArchived.lent g.KU.FromArchived.shown g.VU.FromArchived.shown c.args.changes)) c.args.old.increasing)
-    (returns-clause-smallest g c keys values)
-
 pub returns-clause-err : goal.returns-clause-err
 returns-clause-err g c =
     let view = c.args.old.view in
@@ -129,3 +123,7 @@ returns-clause-went g c = on_ok_weaker c.write_root.result (λ more. then_append
 
 pub returns-clause-kept : goal.returns-clause-kept
 returns-clause-kept g c = on_err_weaker c.write_root.result (λ more. then_begins (g.W.Writer.state c.args.writer.now) (g.W.Writer.state c.serialize_from_ordered_iter.new.writer) (g.W.Writer.state c.write_root.new.writer) c.in_ok-root.ensures.went more) c.write_root.ensures.kept
+
+pub returns-clause-end : goal.returns-clause-end
+returns-clause-end g c =
+    map_ends c.write_root.result (g.W.Writer.state c.serialize_from_ordered_iter.new.writer) (g.W.Writer.state c.write_root.new.writer) c.in_ok-root.root c.in-Some.len c.write_root.ensures.pos c.write_root.ensures.ok

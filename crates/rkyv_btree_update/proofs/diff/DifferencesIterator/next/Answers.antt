@@ -3,7 +3,7 @@ use Rattle.std.proofs.Common.{Option, Some, None, refl, ◌∙◌}
 use Rattle.std.specs.Option.{option_map}
 use Rattle.std.specs.Prelude.{IfSome}
 use Rattle.rkyv_btree_update.proofs.Merged.{gives, goes}
-use Rattle.rkyv_btree_update.specs.Natives.{key_change}
+use Rattle.rkyv_btree_update.specs.Updated.{key_change}
 use Rattle.rkyv_btree_update.specs.mirror.Merged.{diff_left}
 use Rattle.rkyv_btree_update.proofs.diff.DifferencesIterator.next.Goals as goal
 

@@ -1,0 +1,20 @@
+//! Why archives aren't updated, merged or compared.
+
+use rkyv_btree_base::fault::Fault;
+use rkyv_btree_base::refusal::Refusal;
+use std::alloc::AllocError;
+
+/// Why archives aren't updated, merged or compared.
+#[derive(Debug, Drop)]
+pub enum UpdateFault {
+    /// The first line that is no change, counted from 1.
+    Line(u64),
+    /// The first line whose key isn't greater than that of the line before it, counted from 1.
+    OutOfOrder(u64),
+    /// The first of the archives that isn't one whose keys increase, counted from 0, and its first error.
+    Archive(usize, Refusal),
+    /// The entries can't be archived.
+    NotBuilt(Fault<AllocError>),
+    /// There is no memory.
+    Memory,
+}

@@ -1,0 +1,95 @@
+//! New archives of old ones and of changes in lines.
+ghost use Rattle.std.specs.Prelude.{◌≡◌, ◌+◌, ◌<◌, ◌^◌, ℕ, IfOk, IfErr, OnOk};
+ghost use Rattle.rkyv_btree_base.specs.Text.{text_kind};
+ghost use Rattle.rkyv_btree_update.specs.Updated.{changes_meant};
+ghost use Rattle.rkyv_btree_view.specs.View.{entries_of};
+ghost use Rattle.btreekv_commands.specs.Changing.{ChangesIncrease};
+ghost use Rattle.btreekv_commands.specs.Updating.{FailsChanges, FailsUpdate, IsStrictArchive, IsUpdate, change_fault, changed_entries};
+
+use crate::changes::read_changes;
+use crate::opening::open_increasing;
+use crate::update_fault::UpdateFault;
+use rkyv_btree_base::fault::Fault;
+use rkyv_btree_base::place::VecWriter;
+use rkyv_btree_base::text::ArchivedText;
+use rkyv_btree_strict::strict_map::StrictView;
+use rkyv_btree_update::change::Change;
+use rkyv_btree_update::update;
+use std::alloc::{AllocError, Global};
+
+/// Returns the program's fault for one of writing entries after changes. The line of a change out of order is counted from 1.
+fn change_fault(fault: Fault<AllocError>) -> UpdateFault
+    requires { (index : ℕ) → fault ≡ Fault.OutOfOrder index → index + 1 < 2 ^ 64 }
+    ensures { result ≡ change_fault fault }
+{
+    match fault {
+        Fault::OutOfOrder { index } => UpdateFault::OutOfOrder(index + 1),
+        Fault::Length(mismatch) => UpdateFault::NotBuilt(Fault::Length(mismatch)),
+        Fault::LengthOverflow => UpdateFault::NotBuilt(Fault::LengthOverflow),
+        Fault::PositionOverflow => UpdateFault::NotBuilt(Fault::PositionOverflow),
+        Fault::OffsetOverflow => UpdateFault::NotBuilt(Fault::OffsetOverflow),
+        Fault::Writer(error) => UpdateFault::NotBuilt(Fault::Writer(error)),
+        Fault::Memory(error) => UpdateFault::NotBuilt(Fault::Memory(error)),
+        Fault::Entry(fault) => UpdateFault::NotBuilt(Fault::Entry(fault)),
+    }
+}
+
+/// Returns the archive of a map's entries after changes.
+///
+/// # Errors
+///
+/// `OutOfOrder` with the line of the first change out of order, and `NotBuilt` if the entries can't be archived.
+#[tactic(auto, using(crate::proofs::Fits::texts_fit))]
+fn changed<'a>(
+    alloc: Global,
+    map: StrictView<'a, ArchivedText, ArchivedText, 5>,
+    changes: &[(&'a str, Change<&'a str>)],
+) -> Result<Vec<u8>, UpdateFault>
+    ensures ok { IfOk result (λ bytes. IsStrictArchive bytes.items
+        (changed_entries (entries_of text_kind text_kind 5 map.entry.view)
+        (changes_meant (λ k. k.now) (λ v. v.now) changes.now))) }
+    ensures in_order { OnOk result
+        (ChangesIncrease (changes_meant (λ k. k.now) (λ v. v.now) changes.now)) }
+    ensures err { IfErr result (FailsChanges (entries_of text_kind text_kind 5 map.entry.view)
+        (changes_meant (λ k. k.now) (λ v. v.now) changes.now)) }
+{
+    // The number has 64 bits, so the line's doesn't overflow.
+    let _len = changes.len();
+    let mut writer = VecWriter::new(alloc);
+    match update::update::<ArchivedText, ArchivedText, &str, &str, VecWriter, 5>(
+        alloc,
+        map,
+        changes,
+        &mut writer,
+    ) {
+        Ok(_) => Ok(writer.into_vec()),
+        Err(fault) => Err(change_fault(fault)),
+    }
+}
+
+/// Returns the archive of an archive's entries after the changes of lines. The keys of the lines must increase, or the lines are sorted:
+/// then of equal keys the last one counts.
+///
+/// # Errors
+///
+/// `Archive` with the first error of an archive whose keys don't increase, `Line` with the number of the first line that is no change,
+/// `OutOfOrder` with that of the first line out of order, `NotBuilt` if the entries can't be archived, and `Memory` if an allocation fails.
+pub fn update<'a>(
+    alloc: Global,
+    is_sorted: bool,
+    archive: &'a [u8],
+    lines: &'a [u8],
+) -> Result<Vec<u8>, UpdateFault>
+    ensures ok { IfOk result (λ bytes. IsUpdate is_sorted archive.now lines.now bytes.items) }
+    ensures err { IfErr result (FailsUpdate is_sorted archive.now lines.now) }
+{
+    let map = match open_increasing(archive) {
+        Ok(map) => map,
+        Err(refusal) => return Err(UpdateFault::Archive(0, refusal)),
+    };
+    let changes = match read_changes(alloc, is_sorted, lines) {
+        Ok(changes) => changes,
+        Err(fault) => return Err(fault),
+    };
+    changed(alloc, map, changes.as_slice())
+}
