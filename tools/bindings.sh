@@ -42,7 +42,7 @@ finish() {
     exit $((failed > 0))
 }
 
-has all cc ar || finish
+has all cc ar objcopy nm || finish
 
 library=crates/rkyv_btree_ffi/out/librkyv_btree_ffi.a
 proved() {
@@ -58,16 +58,27 @@ if ! proved "$@"; then
     finish
 fi
 
-# The kit's C code asks the C library for memory, and is put into the same archive.
+# The kit's C code asks the C library for memory, and is put into the same archive: one object, in which only the header's names are global.
 kit=$(cd "$(dirname "$(readlink -f "$(command -v "${rt[0]}")")")/.." && pwd)
 build=bindings/build
 mkdir -p "$build"
 rm -f "$build/librkyv_btree.a"
-printf 'create %s\naddlib %s\naddlib %s\nsave\nend\n' "$build/librkyv_btree.a" "$library" "$kit/c/liblibc_c.a" | ar -M
+cc -nostdlib -r -o "$build/rkyv_btree.o" -Wl,--whole-archive "$library" "$kit/c/liblibc_c.a" -Wl,--no-whole-archive
+objcopy --wildcard --keep-global-symbol='rkyv_btree_*' "$build/rkyv_btree.o"
+ar rcs "$build/librkyv_btree.a" "$build/rkyv_btree.o"
 printf '{ global: rkyv_btree_*; local: *; };\n' > "$build/exports"
 cc -shared -o "$build/librkyv_btree.so" -Wl,-soname,librkyv_btree.so.0 \
     -Wl,--whole-archive "$build/librkyv_btree.a" -Wl,--no-whole-archive \
     -Wl,-z,defs,-z,text,--version-script="$build/exports"
+
+# Returns whether the names that both libraries define for others are those of the header.
+names() {
+    local header=include/rkyv_btree.h
+    grep -o '\brkyv_btree_[a-z_]*(' "$header" | tr -d '(' | sort -u > "$build/header.names"
+    nm -g --defined-only -f posix "$build/librkyv_btree.a" | awk 'NF > 1 { print $1 }' | sort -u | diff "$build/header.names" - &&
+        nm -D --defined-only -f posix "$build/librkyv_btree.so" | awk '{ print $1 }' | sort -u | diff "$build/header.names" -
+}
+try names names
 
 compiled() {
     cc -std=c11 -Wall -Wextra -Wpedantic -Werror -O2 -Iinclude -o "$build/$1" "bindings/c/$1.c" "$build/librkyv_btree.a"

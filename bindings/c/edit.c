@@ -29,7 +29,7 @@ int main(int argc, char **argv) {
     }
     if (code == RKYV_BTREE_NOT_FOUND) return 1;
     if (code != RKYV_BTREE_OK) {
-        uint8_t text[128];
+        uint8_t text[128] = {0};
         rkyv_btree_strerror(code, text, sizeof text);
         fprintf(stderr, "edit: %s\n", (const char *)text);
         return 2;

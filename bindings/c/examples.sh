@@ -10,6 +10,11 @@ for way in "" --unvalidated; do
     ./lookup texts.archive $way "key 7" || status=$?
     [[ $status == 1 ]]
 done
+for words in "key --from" "key --unvalidated" --from --unvalidated "--strict key" "--from key 00998"; do
+    status=0
+    ./lookup texts.archive $words > listed 2> said || status=$?
+    [[ $status == 2 && ! -s listed && $(cat said) == usage:* ]]
+done
 status=0
 ./lookup numbers.archive x 2> said || status=$?
 [[ $status == 2 && $(cat said) == lookup:* ]]

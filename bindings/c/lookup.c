@@ -5,6 +5,7 @@
 #include "rkyv_btree.h"
 
 #include <fcntl.h>
+#include <stdbool.h>
 #include <stdio.h>
 #include <string.h>
 #include <sys/mman.h>
@@ -16,17 +17,16 @@ static void print_text(const uint8_t *data, rkyv_btree_item item) {
 }
 
 static int say(uint32_t code, const rkyv_btree_refusal *why) {
-    uint8_t text[128];
+    uint8_t text[128] = {0};
     rkyv_btree_strerror(code, text, sizeof text);
     fprintf(stderr, "lookup: %s (at %lld)\n", (const char *)text, (long long)why->at);
     return 2;
 }
 
 static int list_from(const rkyv_btree_map *map, const char *key) {
-    rkyv_btree_cursor cursor;
-    rkyv_btree_entry entries[64];
+    rkyv_btree_cursor cursor = {0};
+    rkyv_btree_entry entries[64] = {0};
     size_t written = 64;
-    memset(&cursor, 0, sizeof cursor);
     rkyv_btree_seek_text(map, (const uint8_t *)key, strlen(key), &cursor);
     while (written == 64 && rkyv_btree_next(map, &cursor, entries, 64, &written) == RKYV_BTREE_OK) {
         for (size_t i = 0; i < written; i++) {
@@ -47,12 +47,16 @@ static int print_found(const uint8_t *data, uint32_t code, const rkyv_btree_entr
     return 0;
 }
 
+static bool is_option(const char *word) {
+    return strcmp(word, "--from") == 0 || strcmp(word, "--unvalidated") == 0;
+}
+
 int main(int argc, char **argv) {
     rkyv_btree_map map = {0};
     rkyv_btree_refusal why = {0};
     rkyv_btree_entry found = {0};
     struct stat stat;
-    if (argc < 3 || argc > 4) {
+    if (argc < 3 || argc > 4 || is_option(argv[2]) != (argc == 4)) {
         fprintf(stderr, "usage: lookup FILE KEY | lookup FILE --from KEY | lookup FILE --unvalidated KEY\n");
         return 2;
     }

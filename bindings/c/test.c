@@ -70,11 +70,10 @@ static uint32_t find(uint32_t type, const uint8_t *data, size_t len, rkyv_btree_
 }
 
 static void walk(const rkyv_btree_map *map, unsigned from, unsigned count, size_t room) {
-    rkyv_btree_cursor cursor;
+    rkyv_btree_cursor cursor = {0};
     rkyv_btree_entry batch[64];
     size_t written = room;
     unsigned at = from;
-    memset(&cursor, 0, sizeof cursor);
     if (from == 0) assert(rkyv_btree_first(map, &cursor) == RKYV_BTREE_OK);
     else if (has_texts_as_keys(map->type))
         assert(rkyv_btree_seek_text(map, texts + given[from].key.start, given[from].key.len, &cursor) == RKYV_BTREE_OK);
@@ -93,7 +92,7 @@ static void walk(const rkyv_btree_map *map, unsigned from, unsigned count, size_
 static void one_type(uint32_t type, unsigned count) {
     rkyv_btree_map map = {0};
     rkyv_btree_refusal why = {0};
-    rkyv_btree_entry entry;
+    rkyv_btree_entry entry = {0};
     uint32_t len = 0;
     size_t data_len = 0;
     give(type, count);
@@ -127,7 +126,7 @@ static void one_type(uint32_t type, unsigned count) {
 static void edits(void) {
     rkyv_btree_refusal why = {0};
     rkyv_btree_map map = {0};
-    rkyv_btree_entry entry;
+    rkyv_btree_entry entry = {0};
     size_t len = 0;
     for (uint32_t type = 1; type <= 9; type++) {
         give(type, 100);
@@ -155,12 +154,11 @@ static void edits(void) {
 static void misuse(void) {
     rkyv_btree_map map = {0};
     rkyv_btree_refusal why = {0};
-    rkyv_btree_entry entry, batch[4];
-    rkyv_btree_cursor cursor;
-    uint8_t out[8], bad[8] = {0};
-    uint32_t len;
-    size_t written, archive_len = 0;
-    memset(&cursor, 0, sizeof cursor);
+    rkyv_btree_entry entry = {0}, batch[4] = {0};
+    rkyv_btree_cursor cursor = {0};
+    uint8_t out[8] = {0}, bad[8] = {0};
+    uint32_t len = 0;
+    size_t written = 0, archive_len = 0;
     assert(rkyv_btree_len(&map, &len) == RKYV_BTREE_NOT_OPEN);
     assert(rkyv_btree_get_number(&map, 0, &entry) == RKYV_BTREE_NOT_OPEN);
     assert(rkyv_btree_first(&map, &cursor) == RKYV_BTREE_NOT_OPEN);
@@ -199,15 +197,15 @@ static void forged(void) {
     static const uint32_t numbers[] = {0, 1, 2, 5, 6, 31, 32, 33, 100, 1u << 31, UINT32_MAX};
     rkyv_btree_map map = {0};
     rkyv_btree_refusal why = {0};
-    rkyv_btree_entry batch[8];
-    size_t len = 0, written;
+    rkyv_btree_entry batch[8] = {0};
+    size_t len = 0, written = 0;
     give(9, MOST);
     uint8_t *data = build(9, MOST, &len);
     assert(rkyv_btree_open(&map, 9, data, len, &why) == RKYV_BTREE_OK);
     for (size_t skipped = 0; skipped < 3; skipped++) {
         for (size_t field = 0; field < sizeof(rkyv_btree_cursor) / 4; field++) {
             for (size_t n = 0; n < sizeof numbers / sizeof *numbers; n++) {
-                rkyv_btree_cursor cursor;
+                rkyv_btree_cursor cursor = {0};
                 assert(rkyv_btree_first(&map, &cursor) == RKYV_BTREE_OK);
                 for (size_t i = 0; i < skipped; i++) {
                     assert(rkyv_btree_next(&map, &cursor, batch, 8, &written) == RKYV_BTREE_OK);

@@ -7,13 +7,14 @@ impl<'a> Field<'a> for u32 {}
 impl<'a> Field<'a> for u64 {}
 impl<'a> Field<'a> for &'a str {}
 
-/// What is looked up in a map with keys of type `K`: a number of that type, or a text of any lifetime.
+/// What is looked up in a map with keys of type `K`: a number of that type, a text of any lifetime, or a reference to one of these.
 pub trait AsKey<K>: sealed::Asked {}
 
 impl AsKey<u32> for u32 {}
 impl AsKey<u64> for u64 {}
-impl AsKey<&str> for &str {}
+impl AsKey<&str> for str {}
 impl AsKey<&str> for String {}
+impl<K, Q: AsKey<K> + ?Sized> AsKey<K> for &Q {}
 
 /// A type of values that are overwritten.
 pub trait Number: sealed::Wide {}
@@ -62,7 +63,7 @@ pub(crate) mod sealed {
         }
     }
 
-    impl Asked for &str {
+    impl Asked for str {
         fn query(&self) -> Query<'_> {
             Query::Text(self)
         }
@@ -71,6 +72,12 @@ pub(crate) mod sealed {
     impl Asked for String {
         fn query(&self) -> Query<'_> {
             Query::Text(self)
+        }
+    }
+
+    impl<Q: Asked + ?Sized> Asked for &Q {
+        fn query(&self) -> Query<'_> {
+            (**self).query()
         }
     }
 

@@ -18,4 +18,4 @@ pub use error::Error;
 pub use field::Field;
 pub use field::{AsKey, Number};
 pub use find::find;
-pub use map::{Iter, Map, Range};
+pub use map::{Iter, Keys, Map, Range, Values};

@@ -100,7 +100,17 @@ impl<'a, K: Field<'a>, V: Field<'a>> Map<'a, K, V> {
         let mut cursor = raw::Cursor::default();
         // SAFETY: the map is open.
         unsafe { raw::rkyv_btree_first(&self.raw, &mut cursor) };
-        Iter::at(*self, cursor)
+        Iter { entries: Entries::at(*self, cursor), left: self.len() }
+    }
+
+    /// Returns an iterator over the keys, in the order of the entries.
+    pub fn keys(&self) -> Keys<'a, K, V> {
+        Keys { iter: self.iter() }
+    }
+
+    /// Returns an iterator over the values, in the order of the entries.
+    pub fn values(&self) -> Values<'a, K, V> {
+        Values { iter: self.iter() }
     }
 
     /// Returns an iterator over the entries whose keys are within the bounds, if the keys increase.
@@ -122,7 +132,7 @@ impl<'a, K: Field<'a>, V: Field<'a>> Map<'a, K, V> {
                 },
             },
         }
-        Range { entries: Iter::at(*self, cursor), range, of: PhantomData }
+        Range { entries: Entries::at(*self, cursor), range, of: PhantomData }
     }
 }
 
@@ -163,8 +173,8 @@ impl<'a, K: Field<'a>, V: Field<'a>> IntoIterator for &Map<'a, K, V> {
     }
 }
 
-/// The entries of a map, in their order.
-pub struct Iter<'a, K, V> {
+/// The entries of a map from a cursor on, as the library writes them.
+struct Entries<'a, K, V> {
     map: Map<'a, K, V>,
     cursor: raw::Cursor,
     batch: [raw::Entry; BATCH],
@@ -172,9 +182,9 @@ pub struct Iter<'a, K, V> {
     end: usize,
 }
 
-impl<'a, K: Field<'a>, V: Field<'a>> Iter<'a, K, V> {
-    fn at(map: Map<'a, K, V>, cursor: raw::Cursor) -> Iter<'a, K, V> {
-        Iter { map, cursor, batch: [raw::Entry::default(); BATCH], next: BATCH, end: BATCH }
+impl<'a, K: Field<'a>, V: Field<'a>> Entries<'a, K, V> {
+    fn at(map: Map<'a, K, V>, cursor: raw::Cursor) -> Entries<'a, K, V> {
+        Entries { map, cursor, batch: [raw::Entry::default(); BATCH], next: BATCH, end: BATCH }
     }
 
     /// Takes the next entry. A batch that isn't full was the last.
@@ -202,21 +212,76 @@ impl<'a, K: Field<'a>, V: Field<'a>> Iter<'a, K, V> {
     }
 }
 
+/// The entries of a map, in their order.
+pub struct Iter<'a, K, V> {
+    entries: Entries<'a, K, V>,
+    left: usize,
+}
+
 impl<'a, K: Field<'a>, V: Field<'a>> Iterator for Iter<'a, K, V> {
     type Item = (K, V);
 
     fn next(&mut self) -> Option<(K, V)> {
-        let entry = self.next_entry()?;
-        let data = self.map.data;
+        let entry = self.entries.next_entry()?;
+        self.left -= 1;
+        let data = self.entries.map.data;
         Some((K::read(data, entry.key), V::read(data, entry.value)))
+    }
+
+    fn size_hint(&self) -> (usize, Option<usize>) {
+        (self.left, Some(self.left))
     }
 }
 
+impl<'a, K: Field<'a>, V: Field<'a>> ExactSizeIterator for Iter<'a, K, V> {}
+
 impl<'a, K: Field<'a>, V: Field<'a>> FusedIterator for Iter<'a, K, V> {}
+
+/// The keys of a map, in the order of the entries.
+pub struct Keys<'a, K, V> {
+    iter: Iter<'a, K, V>,
+}
+
+impl<'a, K: Field<'a>, V: Field<'a>> Iterator for Keys<'a, K, V> {
+    type Item = K;
+
+    fn next(&mut self) -> Option<K> {
+        self.iter.next().map(|entry| entry.0)
+    }
+
+    fn size_hint(&self) -> (usize, Option<usize>) {
+        self.iter.size_hint()
+    }
+}
+
+impl<'a, K: Field<'a>, V: Field<'a>> ExactSizeIterator for Keys<'a, K, V> {}
+
+impl<'a, K: Field<'a>, V: Field<'a>> FusedIterator for Keys<'a, K, V> {}
+
+/// The values of a map, in the order of the entries.
+pub struct Values<'a, K, V> {
+    iter: Iter<'a, K, V>,
+}
+
+impl<'a, K: Field<'a>, V: Field<'a>> Iterator for Values<'a, K, V> {
+    type Item = V;
+
+    fn next(&mut self) -> Option<V> {
+        self.iter.next().map(|entry| entry.1)
+    }
+
+    fn size_hint(&self) -> (usize, Option<usize>) {
+        self.iter.size_hint()
+    }
+}
+
+impl<'a, K: Field<'a>, V: Field<'a>> ExactSizeIterator for Values<'a, K, V> {}
+
+impl<'a, K: Field<'a>, V: Field<'a>> FusedIterator for Values<'a, K, V> {}
 
 /// The entries of a map between two bounds, in their order.
 pub struct Range<'a, K, V, Q, R> {
-    entries: Iter<'a, K, V>,
+    entries: Entries<'a, K, V>,
     range: R,
     of: PhantomData<Q>,
 }

@@ -11,6 +11,49 @@ fn given_back<'a, K: Field<'a> + Ord + std::fmt::Debug, V: Field<'a> + PartialEq
     assert_eq!(map.len(), entries.len());
     assert_eq!(map.is_empty(), entries.is_empty());
     assert_eq!(map.iter().collect::<Vec<_>>(), entries);
+    assert!(map.keys().eq(entries.iter().map(|entry| entry.0)));
+    assert!(map.values().eq(entries.iter().map(|entry| entry.1)));
+}
+
+#[test]
+fn sizes() {
+    for len in [0, 1, 31, 32, 33, 64, 100] {
+        let bytes = (0..len).map(|n| (n, "text")).collect::<Builder<u32, _>>().build().unwrap();
+        let map = Map::<u32, &str>::open(&bytes).unwrap();
+        let (mut entries, mut keys, mut values) = (map.iter(), map.keys(), map.values());
+        for left in (0..=len as usize).rev() {
+            assert_eq!([entries.len(), keys.len(), values.len()], [left; 3]);
+            assert_eq!(entries.size_hint(), (left, Some(left)));
+            let next = (entries.next(), keys.next(), values.next());
+            assert!(next.0.is_some() == (left > 0) && next.0 == next.1.zip(next.2));
+        }
+        assert_eq!((entries.len(), entries.next()), (0, None));
+    }
+}
+
+#[test]
+fn keys_by_reference() {
+    let bytes = Builder::new().entry("a", 1u64).entry("b", 2).build().unwrap();
+    let map = Map::<&str, u64>::open(&bytes).unwrap();
+    let (text, words) = (String::from("b"), ["b"]);
+    assert_eq!([map.get(&text), map.get(text.as_str()), map.get(words[0]), map.get(&words[0])], [Some(2); 4]);
+    assert_eq!(find::<&str, u64>(&bytes, &text).unwrap(), Some(2));
+    assert!(map.contains_key(&text) && map.range(text..).eq([("b", 2)]));
+    let mut bytes = Builder::new().entry(7u64, 1u32).build().unwrap();
+    assert!(Edit::<u64, u32>::open(&mut bytes).unwrap().set(&7, 2));
+    let map = Map::<u64, u32>::open(&bytes).unwrap();
+    assert_eq!((map.get(&7), map.get(7)), (Some(2), Some(2)));
+}
+
+#[test]
+fn refusals_are_errors() {
+    fn count(bytes: &[u8]) -> Result<usize, Box<dyn std::error::Error>> {
+        Ok(Map::<u32, u32>::open(bytes)?.len())
+    }
+    let mut bytes = Builder::new().entry(1u32, 2u32).build().unwrap();
+    assert_eq!(count(&bytes).unwrap(), 1);
+    bytes[0] = 7;
+    assert_eq!(count(&bytes).unwrap_err().to_string(), "the byte is the kind of no node at position 0");
 }
 
 #[test]
