@@ -39,8 +39,8 @@ bench: program maps
 	@bench/file.sh $(MAPS)
 	@bench/cold.sh $(PROGRAM) $(MAPS)
 
-# The static and the shared library, and what is over them in C, Rust and Python, with tests. It needs cc; it leaves out what has no cargo,
-# python3 or pkg-config.
+# The static and the shared library, and what is over them in C, Rust and Python, with tests. It needs cc and binutils; it leaves out what has no
+# cargo, python3 or pkg-config.
 bindings:
 	@tools/bindings.sh
 

@@ -1,9 +1,10 @@
 #!/usr/bin/env python3
 """Writes docs/PROOFS.md, the index of contracts: tools/index.py [--check]
 
-It reads the sources alone. For each function with a contract it lists the clauses, the definitions of this repository that they
-cite, and the edits that turn it. With --check it writes nothing: the last line is `1 passed, 0 failed` if docs/PROOFS.md is what
-it would write and each edit turns a function that is there, and else `0 passed, 1 failed`.
+It reads the sources alone. For each function with a contract it lists the clauses, the fields of the records that they state, the
+definitions of this repository that they cite, and the edits that turn it. With --check it writes nothing: the last line is
+`1 passed, 0 failed` if docs/PROOFS.md is what it would write and each edit turns a function that is there, and else
+`0 passed, 1 failed`.
 """
 import pathlib
 import re
@@ -19,6 +20,7 @@ HEAD = """# Index of contracts
 the contracts promise.
 
 - **Requires** and **Ensures** name the clauses; `·` is a clause without a name. An `impl` lists the ghost members that it defines.
+  In parentheses are the promises of a clause that states a record: the record's fields.
 - **Definitions** are those of this repository that the clauses cite. The last section says which file has each.
 - **Refused edits** are changes of the function that the prover must refuse. Their files are in the crate's folder `wrong`, with the
   module and the function before the name.
@@ -33,6 +35,7 @@ class Function:
     def __init__(self, module, owner, name, public, start):
         self.module, self.owner, self.name, self.public, self.start = module, owner, name, public, start
         self.requires, self.ensures, self.cites, self.edits = [], [], set(), []
+        self.states = []
 
     def title(self):
         if self.name == "trait" or self.name.startswith("impl "):
@@ -90,6 +93,23 @@ def clauses_at(text, at):
         at = end
 
 
+def heads(clause):
+    """Yields the first word of what a clause states, and that of each last argument within it, or of the function's body there."""
+    text = clause.strip()
+    while text:
+        premises, opened, last = 0, [], ""
+        for at, sign in enumerate(text):
+            if sign == "(":
+                opened.append(at)
+            elif sign == ")":
+                last = text[opened.pop():at]
+            elif sign == "→" and not opened:
+                premises = at + 1
+        yield re.match(r"\s*([\w-]*)", text[premises:])[1]
+        body = re.fullmatch(r"\((?:λ [^.]*\.\s)?(.*)", last, re.S)
+        text = body[1] if body and text.endswith(")") else ""
+
+
 def functions_of(module, text):
     """Returns the functions of a module, and the ghost members of its `impl` blocks as functions of the owner's name."""
     names, found = imported(text), []
@@ -125,6 +145,8 @@ def functions_of(module, text):
             end = re.compile(r"\n\s*(?:requires|ensures)\b|\{|;(?!\s*\d+\])").search(text, match.end())
             for word, name, clause in clauses_at(text, end.start()):
                 getattr(one, word).append(name)
+                if word == "ensures":
+                    one.states.append(list(heads(clause[:-1])))
                 one.cites |= {name for name in names if name in set(re.findall(r"[\w-]+", clause))}
             found.append(one)
     return found, names
@@ -166,6 +188,14 @@ def files_of_definitions():
     return files
 
 
+def records_of(file):
+    """Returns the records of a file of definitions: by name, the fields."""
+    found = {}
+    for name, body in re.findall(r"^ *pub record (\w+).*\n((?: .*\n)*)", file.read_text(), re.M):
+        found[name] = re.findall(r"^ *pub (\w+) :", body.split("pub record")[0], re.M)
+    return found
+
+
 def row(cells):
     return "| " + " | ".join(cells) + " |"
 
@@ -174,10 +204,18 @@ def marked(names):
     return ", ".join(f"`{name}`" if name != "·" else name for name in names)
 
 
+def promised(one, fields_of):
+    """Returns a cell with the promises of a function: its clauses, each with the fields of the record that it states."""
+    fields = [next((marked(fields_of(name)) for name in names if fields_of(name)), "") for names in one.states]
+    fields = fields or [""] * len(one.ensures)
+    return ", ".join(marked([name]) + (f" ({more})" if more else "") for name, more in zip(one.ensures, fields))
+
+
 def page():
     """Returns the page, and the edits that turn no function."""
     lines, lost, places = [HEAD], [], {}
     files = files_of_definitions()
+    records = {file: records_of(file) for file in set(files.values())}
     for name in crates():
         crate = ROOT / "crates" / name
         functions, texts, named = [], {}, {}
@@ -198,7 +236,9 @@ def page():
                 file = files.get(named[one][cited])
                 if file:
                     places.setdefault(file, set()).add(cited)
-            lines.append(row([title, marked(one.requires), marked(one.ensures), marked(sorted(one.cites)), marked(one.edits)]))
+            imports = named[one]
+            promises = promised(one, lambda name: records.get(files.get(imports.get(name)), {}).get(name, []))
+            lines.append(row([title, marked(one.requires), promises, marked(sorted(one.cites)), marked(one.edits)]))
         lines.append("")
     lines += ["## Definitions\n", row(["File", "Definitions that contracts cite"]), row(["---"] * 2)]
     for file in sorted(places):

@@ -1,19 +1,18 @@
 //! Building archived maps from a list of all items, by recursion over the sizes of subtrees.
-ghost use Rattle.std.specs.Prelude.{◌≡◌, ◌+◌, ◌*◌, ◌<◌, ◌≤◌, length, map, alloc_error, IsOk, OnOk, OnErr, IfOk, IfErr, IsErrOf, IsTrue};
+ghost use Rattle.std.specs.Prelude.{◌≡◌, ◌+◌, ◌*◌, ◌<◌, ◌≤◌, length, map, alloc_error, OnOk, OnErr, IfOk, IfErr, IsErrOf, IsTrue};
 ghost use Rattle.std.specs.Iterator.{UpTo};
 ghost use Rattle.rkyv_btree_archive.specs.mirror.Scratch.{IsFree, IsReserved};
 ghost use Rattle.rkyv_btree_format.specs.Layout.{layout_of, are_fitting};
 ghost use Rattle.rkyv_btree_writing_laws.specs.Entries.{now_of};
 ghost use Rattle.rkyv_btree_writing_laws.specs.Kept.{NeverGrows, OnlyAppended};
-ghost use Rattle.rkyv_btree_writing_laws.specs.Miscounts.{IsMiscount};
-ghost use Rattle.rkyv_btree_writing_laws.specs.OneTree.{BuildsOneTree};
-ghost use Rattle.rkyv_btree_writing_laws.specs.Serialising.{Serialised, BuildFault, BuildsTree, FailsToBuild};
-ghost use Rattle.rkyv_btree_writing_laws.specs.SmallestMaps.{BuildsSmallest};
+ghost use Rattle.rkyv_btree_writing_laws.specs.Miscounts.{IsLimited};
+ghost use Rattle.rkyv_btree_writing_laws.specs.Serialising.{Serialised, BuildFault};
 ghost use Rattle.rkyv_btree_writing_laws.specs.Written.{ChildWritten, ChildStopped};
 ghost use Rattle.rkyv_btree_shape.specs.Logarithm.{ilog};
 ghost use Rattle.rkyv_btree_shape.specs.Plan.{planned_alone};
 ghost use Rattle.rkyv_btree_writer.specs.Archiving.{BeginsWith};
 ghost use Rattle.rkyv_btree_writer.specs.Writing.{position, last_end};
+ghost use Rattle.rkyv_btree_writing_laws.specs.Building.{IsBuilt, IsUnbuilt};
 
 use crate::tree::write_child;
 use rkyv_btree_archive::archive::{Archive, Serialize};
@@ -197,34 +196,12 @@ where
     requires can { I.can_next iter }
     requires ends { UpTo (I.remaining iter) 18446744073709551615 }
     ensures ok { IfOk result
-        (BuildsTree K.kind V.kind E KU.archival VU.archival now_of I.next_gives iter len
-        W.state writer.old writer.new) }
-    // With the map after it, the tree is accepted, and means the items. No accepted map with as many entries has fewer nodes,
-    // node bytes or levels.
-    ensures smallest { IfOk result
-        (BuildsSmallest K.kind V.kind E KU.archival VU.archival now_of I.next_gives iter len
-        W.state writer.old writer.new) }
-    // The tree is the only left-complete tree of the items, and the appended bytes are its image.
-    ensures one_tree { IfOk result
-        (BuildsOneTree K.kind V.kind E KU.archival VU.archival now_of I.next_gives iter len
+        (IsBuilt K.kind V.kind E KU.archival VU.archival now_of I.next_gives iter len
         W.state writer.old writer.new) }
     ensures err { IfErr result
-        (FailsToBuild K.kind V.kind E KU.archival VU.archival now_of I.next_gives iter len
+        (IsUnbuilt K.kind V.kind E KU.archival VU.archival now_of I.next_gives iter len
         W.state writer.old writer.new) }
-    ensures end { OnOk result (0 < len → position (W.state writer.new) ≤ last_end) }
-    // On success no write has failed, and bytes were only appended.
-    ensures went { OnOk result (OnlyAppended (W.state writer.old) (W.state writer.new)) }
-    // After any error the contents begin with the old ones.
-    ensures kept { OnErr result (BeginsWith (W.state writer.new) (W.state writer.old)) }
-    // After an error of memory the writer is unchanged, if serializing an entry takes no memory.
-    ensures memory { NeverGrows KU.archival → NeverGrows VU.archival →
-        IsErrOf result (Fault.Memory alloc_error) → W.state writer.new ≡ W.state writer.old }
-    // A length past 32 bits is always the error `LengthOverflow`, and nothing is written.
-    ensures past { last_end < len → IsErrOf result Fault.LengthOverflow }
-    ensures past_kept { last_end < len → W.state writer.new ≡ W.state writer.old }
-    // With a declared length of 0 the only error is a wrong count, and nothing is written.
-    ensures none { len ≡ 0 → IfErr result IsMiscount }
-    ensures none_kept { len ≡ 0 → W.state writer.new ≡ W.state writer.old }
+    ensures limits { IsLimited len (W.state writer.old) (W.state writer.new) result }
 {
     if len > LAST_END as usize {
         return Err(Fault::LengthOverflow);

@@ -1,6 +1,5 @@
 -- What a caller concludes for the headline, over the definitions alone.
 use Rattle.std.proofs.Common.{◌≡◌, ℕ, ◌≤◌, List, length, map, Option, Some, None, Bor, sym, ap, ◌∙◌, slice_get, true, arith}
-use Rattle.std.proofs.Math.ListN.{get_or-map}
 use Rattle.std.proofs.lemmas.List.{length-map}
 use Rattle.std.proofs.lemmas.Option.{slice_get-map}
 use Rattle.std.specs.Option.{option_map}
@@ -82,20 +81,6 @@ module _ (K V : Kind) (E : ℕ) (k : IsLawful K) (v : IsLawful V) (b : List ℕ)
         let number = finds.entry.1 in
         let is_there : slice_get m i ≡ Some (entry_at K V E b e) = ap (λ (xs : List (K.Value × V.Value)). slice_get xs i) (sym list_read) ∙ slice_get-map (entry_at K V E b) (entry_places K V E b pos) i ∙ ap (option_map (entry_at K V E b)) number in
         (i, value_place K V E e, entry_at K V E b e, is_there, finds.search.hit.0, puts.bytes, (is.0, puts.accepted i 0 pos is.0 m number is.1))
-
--- what a search finds among the keys of a list of entries is what is looked up in them
-module _ {A : Type 0} (comparison : A → Ordering) (m : List (A × Unit {0})) where
-  key_hit : (e : A × Unit {0}) → IsHit (λ x. comparison x.0) m e → IsHit comparison (map (λ x. x.0) m) e.0
-  key_hit e h = (h.0, h.1, omega (arith, length-map m (λ (x : A × Unit {0}). x.0), h.2), λ d. rw (get_or-map (λ (x : A × Unit {0}). x.0) m h.1 (d, tt)) (ap (λ (x : A × Unit {0}). x.0) (h.3 (d, tt))))
-
-  pub found_key : (found : Option (A × Unit {0})) → IfSome found (IsHit (λ x. comparison x.0) m) → IfSome (option_map (λ x. x.0) found) (IsHit comparison (map (λ x. x.0) m))
-  found_key None h = tt
-  found_key (Some e) h = key_hit e h
-
--- whether something is found is also whether what it reads is
-pub found_mapped : {X Y Any : Type 0} (read : X → Y) (found : Option X) → (IsSome found ↔ Any) → (IsSome (option_map read found) ↔ Any)
-found_mapped read None h = h
-found_mapped read (Some x) h = h
 
 -- where a call refuses, and refuses no map, there is none
 pub none_accepted : {T F X : Type 0} {Is : X → Type 0} (result : Result T F) (fault : F) → result ≡ Err fault → ((m : X) → Is m → IsOk result) → (m : X) → Is m → ⊥

@@ -29,7 +29,7 @@ use rkyv_btree::base::set::ArchivedBTreeSet;
 use rkyv_btree::compare::ViewOrd;
 use rkyv_btree::iter::Iter;
 use rkyv_btree::keys::{Keys, Values};
-use rkyv_btree::laws::{what_is_found_is_equal, written_maps_are_held};
+use rkyv_btree::laws::written_maps_are_held;
 use rkyv_btree::map::{ArchivedMap, MapSeal, ShowsEntries, access};
 use rkyv_btree::range::Range;
 use rkyv_btree::set::{Iter as SetIter, Range as SetRange, access as access_set};
@@ -291,7 +291,6 @@ pub fn looked_up_in_set<'a, K: CheckBytes + ViewOrd, const E: usize>(
         IsLookedUp (K.kind.order (view_value key.entry)) (map (λ e. e.0) m) (option_map view_value found)) }
     ensures refused { IfErr result (λ refusal. IsNoMap K.kind unit_kind E buf.now pos) }
 {
-    what_is_found_is_equal::<K, (), E>();
     let set = access_set::<K, E>(buf, pos)?;
     Ok(set.get(key))
 }

@@ -27,12 +27,14 @@ pub use Rattle.rkyv_btree_view.specs.Items
 pub use Rattle.rkyv_btree_view.specs.Iter
 pub use Rattle.rkyv_btree_view.specs.Keys
 pub use Rattle.rkyv_btree_view.specs.Lookup
+pub use Rattle.rkyv_btree_view.specs.Lookups
 pub use Rattle.rkyv_btree_view.specs.ManyLeft
 pub use Rattle.rkyv_btree_view.specs.ManyLookups
 pub use Rattle.rkyv_btree_view.specs.Map
 pub use Rattle.rkyv_btree_view.specs.Native
 pub use Rattle.rkyv_btree_view.specs.Query
 pub use Rattle.rkyv_btree_view.specs.Range
+pub use Rattle.rkyv_btree_view.specs.Ranges
 pub use Rattle.rkyv_btree_view.specs.Set
 pub use Rattle.rkyv_btree_view.specs.SameAs
 pub use Rattle.rkyv_btree_view.specs.View

@@ -1,6 +1,6 @@
 -- What a source gives whose keys must increase: items whose keys increase, as far as they are claimed.
-use Rattle.std.proofs.Common.{◌≡◌, ℕ, ◌+◌, ◌<◌, ◌≤◌, ◌⊎◌, ◌∙◌, true, false, List, [], ◌∷◌, ◌++◌, length, map, take, Option, None, Some, inl, inr, refl, sym, ap, subst, arith}
-use Rattle.std.specs.Prelude.{IfSome, MatchOption}
+use Rattle.std.proofs.Common.{◌≡◌, ℕ, ◌+◌, ◌<◌, ◌≤◌, ◌⊎◌, ◌∙◌, true, false, List, [], ◌∷◌, ◌++◌, length, map, take, Option, None, Some, Result, Err, inl, inr, refl, sym, ap, subst, arith}
+use Rattle.std.specs.Prelude.{IfSome, MatchOption, alloc_error}
 use Rattle.std.specs.Cmp.{IsTotalOrder}
 use Rattle.std.specs.Iterator.{Yields}
 use Rattle.std.specs.declared.cmp.Ordering.{Ordering}
@@ -14,7 +14,7 @@ use Rattle.rkyv_btree_writer.specs.declared.fault.Fault.{Fault}
 use Rattle.rkyv_btree_writer.specs.declared.fault.Fault.TheVariants.{Length, LengthOverflow, PositionOverflow, OffsetOverflow, Writer, Memory, Entry, OutOfOrder}
 use Rattle.rkyv_btree_writing_laws.specs.Entries.{both_borrowed}
 use Rattle.rkyv_btree_writing_laws.specs.Increasing.{Increasing, IsOutOfOrder}
-use Rattle.rkyv_btree_writing_laws.specs.Miscounts.{IsMiscount}
+use Rattle.rkyv_btree_writing_laws.specs.Miscounts.{IsLimited, IsMiscount}
 use Rattle.rkyv_btree_writing_laws.specs.Serialising.{BeginClaimed, Serialised, StoppedBuilding, Miscounted}
 use Rattle.rkyv_btree_writing_laws.specs.StrictBuilding.{SerialisedInOrder, MetOutOfOrder, StoppedInOrder, StrictFault}
 use Rattle.rkyv_btree_writing_laws.proofs.Increasing.{alone, increasing_snoc, nothing}
@@ -275,3 +275,32 @@ module _ {A B M N P : Type 0} (order : M → M → Ordering) (total : IsTotalOrd
     none_met (Memory error) t none is h = absurd is
     none_met (Entry fault) t none is h = absurd is
     none_met (OutOfOrder index) t none is h = absurd is
+
+module _ {X : Type 0} where
+  -- a fault of memory is itself
+  pub memory_met : (fault : Fault X) → met_out_of_order fault ≡ Memory alloc_error → fault ≡ Memory alloc_error
+  memory_met (Length m) is = absurd (cc (is))
+  memory_met LengthOverflow is = is
+  memory_met PositionOverflow is = is
+  memory_met OffsetOverflow is = is
+  memory_met (Writer error) is = is
+  memory_met (Memory error) is = is
+  memory_met (Entry fault) is = is
+  memory_met (OutOfOrder index) is = is
+
+  overflow_met : (fault : Fault X) → ◌≡◌ {A = Result ℕ (Fault X)} (Err fault) (Err LengthOverflow) → ◌≡◌ {A = Result ℕ (Fault X)} (Err (met_out_of_order fault)) (Err LengthOverflow)
+  overflow_met (Length m) is = absurd (cc (is))
+  overflow_met LengthOverflow is = is
+  overflow_met PositionOverflow is = is
+  overflow_met OffsetOverflow is = is
+  overflow_met (Writer error) is = is
+  overflow_met (Memory error) is = is
+  overflow_met (Entry fault) is = is
+  overflow_met (OutOfOrder index) is = is
+
+  -- claims past 32 bits and of nothing have the same limits
+  pub limits_met : (claim : ℕ) (from to : Writing) (fault : Fault X) → (claim ≡ 0 → IsMiscount fault → IsMiscount (met_out_of_order fault)) → IsLimited claim from to (Err fault) → IsLimited claim from to (Err (met_out_of_order fault))
+  limits_met claim from to fault counts h = record {
+    past = λ late. let p = h.past late in (overflow_met fault p.0, p.1);
+    none = λ none. let p = h.none none in (counts none p.0, p.1);
+  }

@@ -1,19 +1,24 @@
 -- What is built of an iterator of results, up to its first error, in words of its own calls.
-use Rattle.std.proofs.Common.{◌≡◌, ℕ, ◌∙◌, List, [], ◌∷◌, length, map, Option, None, Some, Result, Ok, Err, IfOk, IfErr, inl, inr, sym, ap, subst, arith, ⊎_elim}
-use Rattle.std.specs.Prelude.{⊤}
+use Rattle.std.proofs.Common.{◌≡◌, ℕ, ◌∙◌, List, [], ◌∷◌, length, map, Option, None, Some, Result, Ok, Err, IfOk, IfErr, OnOk, OnErr, IsErrOf, inl, inr, sym, ap, subst, arith, ⊎_elim}
+use Rattle.std.specs.Prelude.{⊤, alloc_error}
 use Rattle.std.specs.Iterator.{Yields}
 use Rattle.std.proofs.lemmas.Bool.{cases_lt}
 use Rattle.std.proofs.lemmas.List.{take_all}
 use Rattle.rkyv_btree_portable.specs.Kind.{Kind}
 use Rattle.rkyv_btree_format.specs.Layout.{layout_of}
 use Rattle.rkyv_btree_shape.specs.Plan.{planned_alone}
-use Rattle.rkyv_btree_writer.specs.Archiving.{Archival}
+use Rattle.rkyv_btree_writer.specs.Archiving.{Archival, BeginsWith}
 use Rattle.rkyv_btree_writer.specs.Writing.{Writing}
 use Rattle.rkyv_btree_writer.specs.declared.fault.Fault.{Fault}
 use Rattle.rkyv_btree_writer.specs.declared.fault.Fault.TheVariants.{Length, LengthOverflow, PositionOverflow, OffsetOverflow, Writer, Memory, Entry, OutOfOrder}
+use Rattle.rkyv_btree_writing_laws.specs.Kept.{NeverGrows, OnlyAppended}
+use Rattle.rkyv_btree_writing_laws.specs.Miscounts.{IsLimited, IsMiscount}
 use Rattle.rkyv_btree_writing_laws.specs.Serialising.{Serialised, StoppedBuilding, Miscounted}
 use Rattle.rkyv_btree_writing_laws.specs.Written.{ChildWritten}
-use Rattle.rkyv_btree_archive.specs.TryBuilding.{OkSteps, MetError, TryFaulted}
+use Rattle.rkyv_btree_writing_laws.proofs.Kept.{went_begins}
+use Rattle.rkyv_btree_archive.specs.TryBuilding.{OkSteps, MetError, TryFaulted, FailsToTry, IsItemOrMiscount, IsTryLimited, IsUntried}
+use Rattle.rkyv_btree_archive.specs.declared.try_build.TryFault.{TryFault}
+use Rattle.rkyv_btree_archive.specs.declared.try_build.TryFault.TheVariants.{Build}
 use Rattle.rkyv_btree_archive.specs.declared.items.Source.{Source}
 use Rattle.rkyv_btree_archive.specs.declared.try_build.UntilError.{UntilError}
 use Rattle.rkyv_btree_archive.specs.mirror.Ended.{CountsTo, FaultAt, SerialisedTo}
@@ -150,3 +155,64 @@ module _ {A B X P L : Type 0} (steps : P → Option (Result (A × B) X) → P �
     try_err (Some error) (Ok root) end t is whole h = met_behind root end t error is whole
     try_err None (Err fault) end t is whole h = try_fault None fault end t is h
     try_err (Some error) (Err fault) end t is whole h = try_fault (Some error) fault end t is h
+
+-- what is left of the writer, and what is returned for claims past 32 bits and of nothing
+module _ {X Y : Type 0} where
+  pub tried_on_ok : (A : Type 0) (error : Option X) (built : Result ℕ (Fault Y)) → OnOk built A → OnOk (tried error built) A
+  tried_on_ok A None (Ok root) h = h
+  tried_on_ok A (Some error) (Ok root) h = tt
+  tried_on_ok A None (Err fault) h = tt
+  tried_on_ok A (Some error) (Err fault) h = tt
+
+  pub tried_past : (error : Option X) (built : Result ℕ (Fault Y)) → IsErrOf built LengthOverflow → IsErrOf (tried error built) (Build LengthOverflow)
+  tried_past None built is = ap (tried None) is
+  tried_past (Some error) built is = ap (tried (Some error)) is
+
+  tried_none : (error : Option X) (built : Result ℕ (Fault Y)) → IfErr built IsMiscount → IfErr (tried error built) IsItemOrMiscount
+  tried_none None (Ok root) h = tt
+  tried_none (Some error) (Ok root) h = tt
+  tried_none None (Err fault) h = h
+  tried_none (Some error) (Err (Length m)) h = tt
+  tried_none (Some error) (Err LengthOverflow) h = absurd h
+  tried_none (Some error) (Err PositionOverflow) h = absurd h
+  tried_none (Some error) (Err OffsetOverflow) h = absurd h
+  tried_none (Some error) (Err (Writer fault)) h = absurd h
+  tried_none (Some error) (Err (Memory fault)) h = absurd h
+  tried_none (Some error) (Err (Entry fault)) h = absurd h
+  tried_none (Some error) (Err (OutOfOrder index)) h = absurd h
+
+  pub try_limits : (claim : ℕ) (from to : Writing) (error : Option X) (built : Result ℕ (Fault Y)) → IsLimited claim from to built → IsTryLimited claim from to (tried error built)
+  try_limits claim from to error built h = record {
+    past = λ late. let p = h.past late in (tried_past error built p.0, p.1);
+    none = λ none. let p = h.none none in (tried_none error built p.0, p.1);
+  }
+
+  pub tried_kept : (from to : Writing) (error : Option X) (built : Result ℕ (Fault Y)) → OnOk built (OnlyAppended from to) → OnErr built (BeginsWith to from) → OnErr (tried error built) (BeginsWith to from)
+  tried_kept from to None (Ok root) went kept = tt
+  tried_kept from to (Some error) (Ok root) went kept = went_begins from to went
+  tried_kept from to None (Err fault) went kept = kept
+  tried_kept from to (Some error) (Err fault) went kept = kept
+
+  pub tried_memory : (error : Option X) (built : Result ℕ (Fault Y)) → IsErrOf (tried error built) (Build (Memory alloc_error)) → IsErrOf built (Memory alloc_error)
+  tried_memory None (Ok root) is = absurd (cc (is))
+  tried_memory (Some error) (Ok root) is = absurd (cc (is))
+  tried_memory None (Err fault) is = cc (is)
+  tried_memory (Some error) (Err (Length m)) is = absurd (cc (is))
+  tried_memory (Some error) (Err LengthOverflow) is = absurd (cc (is))
+  tried_memory (Some error) (Err PositionOverflow) is = absurd (cc (is))
+  tried_memory (Some error) (Err OffsetOverflow) is = absurd (cc (is))
+  tried_memory (Some error) (Err (Writer fault)) is = absurd (cc (is))
+  tried_memory (Some error) (Err (Memory fault)) is = cc (is)
+  tried_memory (Some error) (Err (Entry fault)) is = absurd (cc (is))
+  tried_memory (Some error) (Err (OutOfOrder index)) is = absurd (cc (is))
+
+module _ {I M N R S P X Q : Type 0} (K V : Kind) (E : ℕ) (KA : Archival M R) (VA : Archival N S) (borrowed : I → M × N) (steps : P → Option (Result I X) → P → Type 0) (iter : P) (claim : ℕ) (state : Q → Writing) (before after : Q) where
+  pub result_untried : {Root Y : Type 0} (result : Result Root (TryFault Y X)) → IfErr result (FailsToTry K V E KA VA borrowed steps iter claim state before after) → OnErr result (BeginsWith (state after) (state before))
+      → (NeverGrows KA → NeverGrows VA → IsErrOf result (Build (Memory alloc_error)) → state after ≡ state before) → IfErr result (IsUntried K V E KA VA borrowed steps iter claim state before after)
+  result_untried (Ok root) cause kept memory = tt
+  result_untried (Err fault) cause kept memory = record {
+    cause = cause;
+    kept = kept;
+    memory = λ keys values is. memory keys values (ap Err is);
+    any_order = λ index is. subst (λ z. TryFaulted K V E KA VA borrowed steps iter claim (state before) (state after) z) is cause;
+  }

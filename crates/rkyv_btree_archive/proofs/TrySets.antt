@@ -11,7 +11,7 @@ use Rattle.rkyv_btree_writing_laws.specs.Serialising.{Serialised}
 use Rattle.rkyv_btree_writing_laws.specs.Sets.{unit_archival, entry_borrowed, entries_by, BuildsSet}
 use Rattle.rkyv_btree_writing_laws.proofs.Sets.{set_of_entries}
 use Rattle.rkyv_btree_writing_laws.proofs.Within.{yields_within, serialised_within, fault_within}
-use Rattle.rkyv_btree_archive.specs.TryBuilding.{OkSteps, MetError, TryFaulted, key_result, results_by}
+use Rattle.rkyv_btree_archive.specs.TryBuilding.{OkSteps, MetError, TryFaulted, FailsToTry, FailsToTrySet, IsUntried, IsUntriedSet, key_result, results_by}
 use Rattle.rkyv_btree_archive.specs.declared.try_build.TryFault.{TryFault}
 use Rattle.rkyv_btree_archive.specs.declared.try_build.TryFault.TheVariants.{Item, Build}
 
@@ -53,3 +53,10 @@ module _ {I X P F : Type 0} (steps : P → Option (Result I X) → P → Type 0)
     pub set_untried : {W : Type 0} (from t : Writing) (fault : TryFault W X) → TryFaulted K unit_kind E KA unit_archival (entry_borrowed borrowed) (map_steps steps call) iter claim from t fault → TryFaulted K unit_kind E KA unit_archival (entry_borrowed borrowed) (results_by steps) (map_source iter) claim from t fault
     set_untried from t (Item error) h = met_within from t error h
     set_untried from t (Build fault) h = fault_within K unit_kind E KA unit_archival (entry_borrowed borrowed) (OkSteps (map_steps steps call)) (OkSteps (results_by steps)) map_source mapped_results iter claim from fault t h
+
+-- what the map's call leaves, the set's leaves
+pub untried_as_set : {I J M R P D X Q : Type 0} (K : Kind) (E : ℕ) (KA : Archival M R) (borrowed : I → M) (steps : P → Option (Result I X) → P → Type 0) (iter : P) (claim : ℕ) (state : Q → Writing) (before after : Q)
+    {W : Type 0} {lent : J → M × Unit {0}} {outer : D → Option (Result J X) → D → Type 0} {it : D} (fault : TryFault W X)
+    → (FailsToTry K unit_kind E KA unit_archival lent outer it claim state before after fault → FailsToTrySet K E KA borrowed steps iter claim state before after fault)
+    → IsUntried K unit_kind E KA unit_archival lent outer it claim state before after fault → IsUntriedSet K E KA borrowed steps iter claim state before after fault
+untried_as_set K E KA borrowed steps iter claim state before after fault as_set h = record { cause = as_set h.cause; kept = h.kept; memory = λ keys is. h.memory keys (λ unit grows. grows) is; any_order = h.any_order }

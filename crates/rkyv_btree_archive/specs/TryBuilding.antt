@@ -1,15 +1,17 @@
 -- Serialising the items of an iterator that can fail: its calls give results.
-use Rattle.std.specs.Prelude.{◌≡◌, ℕ, ◌<◌, ◌≤◌, List, [], length, map, take, codes, Option, Some, Result, Ok, Err}
+use Rattle.std.specs.Prelude.{◌≡◌, ℕ, ◌<◌, ◌≤◌, List, [], length, map, take, codes, Option, Some, Result, Ok, Err, IfErr, IsErrOf, alloc_error}
 use Rattle.std.specs.Iterator.{Yields}
 use Rattle.std.specs.Option.{option_map}
 use Rattle.rkyv_btree_portable.specs.Kind.{Kind}
 use Rattle.rkyv_btree_portable.specs.Scalars.{unit_kind}
 use Rattle.rkyv_btree_format.specs.Layout.{layout_of}
 use Rattle.rkyv_btree_shape.specs.Plan.{planned_alone}
-use Rattle.rkyv_btree_writer.specs.Archiving.{Archival}
+use Rattle.rkyv_btree_writer.specs.Archiving.{Archival, BeginsWith}
 use Rattle.rkyv_btree_writer.specs.FaultText.{fault_text}
-use Rattle.rkyv_btree_writer.specs.Writing.{Writing}
+use Rattle.rkyv_btree_writer.specs.Writing.{Writing, last_end}
+use Rattle.rkyv_btree_writer.specs.declared.fault.Fault.TheVariants.{LengthOverflow, Memory, OutOfOrder}
 use Rattle.rkyv_btree_writing_laws.specs.Begun.{ChildBegun}
+use Rattle.rkyv_btree_writing_laws.specs.Kept.{NeverGrows}
 use Rattle.rkyv_btree_writing_laws.specs.Miscounts.{IsMiscount}
 use Rattle.rkyv_btree_writing_laws.specs.Serialising.{BeginClaimed, BuildFault}
 use Rattle.rkyv_btree_writing_laws.specs.Sets.{unit_archival, entry_borrowed}
@@ -48,6 +50,17 @@ module _ {I M N R S P X Q : Type 0} (K V : Kind) (E : ℕ) (KA : Archival M R) (
   abbrev pub FailsToTry : {W : Type 0} → TryFault W X → Type 0
   FailsToTry fault = TryFaulted K V E KA VA borrowed steps iter claim (state before) (state after) fault
 
+  -- that error, and what it leaves of the writer
+  pub record IsUntried {W : Type 0} (fault : TryFault W X) : Type 0 where
+    -- an item's error is the iterator's, after the items before it
+    pub cause : FailsToTry fault
+    -- the contents begin with the old ones
+    pub kept : BeginsWith (state after) (state before)
+    -- after an error of memory the writer is unchanged, if serializing an entry takes no memory
+    pub memory : NeverGrows KA → NeverGrows VA → fault ≡ Build (Memory alloc_error) → state after ≡ state before
+    -- keys in any order are serialized: no error is `OutOfOrder`
+    pub any_order : (index : ℕ) → fault ≡ Build (OutOfOrder index) → ⊥
+
 -- a key with a () beside it, given as a result, is this key as a result
 abbrev pub key_result : {I X : Type 0} → Result (I × Unit {0}) X → Result I X
 key_result (Ok entry) = Ok entry.0
@@ -63,10 +76,28 @@ module _ {I M R P X Q : Type 0} (K : Kind) (E : ℕ) (KA : Archival M R) (borrow
   abbrev pub FailsToTrySet : {W : Type 0} → TryFault W X → Type 0
   FailsToTrySet fault = FailsToTry K unit_kind E KA unit_archival (entry_borrowed borrowed) (results_by steps) iter claim state before after fault
 
+  -- that error, and what it leaves of the writer
+  pub record IsUntriedSet {W : Type 0} (fault : TryFault W X) : Type 0 where
+    -- an item's error is the iterator's, after the items before it
+    pub cause : FailsToTrySet fault
+    -- the contents begin with the old ones
+    pub kept : BeginsWith (state after) (state before)
+    -- after an error of memory the writer is unchanged, if serializing a key takes no memory
+    pub memory : NeverGrows KA → fault ≡ Build (Memory alloc_error) → state after ≡ state before
+    -- keys in any order are serialized: no error is `OutOfOrder`
+    pub any_order : (index : ℕ) → fault ≡ Build (OutOfOrder index) → ⊥
+
 -- an item failed, or there was a wrong count
 abbrev pub IsItemOrMiscount : {W X : Type 0} → TryFault W X → Type 0
 IsItemOrMiscount (Item error) = Unit {0}
 IsItemOrMiscount (Build fault) = IsMiscount fault
+
+-- what building returns for a claim, and from which state to which it leads
+pub record IsTryLimited {W X : Type 0} (claim : ℕ) (from to : Writing) (result : Result ℕ (TryFault W X)) : Type 0 where
+  -- a length past 32 bits is always the error `LengthOverflow`, and nothing is written
+  pub past : last_end < claim → IsErrOf result (Build LengthOverflow) × (to ≡ from)
+  -- with a declared length of 0 the only errors are an item's and a wrong count, and nothing is written
+  pub none : claim ≡ 0 → IfErr result IsItemOrMiscount × (to ≡ from)
 
 -- what the errors say; the iterator's own error is told by its field
 abbrev pub try_text : {W X : Type 0} → TryFault W X → List ℕ

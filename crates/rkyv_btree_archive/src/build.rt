@@ -1,23 +1,18 @@
 //! Building archived maps.
 ghost use Rattle.rkyv_btree_writing_laws.specs.Entries.{both_borrowed};
-ghost use Rattle.std.specs.Prelude.{◌≡◌, ℕ, ◌+◌, ◌-◌, ◌*◌, ◌^◌, ◌<◌, ◌≤◌, ◌↔◌, length, map, true, None, alloc_error, IsOk, OnOk, OnErr, IfOk, IfErr, IsErrOf, IsTrue};
+ghost use Rattle.std.specs.Prelude.{◌≡◌, ℕ, ◌+◌, ◌-◌, ◌*◌, ◌^◌, ◌<◌, ◌≤◌, ◌↔◌, length, true, None, IsOk, OnOk, OnErr, IfOk, IfErr, IsErrOf, IsTrue};
 ghost use Rattle.std.specs.Iterator.{UpTo};
-ghost use Rattle.rkyv_btree_writer.specs.Archiving.{BeginsWith};
 ghost use Rattle.rkyv_btree_writing_laws.specs.Archives.{SerialisedIsAccepted, EmptyIsAccepted, WrittenIsHeld};
 ghost use Rattle.rkyv_btree_writing_laws.specs.Alike.{TreesAreDetermined};
-ghost use Rattle.rkyv_btree_writing_laws.specs.Image.{root_bytes, root_reaches, root_image};
+ghost use Rattle.rkyv_btree_writing_laws.specs.Image.{root_bytes, root_reaches};
 ghost use Rattle.rkyv_btree_format.specs.Layout.{layout_of, are_fitting};
 ghost use Rattle.rkyv_btree_shape.specs.Logarithm.{ilog};
-ghost use Rattle.rkyv_btree_portable.specs.Rounding.{round_up};
-ghost use Rattle.rkyv_btree_writing_laws.specs.OneTree.{BuildsOneTree};
-ghost use Rattle.rkyv_btree_archive.specs.mirror.Ended.{FaultAt, SerialisedTo};
+ghost use Rattle.rkyv_btree_archive.specs.mirror.Ended.{IsBuiltTo, IsUnbuiltAt};
 ghost use Rattle.rkyv_btree_archive.specs.mirror.Scratch.{IsFree, IsReserved};
 ghost use Rattle.rkyv_btree_archive.specs.mirror.Source.{Gives};
-ghost use Rattle.rkyv_btree_writing_laws.specs.Kept.{NeverGrows, OnlyAppended};
-ghost use Rattle.rkyv_btree_writing_laws.specs.Miscounts.{IsMiscount};
-ghost use Rattle.rkyv_btree_writing_laws.specs.Serialising.{BuildsTree, FailsToBuild, RootFault};
-ghost use Rattle.rkyv_btree_writing_laws.specs.SmallestMaps.{ArchivesItems, BuildsSmallest};
-ghost use Rattle.rkyv_btree_writer.specs.Writing.{position, Wrote, last_end};
+ghost use Rattle.rkyv_btree_writing_laws.specs.Miscounts.{IsLimited};
+ghost use Rattle.rkyv_btree_writer.specs.Writing.{last_end};
+ghost use Rattle.rkyv_btree_writing_laws.specs.Building.{IsBuilt, IsUnbuilt, IsRootWritten, IsRootUnwritten};
 
 use crate::archive::{Archive, Serialize};
 use crate::borrow::Borrow;
@@ -117,20 +112,14 @@ where
     requires small { len ≤ 4294967295 }
     requires can { I.can_next source.old.items }
     requires ends { UpTo (I.remaining source.old.items) 18446744073709551615 }
-    ensures ok { IfOk result (λ resolver.
-        SerialisedTo K.kind V.kind E KU.archival VU.archival
+    ensures ok { IfOk result
+        (IsBuiltTo K.kind V.kind E KU.archival VU.archival
         (both_borrowed BKU.borrowed BVU.borrowed) (Gives I.next_gives L.passes L.stops)
-        (source.old, None) len (W.state writer.old) resolver (source.new, None)
-        (W.state writer.new)) }
-    ensures err { IfErr result (λ fault.
-        FaultAt K.kind V.kind E KU.archival VU.archival (both_borrowed BKU.borrowed BVU.borrowed)
-        (Gives I.next_gives L.passes L.stops) (source.old, None) len (W.state writer.old) fault
-        (source.new, None) (W.state writer.new)) }
-    ensures went { OnOk result (OnlyAppended (W.state writer.old) (W.state writer.new)) }
-    ensures memory { NeverGrows KU.archival → NeverGrows VU.archival →
-        IsErrOf result (Fault.Memory alloc_error) → W.state writer.new ≡ W.state writer.old }
-    ensures kept { OnErr result (BeginsWith (W.state writer.new) (W.state writer.old)) }
-    ensures end { OnOk result (position (W.state writer.new) ≤ last_end) }
+        (source.old, None) len (W.state writer.old) (source.new, None) (W.state writer.new)) }
+    ensures err { IfErr result
+        (IsUnbuiltAt K.kind V.kind E KU.archival VU.archival
+        (both_borrowed BKU.borrowed BVU.borrowed) (Gives I.next_gives L.passes L.stops)
+        (source.old, None) len (W.state writer.old) (source.new, None) (W.state writer.new)) }
 {
     let (above, on_last) = levels_of::<E>(len);
     let Ok(lists) = reserve::<BKU, BVU, KU, VU, K, V, A, E>(alloc, above) else {
@@ -169,24 +158,15 @@ where
     requires fitting { IsTrue (are_fitting K.kind V.kind E) }
     requires can { I.can_next source.old.items }
     requires ends { UpTo (I.remaining source.old.items) 18446744073709551615 }
-    ensures ok { IfOk result (λ resolver.
-        SerialisedTo K.kind V.kind E KU.archival VU.archival
+    ensures ok { IfOk result
+        (IsBuiltTo K.kind V.kind E KU.archival VU.archival
         (both_borrowed BKU.borrowed BVU.borrowed) (Gives I.next_gives L.passes L.stops)
-        (source.old, None) len (W.state writer.old) resolver (source.new, None)
-        (W.state writer.new)) }
-    ensures err { IfErr result (λ fault.
-        FaultAt K.kind V.kind E KU.archival VU.archival (both_borrowed BKU.borrowed BVU.borrowed)
-        (Gives I.next_gives L.passes L.stops) (source.old, None) len (W.state writer.old) fault
-        (source.new, None) (W.state writer.new)) }
-    ensures end { OnOk result (0 < len → position (W.state writer.new) ≤ last_end) }
-    ensures went { OnOk result (OnlyAppended (W.state writer.old) (W.state writer.new)) }
-    ensures kept { OnErr result (BeginsWith (W.state writer.new) (W.state writer.old)) }
-    ensures memory { NeverGrows KU.archival → NeverGrows VU.archival →
-        IsErrOf result (Fault.Memory alloc_error) → W.state writer.new ≡ W.state writer.old }
-    ensures past { last_end < len → IsErrOf result Fault.LengthOverflow }
-    ensures past_kept { last_end < len → W.state writer.new ≡ W.state writer.old }
-    ensures none { len ≡ 0 → IfErr result IsMiscount }
-    ensures none_kept { len ≡ 0 → W.state writer.new ≡ W.state writer.old }
+        (source.old, None) len (W.state writer.old) (source.new, None) (W.state writer.new)) }
+    ensures err { IfErr result
+        (IsUnbuiltAt K.kind V.kind E KU.archival VU.archival
+        (both_borrowed BKU.borrowed BVU.borrowed) (Gives I.next_gives L.passes L.stops)
+        (source.old, None) len (W.state writer.old) (source.new, None) (W.state writer.new)) }
+    ensures limits { IsLimited len (W.state writer.old) (W.state writer.new) result }
 {
     if len > LAST_END as usize {
         return Err(Fault::LengthOverflow);
@@ -238,46 +218,15 @@ impl<K: Portable, V: Portable, const E: usize> ArchivedBTreeMap<K, V, E> {
         requires fitting { IsTrue (are_fitting K.kind V.kind E) }
         requires can { I.can_next iter }
         requires ends { UpTo (I.remaining iter) 18446744073709551615 }
-        // With the map after it, what was appended is a map of the iterator's items.
-        ensures archived { IfOk result
-            (ArchivesItems K.kind V.kind E KU.archival VU.archival
-            (both_borrowed BKU.borrowed BVU.borrowed) I.next_gives iter len W.state writer.old
-            writer.new) }
-        // No accepted map with as many entries has fewer nodes, node bytes or levels.
-        ensures smallest { IfOk result
-            (BuildsSmallest K.kind V.kind E KU.archival VU.archival
-            (both_borrowed BKU.borrowed BVU.borrowed) I.next_gives iter len W.state writer.old
-            writer.new) }
-        // docs/FORMAT.md says which bytes these are.
-        ensures written { IfOk result
-            (BuildsTree K.kind V.kind E KU.archival VU.archival
-            (both_borrowed BKU.borrowed BVU.borrowed) I.next_gives iter len W.state writer.old
-            writer.new) }
-        // The tree is the only left-complete tree of the items, and the appended bytes are its image.
-        ensures one_tree { IfOk result
-            (BuildsOneTree K.kind V.kind E KU.archival VU.archival
+        ensures ok { IfOk result
+            (IsBuilt K.kind V.kind E KU.archival VU.archival
             (both_borrowed BKU.borrowed BVU.borrowed) I.next_gives iter len W.state writer.old
             writer.new) }
         ensures err { IfErr result
-            (FailsToBuild K.kind V.kind E KU.archival VU.archival
+            (IsUnbuilt K.kind V.kind E KU.archival VU.archival
             (both_borrowed BKU.borrowed BVU.borrowed) I.next_gives iter len W.state writer.old
             writer.new) }
-        ensures end { OnOk result (0 < len → position (W.state writer.new) ≤ last_end) }
-        // On success no write has failed, and bytes were only appended.
-        ensures went { OnOk result (OnlyAppended (W.state writer.old) (W.state writer.new)) }
-        // After any error the contents begin with the old ones.
-        ensures kept { OnErr result (BeginsWith (W.state writer.new) (W.state writer.old)) }
-        // After an error of memory the writer is unchanged, if serializing an entry takes no memory.
-        ensures memory { NeverGrows KU.archival → NeverGrows VU.archival →
-            IsErrOf result (Fault.Memory alloc_error) → W.state writer.new ≡ W.state writer.old }
-        // A length past 32 bits is always the error `LengthOverflow`, and nothing is written.
-        ensures past { last_end < len →
-            IsErrOf result Fault.LengthOverflow × (W.state writer.new ≡ W.state writer.old) }
-        // With a declared length of 0 the only error is a wrong count, and nothing is written.
-        ensures none { len ≡ 0 →
-            IfErr result IsMiscount × (W.state writer.new ≡ W.state writer.old) }
-        // Keys in any order are serialized: no error is `OutOfOrder`.
-        ensures any_order { (index : ℕ) → IsErrOf result (Fault.OutOfOrder index) → ⊥ }
+        ensures limits { IsLimited len (W.state writer.old) (W.state writer.new) result }
     {
         let mut source = Source {
             items: iter,
@@ -356,16 +305,10 @@ impl<K, V, const E: usize> ArchivedBTreeMap<K, V, E> {
         resolver: BTreeMapResolver,
         writer: &mut W,
     ) -> Result<u32, Fault<W::Error>>
-        ensures pos { IfOk result (λ pos. pos ≡ round_up (position (W.state writer.old)) 4) }
-        ensures ok { OnOk result
-            (Wrote (W.state writer.old)
-            (root_image (position (W.state writer.old)) resolver len) (W.state writer.new)) }
-        ensures last { OnOk result (position (W.state writer.new) ≤ last_end) }
-        ensures len { OnOk result (len ≤ last_end) }
-        ensures went { OnOk result (OnlyAppended (W.state writer.old) (W.state writer.new)) }
-        ensures kept { OnErr result (BeginsWith (W.state writer.new) (W.state writer.old)) }
-        ensures err { IfErr result (λ fault.
-            RootFault resolver len (W.state writer.old) fault (W.state writer.new)) }
+        ensures ok { IfOk result
+            (IsRootWritten len resolver (W.state writer.old) (W.state writer.new)) }
+        ensures err { IfErr result
+            (IsRootUnwritten len resolver (W.state writer.old) (W.state writer.new)) }
     {
         if len > 4294967295 {
             return Err(Fault::LengthOverflow);

@@ -1,27 +1,20 @@
 //! The archived set: the map of its keys in which each value is `()`. Its calls are the map's.
-ghost use Rattle.std.specs.Prelude.{◌≡◌, ℕ, ◌<◌, ◌≤◌, ◌↔◌, true, length, alloc_error, IsOk, OnOk, OnErr, IfOk, IfErr, IsErrOf, IsTrue, Ok, Err};
+ghost use Rattle.std.specs.Prelude.{◌≡◌, ◌<◌, ◌≤◌, ◌↔◌, true, length, IsOk, OnOk, OnErr, IfOk, IfErr, IsErrOf, IsTrue, Ok, Err};
 ghost use Rattle.std.specs.Iterator.{UpTo};
-ghost use Rattle.std.specs.Option.{option_map};
-ghost use Rattle.rkyv_btree_writer.specs.Archiving.{BeginsWith};
-ghost use Rattle.rkyv_btree_writing_laws.specs.Kept.{NeverGrows, OnlyAppended};
-ghost use Rattle.rkyv_btree_writing_laws.specs.Miscounts.{IsMiscount};
-ghost use Rattle.rkyv_btree_writing_laws.specs.OneTree.{BuildsOneTreeSet};
-ghost use Rattle.rkyv_btree_writing_laws.specs.Serialising.{RootFault};
-ghost use Rattle.rkyv_btree_writing_laws.specs.Sets.{BuildsSet, FailsToBuildSet};
-ghost use Rattle.rkyv_btree_writing_laws.specs.SmallestMaps.{ArchivesKeys, BuildsSmallestSet};
-ghost use Rattle.rkyv_btree_writing_laws.specs.StrictBuilding.{BuildsSetInOrder, FailsSetInOrder};
+ghost use Rattle.rkyv_btree_writing_laws.specs.Miscounts.{IsLimited};
 ghost use Rattle.rkyv_btree_format.specs.Layout.{are_fitting};
-ghost use Rattle.rkyv_btree_portable.specs.Rounding.{round_up};
 ghost use Rattle.rkyv_btree_portable.specs.Scalars.{unit_kind};
 ghost use Rattle.rkyv_btree_portable.specs.declared.check.Window.{Window as Left};
 ghost use Rattle.rkyv_btree_portable.specs.declared.refusal.Refusal.{Refusal as Reason};
 ghost use Rattle.rkyv_btree_portable.specs.laws.Scalars.{unit_laws};
-ghost use Rattle.rkyv_btree_writing_laws.specs.Image.{root_bytes, root_reaches, root_image};
+ghost use Rattle.rkyv_btree_writing_laws.specs.Image.{root_bytes, root_reaches};
 ghost use Rattle.rkyv_btree_verify.specs.Map.{map_kind};
 ghost use Rattle.rkyv_btree_verify.specs.Opening.{IsMapIn, RefusesMapIn};
 ghost use Rattle.rkyv_btree_verify.specs.Refusals.{RefusesMap};
 ghost use Rattle.rkyv_btree_verify.proofs.MapLaws.{map_laws, map_refusals};
-ghost use Rattle.rkyv_btree_writer.specs.Writing.{position, Wrote, last_end};
+ghost use Rattle.rkyv_btree_writer.specs.Writing.{last_end};
+ghost use Rattle.rkyv_btree_writing_laws.specs.Building.{IsBuiltSet, IsUnbuiltSet, IsUnbuiltSetInOrder, IsRootWritten, IsRootUnwritten};
+ghost use Rattle.rkyv_btree_writing_laws.specs.StrictBuilding.{BuildsSetInOrder};
 
 use crate::archive::{Archive, Serialize};
 use crate::borrow::Borrow;
@@ -121,41 +114,13 @@ impl<K: Portable, const E: usize> ArchivedBTreeSet<K, E> {
         requires fitting { IsTrue (are_fitting K.kind unit_kind E) }
         requires can { I.can_next iter }
         requires ends { UpTo (I.remaining iter) 18446744073709551615 }
-        // With the set after it, what was appended is a set of the iterator's items.
-        ensures archived { IfOk result
-            (ArchivesKeys K.kind E KU.archival BKU.borrowed I.next_gives iter len W.state writer.old
+        ensures ok { IfOk result
+            (IsBuiltSet K.kind E KU.archival BKU.borrowed I.next_gives iter len W.state writer.old
             writer.new) }
-        // No accepted set with as many keys has fewer nodes, node bytes or levels.
-        ensures smallest { IfOk result
-            (BuildsSmallestSet K.kind E KU.archival BKU.borrowed I.next_gives iter len
-            W.state writer.old writer.new) }
-        // docs/FORMAT.md says which bytes these are.
-        ensures written { IfOk result
-            (BuildsSet K.kind E KU.archival BKU.borrowed I.next_gives iter len W.state writer.old
-            writer.new) }
-        // The tree is the one left-complete tree of the keys, and what was appended is its image.
-        ensures one_tree { IfOk result
-            (BuildsOneTreeSet K.kind E KU.archival BKU.borrowed I.next_gives iter len
-            W.state writer.old writer.new) }
         ensures err { IfErr result
-            (FailsToBuildSet K.kind E KU.archival BKU.borrowed I.next_gives iter len
-            W.state writer.old writer.new) }
-        ensures end { OnOk result (0 < len → position (W.state writer.new) ≤ last_end) }
-        // On success no write has failed, and bytes were only appended.
-        ensures went { OnOk result (OnlyAppended (W.state writer.old) (W.state writer.new)) }
-        // After any error the contents begin with the old ones.
-        ensures kept { OnErr result (BeginsWith (W.state writer.new) (W.state writer.old)) }
-        // After an error of memory the writer is unchanged, if serializing a key takes no memory.
-        ensures memory { NeverGrows KU.archival →
-            IsErrOf result (Fault.Memory alloc_error) → W.state writer.new ≡ W.state writer.old }
-        // A length past 32 bits is always the error `LengthOverflow`, and nothing is written.
-        ensures past { last_end < len →
-            IsErrOf result Fault.LengthOverflow × (W.state writer.new ≡ W.state writer.old) }
-        // With a declared length of 0 the only error is a wrong count, and nothing is written.
-        ensures none { len ≡ 0 →
-            IfErr result IsMiscount × (W.state writer.new ≡ W.state writer.old) }
-        // Keys in any order are serialized: no error is `OutOfOrder`.
-        ensures any_order { (index : ℕ) → IsErrOf result (Fault.OutOfOrder index) → ⊥ }
+            (IsUnbuiltSet K.kind E KU.archival BKU.borrowed I.next_gives iter len W.state writer.old
+            writer.new) }
+        ensures limits { IsLimited len (W.state writer.old) (W.state writer.new) result }
     {
         ArchivedBTreeMap::<K, (), E>::serialize_from_ordered_iter::<BKU, (), KU, (), W, A, _>(
             alloc,
@@ -187,40 +152,17 @@ impl<K: Portable, const E: usize> ArchivedBTreeSet<K, E> {
         requires fitting { IsTrue (are_fitting K.kind unit_kind E) }
         requires can { I.can_next iter }
         requires ends { UpTo (I.remaining iter) 18446744073709551615 }
-        // With the set after it, what was appended is a set of the iterator's items.
-        ensures archived { IfOk result
-            (ArchivesKeys K.kind E KU.archival BKU.borrowed I.next_gives iter len W.state writer.old
+        ensures ok { IfOk result
+            (IsBuiltSet K.kind E KU.archival BKU.borrowed I.next_gives iter len W.state writer.old
             writer.new) }
-        // No accepted set with as many keys has fewer nodes, node bytes or levels.
-        ensures smallest { IfOk result
-            (BuildsSmallestSet K.kind E KU.archival BKU.borrowed I.next_gives iter len
-            W.state writer.old writer.new) }
-        // The keys increase, and docs/FORMAT.md says which bytes were written.
-        ensures written { IfOk result
+        // The keys increase.
+        ensures in_order { IfOk result
             (BuildsSetInOrder KU.cmp K.kind E KU.archival BKU.borrowed I.next_gives iter len
             W.state writer.old writer.new) }
-        // The tree is the one left-complete tree of the keys, and what was appended is its image.
-        ensures one_tree { IfOk result
-            (BuildsOneTreeSet K.kind E KU.archival BKU.borrowed I.next_gives iter len
-            W.state writer.old writer.new) }
-        // Each error's cause is there, and no key before it is out of order.
         ensures err { IfErr result
-            (FailsSetInOrder KU.cmp K.kind E KU.archival BKU.borrowed I.next_gives iter len
+            (IsUnbuiltSetInOrder KU.cmp K.kind E KU.archival BKU.borrowed I.next_gives iter len
             W.state writer.old writer.new) }
-        ensures end { OnOk result (0 < len → position (W.state writer.new) ≤ last_end) }
-        // On success no write has failed, and bytes were only appended.
-        ensures went { OnOk result (OnlyAppended (W.state writer.old) (W.state writer.new)) }
-        // After any error the contents begin with the old ones.
-        ensures kept { OnErr result (BeginsWith (W.state writer.new) (W.state writer.old)) }
-        // After an error of memory the writer is unchanged, if serializing a key takes no memory.
-        ensures memory { NeverGrows KU.archival →
-            IsErrOf result (Fault.Memory alloc_error) → W.state writer.new ≡ W.state writer.old }
-        // A length past 32 bits is always the error `LengthOverflow`, and nothing is written.
-        ensures past { last_end < len →
-            IsErrOf result Fault.LengthOverflow × (W.state writer.new ≡ W.state writer.old) }
-        // With a declared length of 0 the only error is a wrong count, and nothing is written.
-        ensures none { len ≡ 0 →
-            IfErr result IsMiscount × (W.state writer.new ≡ W.state writer.old) }
+        ensures limits { IsLimited len (W.state writer.old) (W.state writer.new) result }
     {
         ArchivedBTreeMap::<K, (), E>::serialize_strict_from_ordered_iter::<
             BKU,
@@ -272,16 +214,10 @@ impl<K, const E: usize> ArchivedBTreeSet<K, E> {
         resolver: BTreeSetResolver,
         writer: &mut W,
     ) -> Result<u32, Fault<W::Error>>
-        ensures pos { IfOk result (λ pos. pos ≡ round_up (position (W.state writer.old)) 4) }
-        ensures ok { OnOk result
-            (Wrote (W.state writer.old)
-            (root_image (position (W.state writer.old)) resolver len) (W.state writer.new)) }
-        ensures last { OnOk result (position (W.state writer.new) ≤ last_end) }
-        ensures len { OnOk result (len ≤ last_end) }
-        ensures went { OnOk result (OnlyAppended (W.state writer.old) (W.state writer.new)) }
-        ensures kept { OnErr result (BeginsWith (W.state writer.new) (W.state writer.old)) }
-        ensures err { IfErr result (λ fault.
-            RootFault resolver len (W.state writer.old) fault (W.state writer.new)) }
+        ensures ok { IfOk result
+            (IsRootWritten len resolver (W.state writer.old) (W.state writer.new)) }
+        ensures err { IfErr result
+            (IsRootUnwritten len resolver (W.state writer.old) (W.state writer.new)) }
     {
         ArchivedBTreeMap::<K, (), E>::write_root(len, resolver, writer)
     }

@@ -1,11 +1,9 @@
 //! Std's maps and sets, archived as trees with five entries in a node.
 ghost use Rattle.std.specs.Prelude.{◌≡◌, ◌<◌, length, alloc_error, IsTrue, IsErrOf, OnOk, OnErr, IfOk, IfErr};
-ghost use Rattle.rkyv_btree_format.specs.Layout.{layout_of, are_fitting};
+ghost use Rattle.rkyv_btree_format.specs.Layout.{are_fitting};
 ghost use Rattle.rkyv_btree_writing_laws.specs.Determined.{IsDetermined};
 ghost use Rattle.rkyv_btree_writing_laws.specs.Kept.{NeverGrows, OnlyAppended};
-ghost use Rattle.rkyv_btree_writing_laws.specs.OneTree.{OneTreeWritten};
 ghost use Rattle.rkyv_btree_writing_laws.specs.Sets.{unit_archival, with_units};
-ghost use Rattle.rkyv_btree_writing_laws.specs.SmallestMaps.{IsSmallestArchive};
 ghost use Rattle.rkyv_btree_writing_laws.specs.TreeArchival.{IsRoot, tree_archival};
 ghost use Rattle.rkyv_btree_writing_laws.proofs.MapSame.{same_map};
 ghost use Rattle.rkyv_btree_writing_laws.proofs.TreeArchived.{tree_archived, tree_causes};
@@ -16,6 +14,7 @@ ghost use Rattle.rkyv_btree_portable.specs.laws.Scalars.{unit_laws};
 ghost use Rattle.rkyv_btree_verify.proofs.MapLaws.{map_laws};
 ghost use Rattle.rkyv_btree_writer.specs.Archiving.{BeginsWith, IsUnresolved, IsUnserialised, Serialises, itself};
 ghost use Rattle.rkyv_btree_writer.proofs.Archiving.{native_archived, native_causes};
+ghost use Rattle.rkyv_btree_writing_laws.specs.Building.{IsBuiltOf};
 
 use crate::archive::{Archive, Serialize};
 use crate::build::{BTreeMapResolver, fill_root};
@@ -75,15 +74,9 @@ impl<W: Writer, A: Allocator + Copy, KU: Serialize<W, A> + Ord, VU: Serialize<W,
         ensures ok { IfOk result
             (Serialises (tree_archival 5 KU.archival VU.archival (λ map. map.entries)) self.now
             (W.state writer.old) (W.state writer.new)) }
-        // With the map after it, the tree is accepted, and means the entries. No accepted map with as many entries has fewer
-        // nodes, node bytes or levels.
-        ensures smallest { IfOk result (λ root.
-            IsSmallestArchive KU.Archived.kind VU.Archived.kind 5 KU.archival VU.archival
-            (W.state writer.old) self.now.entries root (W.state writer.new)) }
-        // The tree is the one left-complete tree of the entries, and what was appended is its image.
-        ensures one_tree { IfOk result (λ root. 0 < length self.now.entries →
-            OneTreeWritten (layout_of KU.Archived.kind VU.Archived.kind 5) KU.archival VU.archival
-            (W.state writer.old) self.now.entries root (W.state writer.new)) }
+        ensures built { IfOk result
+            (IsBuiltOf KU.Archived.kind VU.Archived.kind 5 KU.archival VU.archival
+            (W.state writer.old) self.now.entries (W.state writer.new)) }
         ensures err { IfErr result (λ fault.
             IsUnserialised (tree_archival 5 KU.archival VU.archival (λ map. map.entries)) self.now
             (W.state writer.old) fault (W.state writer.new)) }
@@ -153,15 +146,9 @@ impl<W: Writer, A: Allocator + Copy, KU: Serialize<W, A> + Ord> Serialize<W, A> 
         ensures ok { IfOk result
             (Serialises (tree_archival 5 KU.archival unit_archival (λ set. with_units set.keys))
             self.now (W.state writer.old) (W.state writer.new)) }
-        // With the set after it, the tree is accepted, and means the keys. No accepted set with as many keys has fewer nodes,
-        // node bytes or levels.
-        ensures smallest { IfOk result (λ root.
-            IsSmallestArchive KU.Archived.kind unit_kind 5 KU.archival unit_archival
-            (W.state writer.old) (with_units self.now.keys) root (W.state writer.new)) }
-        // The tree is the one left-complete tree of the keys, and what was appended is its image.
-        ensures one_tree { IfOk result (λ root. 0 < length self.now.keys →
-            OneTreeWritten (layout_of KU.Archived.kind unit_kind 5) KU.archival unit_archival
-            (W.state writer.old) (with_units self.now.keys) root (W.state writer.new)) }
+        ensures built { IfOk result
+            (IsBuiltOf KU.Archived.kind unit_kind 5 KU.archival unit_archival (W.state writer.old)
+            (with_units self.now.keys) (W.state writer.new)) }
         ensures err { IfErr result (λ fault.
             IsUnserialised (tree_archival 5 KU.archival unit_archival (λ set. with_units set.keys))
             self.now (W.state writer.old) fault (W.state writer.new)) }

@@ -1,18 +1,14 @@
 //! Building archived maps whose keys must increase.
 ghost use Rattle.rkyv_btree_writing_laws.specs.Entries.{both_borrowed};
-ghost use Rattle.std.specs.Prelude.{◌≡◌, ◌<◌, ◌≤◌, alloc_error, OnOk, OnErr, IfOk, IfErr, IfSome, IsErrOf, IsTrue, MatchBool, MatchOption};
+ghost use Rattle.std.specs.Prelude.{◌≡◌, IfOk, IfErr, IfSome, IsTrue, MatchBool, MatchOption};
 ghost use Rattle.std.specs.declared.cmp.Ordering.TheVariants.{Less};
 ghost use Rattle.std.specs.Iterator.{UpTo};
 ghost use Rattle.std.specs.Option.{option_copied};
 ghost use Rattle.rkyv_btree_format.specs.Layout.{are_fitting};
-ghost use Rattle.rkyv_btree_writing_laws.specs.Kept.{NeverGrows, OnlyAppended};
-ghost use Rattle.rkyv_btree_writing_laws.specs.Miscounts.{IsMiscount};
-ghost use Rattle.rkyv_btree_writing_laws.specs.OneTree.{BuildsOneTree};
-ghost use Rattle.rkyv_btree_writing_laws.specs.SmallestMaps.{ArchivesItems, BuildsSmallest};
-ghost use Rattle.rkyv_btree_writing_laws.specs.StrictBuilding.{BuildsInOrder, FailsInOrder};
-ghost use Rattle.rkyv_btree_writer.specs.Archiving.{BeginsWith};
-ghost use Rattle.rkyv_btree_writer.specs.Writing.{position, last_end};
+ghost use Rattle.rkyv_btree_writing_laws.specs.Miscounts.{IsLimited};
 ghost use Rattle.rkyv_btree_archive.specs.mirror.InOrder.{IsNext, IsNotNext, met_out_of_order};
+ghost use Rattle.rkyv_btree_writing_laws.specs.Building.{IsBuilt, IsUnbuiltInOrder};
+ghost use Rattle.rkyv_btree_writing_laws.specs.StrictBuilding.{BuildsInOrder};
 
 use crate::archive::{Archive, Serialize};
 use crate::borrow::Borrow;
@@ -110,45 +106,20 @@ impl<K: Portable, V: Portable, const E: usize> ArchivedBTreeMap<K, V, E> {
         requires fitting { IsTrue (are_fitting K.kind V.kind E) }
         requires can { I.can_next iter }
         requires ends { UpTo (I.remaining iter) 18446744073709551615 }
-        // With the map after it, what was appended is a map of the iterator's items.
-        ensures archived { IfOk result
-            (ArchivesItems K.kind V.kind E KU.archival VU.archival
+        ensures ok { IfOk result
+            (IsBuilt K.kind V.kind E KU.archival VU.archival
             (both_borrowed BKU.borrowed BVU.borrowed) I.next_gives iter len W.state writer.old
             writer.new) }
-        // No accepted map with as many entries has fewer nodes, node bytes or levels.
-        ensures smallest { IfOk result
-            (BuildsSmallest K.kind V.kind E KU.archival VU.archival
-            (both_borrowed BKU.borrowed BVU.borrowed) I.next_gives iter len W.state writer.old
-            writer.new) }
-        // The keys increase, and docs/FORMAT.md says which bytes were written.
-        ensures written { IfOk result
+        // The keys increase.
+        ensures in_order { IfOk result
             (BuildsInOrder KU.cmp K.kind V.kind E KU.archival VU.archival
             (both_borrowed BKU.borrowed BVU.borrowed) I.next_gives iter len W.state writer.old
             writer.new) }
-        // The tree is the only left-complete tree of the items, and the appended bytes are its image.
-        ensures one_tree { IfOk result
-            (BuildsOneTree K.kind V.kind E KU.archival VU.archival
-            (both_borrowed BKU.borrowed BVU.borrowed) I.next_gives iter len W.state writer.old
-            writer.new) }
-        // Each error's cause is there, and no key before it is out of order.
         ensures err { IfErr result
-            (FailsInOrder KU.cmp K.kind V.kind E KU.archival VU.archival
+            (IsUnbuiltInOrder KU.cmp K.kind V.kind E KU.archival VU.archival
             (both_borrowed BKU.borrowed BVU.borrowed) I.next_gives iter len W.state writer.old
             writer.new) }
-        ensures end { OnOk result (0 < len → position (W.state writer.new) ≤ last_end) }
-        // On success no write has failed, and bytes were only appended.
-        ensures went { OnOk result (OnlyAppended (W.state writer.old) (W.state writer.new)) }
-        // After any error the contents begin with the old ones.
-        ensures kept { OnErr result (BeginsWith (W.state writer.new) (W.state writer.old)) }
-        // After an error of memory the writer is unchanged, if serializing an entry takes no memory.
-        ensures memory { NeverGrows KU.archival → NeverGrows VU.archival →
-            IsErrOf result (Fault.Memory alloc_error) → W.state writer.new ≡ W.state writer.old }
-        // A length past 32 bits is always the error `LengthOverflow`, and nothing is written.
-        ensures past { last_end < len →
-            IsErrOf result Fault.LengthOverflow × (W.state writer.new ≡ W.state writer.old) }
-        // With a declared length of 0 the only error is a wrong count, and nothing is written.
-        ensures none { len ≡ 0 →
-            IfErr result IsMiscount × (W.state writer.new ≡ W.state writer.old) }
+        ensures limits { IsLimited len (W.state writer.old) (W.state writer.new) result }
     {
         let mut source = Source {
             items: iter,

@@ -1,18 +1,12 @@
 //! Building archived maps from iterators that can fail: from a reader, or a parser.
 ghost use Rattle.rkyv_btree_writing_laws.specs.Entries.{both_borrowed};
-ghost use Rattle.std.specs.Prelude.{◌≡◌, ℕ, ◌<◌, ◌≤◌, alloc_error, Some, OnOk, OnErr, IfOk, IfErr, IsErrOf, IsTrue};
+ghost use Rattle.std.specs.Prelude.{◌≡◌, Some, IfOk, IfErr, IsTrue};
 ghost use Rattle.std.specs.Iterator.{UpTo};
 ghost use Rattle.rkyv_btree_format.specs.Layout.{are_fitting};
-ghost use Rattle.rkyv_btree_writing_laws.specs.Kept.{NeverGrows, OnlyAppended};
-ghost use Rattle.rkyv_btree_writing_laws.specs.OneTree.{BuildsOneTree, BuildsOneTreeSet};
-ghost use Rattle.rkyv_btree_writing_laws.specs.Serialising.{BuildsTree};
-ghost use Rattle.rkyv_btree_writing_laws.specs.Sets.{BuildsSet};
-ghost use Rattle.rkyv_btree_writing_laws.specs.SmallestMaps.{ArchivesItems, ArchivesKeys, BuildsSmallest, BuildsSmallestSet};
 ghost use Rattle.rkyv_btree_portable.specs.Scalars.{unit_kind};
-ghost use Rattle.rkyv_btree_writer.specs.Archiving.{BeginsWith};
-ghost use Rattle.rkyv_btree_writer.specs.Writing.{position, last_end};
-ghost use Rattle.rkyv_btree_archive.specs.TryBuilding.{OkSteps, FailsToTry, FailsToTrySet, IsItemOrMiscount, key_result, try_text};
+ghost use Rattle.rkyv_btree_archive.specs.TryBuilding.{OkSteps, key_result, try_text, IsTryLimited, IsUntried, IsUntriedSet};
 ghost use Rattle.rkyv_btree_archive.specs.mirror.UntilError.{GivesUntilError, tried, tried_fault};
+ghost use Rattle.rkyv_btree_writing_laws.specs.Building.{IsBuilt, IsBuiltSet};
 
 use crate::archive::{Archive, Serialize};
 use crate::borrow::Borrow;
@@ -142,49 +136,16 @@ impl<K: Portable, V: Portable, const E: usize> ArchivedBTreeMap<K, V, E> {
         requires fitting { IsTrue (are_fitting K.kind V.kind E) }
         requires can { I.can_next iter }
         requires ends { UpTo (I.remaining iter) 18446744073709551615 }
-        // The iterator gave no error. With the map after it, what was appended is a map of its items.
-        ensures archived { IfOk result
-            (ArchivesItems K.kind V.kind E KU.archival VU.archival
+        // The iterator gave no error.
+        ensures ok { IfOk result
+            (IsBuilt K.kind V.kind E KU.archival VU.archival
             (both_borrowed BKU.borrowed BVU.borrowed) (OkSteps I.next_gives) iter len W.state
             writer.old writer.new) }
-        // No accepted map with as many entries has fewer nodes, node bytes or levels.
-        ensures smallest { IfOk result
-            (BuildsSmallest K.kind V.kind E KU.archival VU.archival
-            (both_borrowed BKU.borrowed BVU.borrowed) (OkSteps I.next_gives) iter len W.state
-            writer.old writer.new) }
-        // docs/FORMAT.md says which bytes these are.
-        ensures written { IfOk result
-            (BuildsTree K.kind V.kind E KU.archival VU.archival
-            (both_borrowed BKU.borrowed BVU.borrowed) (OkSteps I.next_gives) iter len W.state
-            writer.old writer.new) }
-        // The tree is the only left-complete tree of the items, and the appended bytes are its image.
-        ensures one_tree { IfOk result
-            (BuildsOneTree K.kind V.kind E KU.archival VU.archival
-            (both_borrowed BKU.borrowed BVU.borrowed) (OkSteps I.next_gives) iter len W.state
-            writer.old writer.new) }
-        // An item's error is the iterator's, after the items before it.
         ensures err { IfErr result
-            (FailsToTry K.kind V.kind E KU.archival VU.archival
+            (IsUntried K.kind V.kind E KU.archival VU.archival
             (both_borrowed BKU.borrowed BVU.borrowed) I.next_gives iter len W.state writer.old
             writer.new) }
-        ensures end { OnOk result (0 < len → position (W.state writer.new) ≤ last_end) }
-        // On success no write has failed, and bytes were only appended.
-        ensures went { OnOk result (OnlyAppended (W.state writer.old) (W.state writer.new)) }
-        // After any error the contents begin with the old ones.
-        ensures kept { OnErr result (BeginsWith (W.state writer.new) (W.state writer.old)) }
-        // After an error of memory the writer is unchanged, if serializing an entry takes no memory.
-        ensures memory { NeverGrows KU.archival → NeverGrows VU.archival →
-            IsErrOf result (TryFault.Build (Fault.Memory alloc_error)) →
-            W.state writer.new ≡ W.state writer.old }
-        // A length past 32 bits is always the error `LengthOverflow`, and nothing is written.
-        ensures past { last_end < len → IsErrOf result (TryFault.Build Fault.LengthOverflow)
-            × (W.state writer.new ≡ W.state writer.old) }
-        // With a declared length of 0 the only errors are an item's and a wrong count, and nothing is written.
-        ensures none { len ≡ 0 →
-            IfErr result IsItemOrMiscount × (W.state writer.new ≡ W.state writer.old) }
-        // Keys in any order are serialized: no error is `OutOfOrder`.
-        ensures any_order { (index : ℕ) →
-            IsErrOf result (TryFault.Build (Fault.OutOfOrder index)) → ⊥ }
+        ensures limits { IsTryLimited len (W.state writer.old) (W.state writer.new) result }
     {
         let mut source = Source {
             items: UntilError {
@@ -236,44 +197,14 @@ impl<K: Portable, const E: usize> ArchivedBTreeSet<K, E> {
         requires fitting { IsTrue (are_fitting K.kind unit_kind E) }
         requires can { I.can_next iter }
         requires ends { UpTo (I.remaining iter) 18446744073709551615 }
-        // The iterator gave no error. With the set after it, what was appended is a set of its items.
-        ensures archived { IfOk result
-            (ArchivesKeys K.kind E KU.archival BKU.borrowed (OkSteps I.next_gives) iter len W.state
+        // The iterator gave no error.
+        ensures ok { IfOk result
+            (IsBuiltSet K.kind E KU.archival BKU.borrowed (OkSteps I.next_gives) iter len W.state
             writer.old writer.new) }
-        // No accepted set with as many keys has fewer nodes, node bytes or levels.
-        ensures smallest { IfOk result
-            (BuildsSmallestSet K.kind E KU.archival BKU.borrowed (OkSteps I.next_gives) iter len
-            W.state writer.old writer.new) }
-        // docs/FORMAT.md says which bytes these are.
-        ensures written { IfOk result
-            (BuildsSet K.kind E KU.archival BKU.borrowed (OkSteps I.next_gives) iter len W.state
-            writer.old writer.new) }
-        // The tree is the one left-complete tree of the keys, and what was appended is its image.
-        ensures one_tree { IfOk result
-            (BuildsOneTreeSet K.kind E KU.archival BKU.borrowed (OkSteps I.next_gives) iter len
-            W.state writer.old writer.new) }
-        // An item's error is the iterator's, after the items before it.
         ensures err { IfErr result
-            (FailsToTrySet K.kind E KU.archival BKU.borrowed I.next_gives iter len W.state
-            writer.old writer.new) }
-        ensures end { OnOk result (0 < len → position (W.state writer.new) ≤ last_end) }
-        // On success no write has failed, and bytes were only appended.
-        ensures went { OnOk result (OnlyAppended (W.state writer.old) (W.state writer.new)) }
-        // After any error the contents begin with the old ones.
-        ensures kept { OnErr result (BeginsWith (W.state writer.new) (W.state writer.old)) }
-        // After an error of memory the writer is unchanged, if serializing a key takes no memory.
-        ensures memory { NeverGrows KU.archival →
-            IsErrOf result (TryFault.Build (Fault.Memory alloc_error)) →
-            W.state writer.new ≡ W.state writer.old }
-        // A length past 32 bits is always the error `LengthOverflow`, and nothing is written.
-        ensures past { last_end < len → IsErrOf result (TryFault.Build Fault.LengthOverflow)
-            × (W.state writer.new ≡ W.state writer.old) }
-        // With a declared length of 0 the only errors are an item's and a wrong count, and nothing is written.
-        ensures none { len ≡ 0 →
-            IfErr result IsItemOrMiscount × (W.state writer.new ≡ W.state writer.old) }
-        // Keys in any order are serialized: no error is `OutOfOrder`.
-        ensures any_order { (index : ℕ) →
-            IsErrOf result (TryFault.Build (Fault.OutOfOrder index)) → ⊥ }
+            (IsUntriedSet K.kind E KU.archival BKU.borrowed I.next_gives iter len W.state writer.old
+            writer.new) }
+        ensures limits { IsTryLimited len (W.state writer.old) (W.state writer.new) result }
     {
         ArchivedBTreeMap::<K, (), E>::try_serialize_from_ordered_iter::<
             BKU,

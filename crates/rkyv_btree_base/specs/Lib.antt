@@ -57,6 +57,7 @@ pub use Rattle.rkyv_btree_writing_laws.specs.Archives
 pub use Rattle.rkyv_btree_writing_laws.specs.SmallestMaps
 pub use Rattle.rkyv_btree_writing_laws.specs.Increasing
 pub use Rattle.rkyv_btree_writing_laws.specs.StrictBuilding
+pub use Rattle.rkyv_btree_writing_laws.specs.Building
 pub use Rattle.rkyv_btree_writing_laws.specs.Alike
 pub mod laws
 pub mod mirror

@@ -3,7 +3,6 @@ ghost use Rattle.std.specs.Prelude.{◌≡◌, IsTrue, IsSome, IfSome, None, map
 ghost use Rattle.std.specs.Option.{option_map};
 ghost use Rattle.std.specs.Range.Bound.{bound_map};
 ghost use Rattle.std.specs.declared.ops.Bound.TheVariants.{Unbounded};
-ghost use Rattle.rkyv_btree_base.specs.Increasing.{Increasing};
 ghost use Rattle.rkyv_btree_base.specs.Bytes.{bytes_at};
 ghost use Rattle.rkyv_btree_base.specs.Layout.{layout_of};
 ghost use Rattle.rkyv_btree_base.specs.Read.{entry_at, read_map};
@@ -17,8 +16,9 @@ ghost use Rattle.rkyv_btree_walk.specs.EntryPlaces.{place_of};
 ghost use Rattle.rkyv_btree_seal.specs.Put.{key_place, value_place};
 ghost use Rattle.rkyv_btree_walk.specs.EntryPlaces.{entry_places};
 ghost use Rattle.rkyv_btree_view.specs.Range.{ByNativeBounds};
+ghost use Rattle.rkyv_btree_view.specs.Ranges.{IsBetween};
 ghost use Rattle.rkyv_btree_view.specs.View.{view_value};
-ghost use Rattle.rkyv_btree_walk.specs.Bounds.{IsRun, OrderedFor, entries_within, ByBounds};
+ghost use Rattle.rkyv_btree_walk.specs.Bounds.{ByBounds, IsRun, IsWithin};
 ghost use Rattle.rkyv_btree_walk.specs.Search.{shown_value};
 
 use crate::map_seal::MapSeal;
@@ -116,17 +116,8 @@ impl<'a, K: Portable, V: InPlace, M: ArchivedMap<Key = K, Mapped = V>> RangeSeal
             (entry_places K.kind V.kind M.E buf.entry.now pos) }
         ensures whole { low ≡ Unbounded → high ≡ Unbounded
             → range_remaining_entries result ≡ read_map K.kind V.kind M.E buf.entry.now pos }
-        // If the keys increase, these are all entries within the bounds.
-        ensures sorted { ByNativeBounds K.kind K.compared_at low high (λ lo hi.
-            Increasing K.kind.order (read_map K.kind V.kind M.E buf.entry.now pos) →
-            range_remaining_entries result
-            ≡ entries_within lo hi (read_map K.kind V.kind M.E buf.entry.now pos)) }
-        // So they are if the entries are ordered for both bounds.
-        ensures within { ByNativeBounds K.kind K.compared_at low high (λ lo hi.
-            OrderedFor lo (read_map K.kind V.kind M.E buf.entry.now pos) →
-            OrderedFor hi (read_map K.kind V.kind M.E buf.entry.now pos) →
-            range_remaining_entries result
-            ≡ entries_within lo hi (read_map K.kind V.kind M.E buf.entry.now pos)) }
+        ensures between { ByNativeBounds K.kind K.compared_at low high (λ lo hi. IsBetween K.kind.order
+            lo hi (read_map K.kind V.kind M.E buf.entry.now pos) (range_remaining_entries result)) }
     {
         let compare = |query: &T, key: View<K>| K::compare_with(query, &key);
         let walk = start_between::<_, K, V, M, _, _>(
@@ -220,21 +211,10 @@ impl<'a, K: ViewOrd, V: InPlace, M: ArchivedMap<Key = K, Mapped = V>> RangeSeal<
             (entry_places K.kind V.kind M.E buf.entry.now pos) }
         ensures whole { low.now ≡ Unbounded → high.now ≡ Unbounded
             → range_remaining_entries result ≡ read_map K.kind V.kind M.E buf.entry.now pos }
-        // If the keys increase, these are all entries within the bounds.
-        ensures sorted { Increasing K.kind.order (read_map K.kind V.kind M.E buf.entry.now pos) →
-            range_remaining_entries result
-            ≡ entries_within (bound_map (λ q. K.kind.order (view_value q)) low.now)
+        ensures between { IsBetween K.kind.order
+            (bound_map (λ q. K.kind.order (view_value q)) low.now)
             (bound_map (λ q. K.kind.order (view_value q)) high.now)
-            (read_map K.kind V.kind M.E buf.entry.now pos) }
-        // So they are if the entries are ordered for both bounds.
-        ensures within { OrderedFor (bound_map (λ q. K.kind.order (view_value q)) low.now)
-            (read_map K.kind V.kind M.E buf.entry.now pos) →
-            OrderedFor (bound_map (λ q. K.kind.order (view_value q)) high.now)
-            (read_map K.kind V.kind M.E buf.entry.now pos) →
-            range_remaining_entries result
-            ≡ entries_within (bound_map (λ q. K.kind.order (view_value q)) low.now)
-            (bound_map (λ q. K.kind.order (view_value q)) high.now)
-            (read_map K.kind V.kind M.E buf.entry.now pos) }
+            (read_map K.kind V.kind M.E buf.entry.now pos) (range_remaining_entries result) }
     {
         let compare = |query: &View<'_, K>, key: View<K>| K::compare(query, &key);
         let walk = start_between::<_, K, V, M, _, _>(
@@ -271,11 +251,9 @@ impl<'a, K: Portable, V: InPlace, M: ArchivedMap<Key = K, Mapped = V>> MapSeal<'
             (places_between K.kind V.kind M.E self.now.buf.now self.now.pos result)
             ≡ read_map K.kind V.kind M.E self.now.buf.now self.now.pos }
         ensures within { ByBounds (C.post cmp) (shown_value K.kind W.Shows) low.entry high.entry (λ lo hi.
-            OrderedFor lo (read_map K.kind V.kind M.E self.now.buf.now self.now.pos) →
-            OrderedFor hi (read_map K.kind V.kind M.E self.now.buf.now self.now.pos) →
-            map (entry_at K.kind V.kind M.E self.now.buf.now)
-            (places_between K.kind V.kind M.E self.now.buf.now self.now.pos result)
-            ≡ entries_within lo hi (read_map K.kind V.kind M.E self.now.buf.now self.now.pos)) }
+            IsWithin lo hi (read_map K.kind V.kind M.E self.now.buf.now self.now.pos)
+            (map (entry_at K.kind V.kind M.E self.now.buf.now)
+            (places_between K.kind V.kind M.E self.now.buf.now self.now.pos result))) }
     {
         start_between::<Q, K, V, M, W, C>(self.buf, self.pos, low, high, &cmp)
     }
@@ -293,17 +271,9 @@ impl<'a, K: Portable, V: InPlace, M: ArchivedMap<Key = K, Mapped = V>> MapSeal<'
             (entry_places K.kind V.kind M.E self.entry.buf.now self.entry.pos) }
         ensures whole { low ≡ Unbounded → high ≡ Unbounded → range_remaining_entries result
             ≡ read_map K.kind V.kind M.E self.entry.buf.now self.entry.pos }
-        // If the keys increase, these are all entries within the bounds.
-        ensures sorted { ByNativeBounds K.kind K.compared_at low high (λ lo hi.
-            Increasing K.kind.order (read_map K.kind V.kind M.E self.entry.buf.now self.entry.pos) →
-            range_remaining_entries result
-            ≡ entries_within lo hi (read_map K.kind V.kind M.E self.entry.buf.now self.entry.pos)) }
-        // So they are if the entries are ordered for both bounds.
-        ensures within { ByNativeBounds K.kind K.compared_at low high (λ lo hi.
-            OrderedFor lo (read_map K.kind V.kind M.E self.entry.buf.now self.entry.pos) →
-            OrderedFor hi (read_map K.kind V.kind M.E self.entry.buf.now self.entry.pos) →
-            range_remaining_entries result
-            ≡ entries_within lo hi (read_map K.kind V.kind M.E self.entry.buf.now self.entry.pos)) }
+        ensures between { ByNativeBounds K.kind K.compared_at low high (λ lo hi. IsBetween K.kind.order
+            lo hi (read_map K.kind V.kind M.E self.entry.buf.now self.entry.pos)
+            (range_remaining_entries result)) }
     {
         RangeSeal::by(self.buf, self.pos, low, high)
     }
@@ -323,22 +293,11 @@ impl<'a, K: ViewOrd, V: InPlace, M: ArchivedMap<Key = K, Mapped = V>> MapSeal<'a
             (entry_places K.kind V.kind M.E self.entry.buf.now self.entry.pos) }
         ensures whole { low.now ≡ Unbounded → high.now ≡ Unbounded → range_remaining_entries result
             ≡ read_map K.kind V.kind M.E self.entry.buf.now self.entry.pos }
-        // If the keys increase, these are all entries within the bounds.
-        ensures sorted { Increasing K.kind.order (read_map K.kind V.kind M.E self.entry.buf.now
-            self.entry.pos) →
-            range_remaining_entries result
-            ≡ entries_within (bound_map (λ q. K.kind.order (view_value q)) low.now)
+        ensures between { IsBetween K.kind.order
+            (bound_map (λ q. K.kind.order (view_value q)) low.now)
             (bound_map (λ q. K.kind.order (view_value q)) high.now)
-            (read_map K.kind V.kind M.E self.entry.buf.now self.entry.pos) }
-        // So they are if the entries are ordered for both bounds.
-        ensures within { OrderedFor (bound_map (λ q. K.kind.order (view_value q)) low.now)
-            (read_map K.kind V.kind M.E self.entry.buf.now self.entry.pos) →
-            OrderedFor (bound_map (λ q. K.kind.order (view_value q)) high.now)
-            (read_map K.kind V.kind M.E self.entry.buf.now self.entry.pos) →
-            range_remaining_entries result
-            ≡ entries_within (bound_map (λ q. K.kind.order (view_value q)) low.now)
-            (bound_map (λ q. K.kind.order (view_value q)) high.now)
-            (read_map K.kind V.kind M.E self.entry.buf.now self.entry.pos) }
+            (read_map K.kind V.kind M.E self.entry.buf.now self.entry.pos)
+            (range_remaining_entries result) }
     {
         RangeSeal::at(self.buf, self.pos, low, high)
     }

@@ -1,10 +1,10 @@
 -- What migration leaves, from what deserializing and building leave.
-use Rattle.std.proofs.Common.{◌≡◌, ℕ, ◌+◌, ◌≤◌, ◌⊎◌, List, ◌++◌, length, map, Result, Ok, Err, OnOk, OnErr, IfOk, IfErr, inl, inr, refl, sym, ap, subst, ◌∙◌, append_assoc}
+use Rattle.std.proofs.Common.{◌≡◌, ℕ, ◌≤◌, List, ◌++◌, length, map, Result, Ok, Err, IfOk, IfErr, inl, inr, sym, ap, subst, ◌∙◌, append_assoc}
 use Rattle.std.specs.Map.Iter.{TakesFirst, deref_pair}
-use Rattle.std.specs.List.Sorted.{IsStrictlySortedBy}
 use Rattle.std.specs.declared.cmp.Ordering.{Ordering}
 use Rattle.rkyv_btree_base.specs.Archives.{HoldsArchive}
-use Rattle.rkyv_btree_base.specs.Archiving.{Archival, Matches, BeginsWith}
+use Rattle.rkyv_btree_base.specs.Archiving.{Archival, BeginsWith}
+use Rattle.rkyv_btree_base.specs.Building.{IsRootUnwritten, IsRootWritten}
 use Rattle.rkyv_btree_base.specs.EntryFault.{EntryFault}
 use Rattle.rkyv_btree_base.specs.Entries.{now_of}
 use Rattle.rkyv_btree_base.specs.Fault.{Fault}
@@ -12,13 +12,11 @@ use Rattle.rkyv_btree_base.specs.Image.{root_image}
 use Rattle.rkyv_btree_base.specs.Kept.{OnlyAppended}
 use Rattle.rkyv_btree_base.specs.Kind.{Kind}
 use Rattle.rkyv_btree_base.specs.Layout.{layout_of}
-use Rattle.rkyv_btree_base.specs.Rounding.{round_up}
 use Rattle.rkyv_btree_base.specs.Serialising.{Built, Serialised, BuildFault, RootFault}
-use Rattle.rkyv_btree_base.specs.SmallestMaps.{IsSmallestArchive, entry_value}
-use Rattle.rkyv_btree_base.specs.Writing.{Writing, position, Wrote, Appended, last_end}
+use Rattle.rkyv_btree_base.specs.SmallestMaps.{IsSmallestArchive}
+use Rattle.rkyv_btree_base.specs.Writing.{Writing, position, Wrote, last_end}
 use Rattle.rkyv_btree_base.proofs.Accepting.{written_is_held_after}
 use Rattle.rkyv_btree_base.proofs.TreeSerialised.{entries_drained}
-use Rattle.rkyv_btree_convert.specs.StdMaps.{OrdersAlike}
 use Rattle.rkyv_btree_convert.proofs.StdMaps.{ascending_meant}
 use Rattle.rkyv_btree_strict.specs.Migrated.{AreNative, Migrates, MigratesToStrict, FailsToMigrate}
 
@@ -45,10 +43,9 @@ module _ {T U A B R S : Type 0} (cmp : T → T → Ordering) (K V : Kind) (KA : 
     smallest_of root mid h smallest = subst (λ (xs : List (T × U)). IsSmallestArchive K V 5 KA VA from xs root mid) (entries_drained entries h.items h.all) smallest
 
     migrated : {X : Type 0} (root : ℕ) (mid to : Writing) (result : Result ℕ (Fault X)) → Serialised K V 5 KA VA now_of (TakesFirst deref_pair) entries claim from root mid → IsSmallestArchive K V 5 KA VA from entries root mid → OnlyAppended from mid
-        → IfOk result (λ at. at ≡ round_up (position mid) 4) → OnOk result (Wrote mid (root_image (position mid) root claim) to) → OnOk result (position to ≤ last_end) → OnOk result (claim ≤ last_end)
-        → IfOk result (λ at. Migrates cmp K V KA VA model native from at to)
-    migrated root mid to (Err fault) h smallest went at wrote end few = tt
-    migrated root mid to (Ok pos) h smallest went at wrote end few = record {
+        → IfOk result (IsRootWritten claim root mid to) → IfOk result (λ at. Migrates cmp K V KA VA model native from at to)
+    migrated root mid to (Err fault) h smallest went done = tt
+    migrated root mid to (Ok pos) h smallest went done = record {
       entries = entries;
       are = are;
       root = root;
@@ -56,27 +53,26 @@ module _ {T U A B R S : Type 0} (cmp : T → T → Ordering) (K V : Kind) (KA : 
       built = built_of root mid h;
       smallest = smallest;
       went = went;
-      wrote = subst (λ n. Wrote mid (root_image (position mid) root n) to) count wrote;
-      place = at;
-      few = subst (λ n. n ≤ last_end) count few;
-      end = end;
+      wrote = subst (λ n. Wrote mid (root_image (position mid) root n) to) count done.wrote;
+      place = done.pos;
+      few = subst (λ n. n ≤ last_end) count done.len;
+      end = done.last;
     }
 
     pub migrated_by : {X : Type 0} (iter : List (T × U)) → iter ≡ entries → (root : ℕ) (mid to : Writing) (result : Result ℕ (Fault X))
         → (h : Serialised K V 5 KA VA now_of (TakesFirst deref_pair) iter claim from root mid) × IsSmallestArchive K V 5 KA VA from (map now_of h.items) root mid → OnlyAppended from mid
-        → IfOk result (λ at. at ≡ round_up (position mid) 4) → OnOk result (Wrote mid (root_image (position mid) root claim) to) → OnOk result (position to ≤ last_end) → OnOk result (claim ≤ last_end)
-        → IfOk result (λ at. Migrates cmp K V KA VA model native from at to)
-    migrated_by iter same root mid to result both went at wrote end few =
+        → IfOk result (IsRootWritten claim root mid to) → IfOk result (λ at. Migrates cmp K V KA VA model native from at to)
+    migrated_by iter same root mid to result both went done =
         let b = subst (λ (it : List (T × U)). (h : Serialised K V 5 KA VA now_of (TakesFirst deref_pair) it claim from root mid) × IsSmallestArchive K V 5 KA VA from (map now_of h.items) root mid) same both in
-        migrated root mid to result b.0 (smallest_of root mid b.0 b.1) went at wrote end few
+        migrated root mid to result b.0 (smallest_of root mid b.0 b.1) went done
 
     pub unbuilt : {X : Type 0} (fault : Fault X) (to : Writing) → BuildFault K V 5 KA VA now_of (TakesFirst deref_pair) {X = X} entries claim from fault to → FailsToMigrate cmp K V KA VA model native from fault to
     unbuilt {X} fault to h = inr (entries, are, inl (subst (λ n. BuildFault K V 5 KA VA now_of (TakesFirst deref_pair) {X = X} entries n from fault to) count h))
 
-    pub unrooted : {X : Type 0} (root : ℕ) (mid to : Writing) (result : Result ℕ (Fault X)) → Serialised K V 5 KA VA now_of (TakesFirst deref_pair) entries claim from root mid → IfErr result (λ fault. RootFault root claim mid fault to)
+    pub unrooted : {X : Type 0} (root : ℕ) (mid to : Writing) (result : Result ℕ (Fault X)) → Serialised K V 5 KA VA now_of (TakesFirst deref_pair) entries claim from root mid → IfErr result (IsRootUnwritten claim root mid to)
         → IfErr result (λ fault. FailsToMigrate cmp K V KA VA model native from fault to)
     unrooted root mid to (Ok at) h failed = tt
-    unrooted root mid to (Err fault) h failed = inr (entries, are, inr (root, mid, built_of root mid h, subst (λ n. RootFault root n mid fault to) count failed))
+    unrooted root mid to (Err fault) h failed = inr (entries, are, inr (root, mid, built_of root mid h, subst (λ n. RootFault root n mid fault to) count failed.cause))
 
   -- what the writer holds then, at its positions
   pub strict_of : (from : Writing) (at : ℕ) (to : Writing) → Migrates cmp K V KA VA model native from at to → MigratesToStrict cmp K V KA VA model native from at to

@@ -234,12 +234,12 @@ impl<'a, K: ViewOrd, V: Portable, M: ArchivedMap<Key = K, Mapped = V> + StrictEn
     M,
 > {
     ghost use Rattle.rkyv_btree_view.specs.Range.{range_left, ByNativeBounds};
+    ghost use Rattle.rkyv_btree_view.specs.Ranges.{IsRange};
 
     /// Returns an iterator over the entries whose keys are within the bounds, in the order of their keys.
     pub fn range(self, low: Bound<View<'_, K>>, high: Bound<View<'_, K>>) -> Range<'a, M>
-        ensures yields { ShowsAll ⟦<Range<'a, M> as Iterator>⟧.next_gives
-            view_entry result (range_left result) }
-        ensures ends { IsFinite (⟦<Range<'a, M> as Iterator>⟧.remaining result) }
+        ensures range { IsRange ⟦<Range<'a, M> as Iterator>⟧ view_entry result (range_left result)
+            (entries_of K.kind V.kind M.E self.entry.view) }
         ensures within { range_left result
             ≡ entries_within (bound_map (λ q. K.kind.order (view_value q)) low.entry)
             (bound_map (λ q. K.kind.order (view_value q)) high.entry)
@@ -252,9 +252,8 @@ impl<'a, K: ViewOrd, V: Portable, M: ArchivedMap<Key = K, Mapped = V> + StrictEn
     pub fn range_by<T: Drop>(self, low: Bound<T>, high: Bound<T>) -> Range<'a, M>
     where
         K: CompareWith<T>,
-        ensures yields { ShowsAll ⟦<Range<'a, M> as Iterator>⟧.next_gives
-            view_entry result (range_left result) }
-        ensures ends { IsFinite (⟦<Range<'a, M> as Iterator>⟧.remaining result) }
+        ensures range { IsRange ⟦<Range<'a, M> as Iterator>⟧ view_entry result (range_left result)
+            (entries_of K.kind V.kind M.E self.entry.view) }
         ensures within { ByNativeBounds K.kind K.compared_at low high (λ lo hi. range_left result
             ≡ entries_within lo hi (entries_of K.kind V.kind M.E self.entry.view)) }
     {
@@ -264,9 +263,8 @@ impl<'a, K: ViewOrd, V: Portable, M: ArchivedMap<Key = K, Mapped = V> + StrictEn
     pub fn range_of<T: Drop, R: RangeBounds<T>>(self, range: R) -> Range<'a, M>
     where
         K: CompareWith<T>,
-        ensures yields { ShowsAll ⟦<Range<'a, M> as Iterator>⟧.next_gives
-            view_entry result (range_left result) }
-        ensures ends { IsFinite (⟦<Range<'a, M> as Iterator>⟧.remaining result) }
+        ensures range { IsRange ⟦<Range<'a, M> as Iterator>⟧ view_entry result (range_left result)
+            (entries_of K.kind V.kind M.E self.entry.view) }
         ensures within { R.has_bounds range → ByNativeBounds K.kind K.compared_at
             (R.start_bound range) (R.end_bound range) (λ lo hi. range_left result
             ≡ entries_within lo hi (entries_of K.kind V.kind M.E self.entry.view)) }

@@ -215,12 +215,12 @@ impl<'a, K: ViewOrd, const E: usize> Strict<'a, ArchivedBTreeSet<K, E>> {
 impl<'a, K: ViewOrd, const E: usize> Strict<'a, ArchivedBTreeSet<K, E>> {
     ghost use Rattle.rkyv_btree_view.specs.Keys.{range_keys_left};
     ghost use Rattle.rkyv_btree_view.specs.Range.{ByNativeBounds};
+    ghost use Rattle.rkyv_btree_view.specs.Ranges.{IsRange};
 
     /// Returns an iterator over the keys within the bounds, in order.
     pub fn range(self, low: Bound<View<'_, K>>, high: Bound<View<'_, K>>) -> Range<'a, K, E>
-        ensures yields { ShowsAll ⟦<Range<'a, K, E> as Iterator>⟧.next_gives view_value result
-            (range_keys_left result) }
-        ensures ends { IsFinite (⟦<Range<'a, K, E> as Iterator>⟧.remaining result) }
+        ensures range { IsRange ⟦<Range<'a, K, E> as Iterator>⟧ view_value result
+            (range_keys_left result) (keys_of K.kind E self.entry.view) }
         ensures within { range_keys_left result
             ≡ keys_within (bound_map (λ q. K.kind.order (view_value q)) low.entry)
             (bound_map (λ q. K.kind.order (view_value q)) high.entry)
@@ -233,9 +233,8 @@ impl<'a, K: ViewOrd, const E: usize> Strict<'a, ArchivedBTreeSet<K, E>> {
     pub fn range_by<T: Drop>(self, low: Bound<T>, high: Bound<T>) -> Range<'a, K, E>
     where
         K: CompareWith<T>,
-        ensures yields { ShowsAll ⟦<Range<'a, K, E> as Iterator>⟧.next_gives view_value result
-            (range_keys_left result) }
-        ensures ends { IsFinite (⟦<Range<'a, K, E> as Iterator>⟧.remaining result) }
+        ensures range { IsRange ⟦<Range<'a, K, E> as Iterator>⟧ view_value result
+            (range_keys_left result) (keys_of K.kind E self.entry.view) }
         ensures within { ByNativeBounds K.kind K.compared_at low high (λ lo hi.
             range_keys_left result ≡ keys_within lo hi (keys_of K.kind E self.entry.view)) }
     {
@@ -245,9 +244,8 @@ impl<'a, K: ViewOrd, const E: usize> Strict<'a, ArchivedBTreeSet<K, E>> {
     pub fn range_of<T: Drop, R: RangeBounds<T>>(self, range: R) -> Range<'a, K, E>
     where
         K: CompareWith<T>,
-        ensures yields { ShowsAll ⟦<Range<'a, K, E> as Iterator>⟧.next_gives view_value result
-            (range_keys_left result) }
-        ensures ends { IsFinite (⟦<Range<'a, K, E> as Iterator>⟧.remaining result) }
+        ensures range { IsRange ⟦<Range<'a, K, E> as Iterator>⟧ view_value result
+            (range_keys_left result) (keys_of K.kind E self.entry.view) }
         ensures within { R.has_bounds range → ByNativeBounds K.kind K.compared_at
             (R.start_bound range) (R.end_bound range) (λ lo hi.
             range_keys_left result ≡ keys_within lo hi (keys_of K.kind E self.entry.view)) }

@@ -56,7 +56,7 @@ module _ {A B : Type 0} {order : A → A → Ordering} (total : IsTotalOrder ord
         | false ↦ (all_removed (λ y. order e.0 y ≡ Less) test m h.0, sorted_removed test m h.1)
       ]
 
-  sorted_changed : (m : List (A × B)) (c : A × Change B) → IsStrictlySortedBy order (keys_of m) → IsStrictlySortedBy order (keys_of (changed order m c))
+  pub sorted_changed : (m : List (A × B)) (c : A × Change B) → IsStrictlySortedBy order (keys_of m) → IsStrictlySortedBy order (keys_of (changed order m c))
   sorted_changed m (k, Put v) h = sorted_put total k v m h
   sorted_changed m (k, Delete) h = sorted_removed (is_at (order k)) m h
 
@@ -112,7 +112,7 @@ module _ {A B : Type 0} {order : A → A → Ordering} (total : IsTotalOrder ord
 
   -- what a key has after changes whose keys increase
   module _ (q : A) where
-    after_change : (c : A × Change B) (m : List (A × B)) → IsStrictlySortedBy order (keys_of m) → at order q (changed order m c) ≡ last_word (cond (is_at (order q) c.0) (Some c.1) None) (at order q m)
+    pub after_change : (c : A × Change B) (m : List (A × B)) → IsStrictlySortedBy order (keys_of m) → at order q (changed order m c) ≡ last_word (cond (is_at (order q) c.0) (Some c.1) None) (at order q m)
     after_change (k, Put v) m h = lookup_put total k v q m ∙ elim (is_at (order q) k) as (λ b. cond b (Some v) (at order q m) ≡ last_word (cond b (Some (Put v)) None) (at order q m)) [ true ↦ refl | false ↦ refl ]
     after_change (k, Delete) m h =
         lookup-remove_entry (eq_by_cmp_equiv total) (is_at (order k)) (λ x y is. ap is_eq (total.congr k x y ((Equal-is (order k x)).0 is))) q m (IsDistinct-from_sorted order (keys_of m) h)

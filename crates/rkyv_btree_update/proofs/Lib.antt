@@ -1,7 +1,9 @@
 -- The lemmas of updates.
 pub mod Lent
 pub mod Changed
+pub mod Counted
 pub mod Merged
+pub mod Quiet
 pub mod Meant
 pub mod Writes
 pub mod Compared

@@ -1,5 +1,5 @@
 -- The steps of a merge.
-use Rattle.std.proofs.Common.{◌≡◌, ◌<◌, List, [], ◌∷◌, length, Option, Some, None, refl, sym, ap, subst, ◌∙◌, arith}
+use Rattle.std.proofs.Common.{◌≡◌, ℕ, true, false, ◌<◌, List, [], ◌∷◌, length, Option, Some, None, refl, sym, ap, subst, ◌∙◌, arith}
 use Rattle.std.specs.Cmp.{IsTotalOrder}
 use Rattle.std.specs.Iterator.{MakesProgress, YieldsFirst, item_count}
 use Rattle.std.specs.List.Sorted.{IsStrictlySortedBy}
@@ -9,12 +9,15 @@ use Rattle.std.specs.Prelude.{IfSome}
 use Rattle.std.specs.declared.cmp.Ordering.{Ordering}
 use Rattle.std.specs.declared.cmp.Ordering.TheVariants.{Less, Equal, Greater}
 use Rattle.rkyv_btree_base.specs.Increasing.{Increasing}
+use Rattle.rkyv_btree_portable.specs.declared.check.Portable
 use Rattle.rkyv_btree_update.proofs.Changed.{entry_first, value_put, entry_deleted, put_first, none_deleted, put_last}
 use Rattle.rkyv_btree_update.specs.Natives.{both}
 use Rattle.rkyv_btree_update.specs.Updated.{change_meant, updated}
 use Rattle.rkyv_btree_update.specs.declared.change.Change.{Change}
 use Rattle.rkyv_btree_update.specs.declared.change.Change.TheVariants.{Put, Delete}
-use Rattle.rkyv_btree_update.specs.mirror.Merged.{AreOrdered, Steps, entry_put, merged}
+use Rattle.rkyv_btree_update.specs.declared.updates.Updates.{Updates}
+use Rattle.rkyv_btree_update.specs.mirror.Merged.{AreOrdered, CanMerge, Steps, entry_put, merged, new_left, old_left}
+use Rattle.rkyv_btree_walk.specs.declared.archived_map.ArchivedMap
 
 tail : {X : Type 0} → List X → List X
 tail [] = []
@@ -30,7 +33,7 @@ unfolding tail first_or
 taken_rest rest s None t e es h parts = absurd (let n : [] ≡ e ∷ es = sym h.0 ∙ parts in cc n)
 taken_rest rest s (Some x) t e es h parts = let both : x ∷ rest t ≡ e ∷ es = sym h ∙ parts in (ap (λ zs. Some (first_or x zs)) both, ap tail both)
 
-increasing_tail : {A X : Type 0} (order : A → A → Ordering) (x : A × X) (xs : List (A × X)) → Increasing order (x ∷ xs) → Increasing order xs
+pub increasing_tail : {A X : Type 0} (order : A → A → Ordering) (x : A × X) (xs : List (A × X)) → Increasing order (x ∷ xs) → Increasing order xs
 unfolding IsStrictlySortedBy
 increasing_tail order x xs h = h.1
 
@@ -129,13 +132,28 @@ module _ {X S : Type 0} (rest : S → List X) (can : S → Type 0) (a s t : S) (
   goes f None h may = record { on = λ f. tt; keeps = tt; rests = λ f. tt }
   goes f (Some x) h may = record { on = λ q. (may, tt, fewer_left (f x) h); keeps = may; rests = λ f. tt }
 
+-- what holds if there is one to show
+pub if_shown : {X Y : Type 0} (P : Type 0) (f : Y → X) (r : Option Y) → IfSome (option_map f r) (λ _. P) → IfSome r (λ _. P)
+if_shown P f None h = tt
+if_shown P f (Some x) h = h
+
 -- a merge of these lists
 module _ {T U S : Type 0} (cmp : T → T → Ordering) (old : S → List (T × U)) (new : S → List (T × Change U)) (s : S) (xs : List (T × U)) (cs : List (T × Change U)) (are : old s ≡ xs) (come : new s ≡ cs) where
   pub merged_lists : merged cmp old new s ≡ updated cmp xs cs
   merged_lists = ap (λ zs. updated cmp zs (new s)) are ∙ ap (updated cmp xs) come
 
-  pub ordered_lists : Increasing cmp xs → Increasing cmp cs → AreOrdered cmp old new s
+  ordered_lists : Increasing cmp xs → Increasing cmp cs → AreOrdered cmp old new s
   ordered_lists h k = record { old_increase = subst (Increasing cmp) (sym are) h; new_increase = subst (Increasing cmp) (sym come) k }
+
+-- a merge can begin with a comparison
+pub can_start : {M K V A B T U : Type 0} {g : ArchivedMap.Ghosts M K V} {m : Portable.Ghosts M} {k : Portable.Ghosts K} {v : Portable.Ghosts V}
+    (order : T → T → Ordering) (key_lent : List ℕ → ℕ → T) (value_lent : List ℕ → ℕ → U) (key : A → T) (value : B → U) (s : Updates M A B K V g m k v) (xs : List (T × U)) (cs : List (T × Change U))
+    → old_left key_lent value_lent key value s ≡ xs → new_left key_lent value_lent key value s ≡ cs → s.quiet ≡ false → Increasing order xs → Increasing order cs
+    → CanMerge order key_lent value_lent key value s
+can_start order key_lent value_lent key value s xs cs are come compared h k = record {
+  ordered = ordered_lists order (old_left key_lent value_lent key value) (new_left key_lent value_lent key value) s xs cs are come h k;
+  quiet = λ is. absurd (let n : false ≡ true = sym compared ∙ is in cc n);
+}
 
 -- the entry of a key after a change shows what its parts show
 pub put_shown : {A B T U : Type 0} (key : A → T) (value : B → U) (k : A) (c : Change B) → option_map (option_map (both key value)) (entry_put k c) ≡ entry_put (key k) (change_meant value c)

@@ -1,5 +1,5 @@
 -- What is left in a writer where entries are written as a map.
-use Rattle.std.specs.Prelude.{◌≡◌, ℕ, ◌<◌, List, ◌++◌, length, map}
+use Rattle.std.specs.Prelude.{◌≡◌, ℕ, ◌<◌, ◌≤◌, List, ◌++◌, length, map, MatchOption, Option}
 use Rattle.std.specs.declared.cmp.Ordering.{Ordering}
 use Rattle.rkyv_btree_base.specs.Archiving.{Archival}
 use Rattle.rkyv_btree_base.specs.Fault.{Fault}
@@ -16,6 +16,10 @@ use Rattle.rkyv_btree_base.specs.Written.{ChildStopped}
 use Rattle.rkyv_btree_strict.specs.Strict.{IsStrictMap}
 use Rattle.rkyv_btree_update.specs.Natives.{both}
 use Rattle.rkyv_btree_update.specs.declared.change.Change.{Change}
+
+-- the number of elements of a list, if it has 32 bits
+abbrev pub IsCount : {X : Type 0} → List X → Option ℕ → Type 0
+IsCount list count = MatchOption count (last_end < length list) (λ n. (n ≡ length list) × (n ≤ last_end))
 
 module _ (K V : Kind) (E : ℕ) (m : List (K.Value × V.Value)) (from : Writing) (at : ℕ) (to : Writing) where
   -- the bytes of the writer, after as many bytes as its base, are a strict map of these entries at a position

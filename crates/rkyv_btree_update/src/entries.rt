@@ -1,9 +1,10 @@
 //! The entries of a strict map as native values, of which the next one is known.
 ghost use Rattle.std.specs.Iterator.{YieldsFirst};
 ghost use Rattle.std.specs.Option.{option_map};
-ghost use Rattle.std.specs.Prelude.{◌≡◌};
+ghost use Rattle.std.specs.Prelude.{◌≡◌, ◌+◌, ◌∷◌, IfNone, IfSome};
 ghost use Rattle.rkyv_btree_update.specs.Natives.{both, shown_of};
 ghost use Rattle.rkyv_btree_update.specs.mirror.Merged.{entries_ahead, shown_left};
+ghost use Rattle.rkyv_btree_view.specs.Iter.{at_hand};
 
 use crate::from_archived::FromArchived;
 use rkyv_btree_base::archive::Archive;
@@ -37,6 +38,31 @@ where
     KU::is_lent();
     VU::is_lent();
     let (key, value) = entries.next()?;
+    Some((
+        KU::from_archived(key.buf, key.pos),
+        VU::from_archived(value.buf, value.pos),
+    ))
+}
+
+/// Takes the next entry of a map, as native values, if it is at hand.
+#[inline(always)]
+pub(crate) fn native_at_hand<'a, K, V, M, KU, VU>(entries: &mut Iter<'a, M>) -> Option<(KU, VU)>
+where
+    K: Portable,
+    V: Portable,
+    M: ArchivedMap<Key = K, Mapped = V>,
+    KU: FromArchived<'a> + Archive<Archived = K>,
+    VU: FromArchived<'a> + Archive<Archived = V>,
+    ensures takes { IfSome result (λ e. (shown_left KU.lent VU.lent entries.old
+        ≡ both KU.shown VU.shown e ∷ shown_left KU.lent VU.lent entries.new)
+        × (at_hand entries.old ≡ 1 + at_hand entries.new)) }
+    ensures none { IfNone result (at_hand entries.old ≡ 0) }
+    ensures kept { IfNone result (shown_left KU.lent VU.lent entries.new
+        ≡ shown_left KU.lent VU.lent entries.old) }
+{
+    KU::is_lent();
+    VU::is_lent();
+    let (key, value) = entries.next_at_hand()?;
     Some((
         KU::from_archived(key.buf, key.pos),
         VU::from_archived(value.buf, value.pos),

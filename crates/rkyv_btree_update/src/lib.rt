@@ -3,6 +3,8 @@
 
 pub mod change;
 mod changing;
+pub mod compare_archived;
+mod counting;
 pub mod diff;
 mod entries;
 pub mod from_archived;

@@ -1,18 +1,12 @@
 //! Numbers, truth values, characters, `()` and text, made of archived ones.
-ghost use Rattle.std.specs.Cmp.Lexicographic.{slice_cmp};
 ghost use Rattle.std.specs.Int.NonZero.{non_zero_u32_get};
-ghost use Rattle.std.specs.Ordering.{bool_cmp, int_cmp, nat_cmp};
-ghost use Rattle.std.specs.Prelude.{◌≡◌, ℕ, ℤ, Bool, IsTrue, List};
-ghost use Rattle.std.specs.declared.cmp.Ordering.TheVariants.{Equal};
+ghost use Rattle.std.specs.Prelude.{◌≡◌, IsTrue};
 ghost use Rattle.rkyv_btree_base.specs.Scalars.{bool_kind, char_kind, i16_kind, i32_kind, i64_kind, i8_kind, non_zero_kind};
-ghost use Rattle.rkyv_btree_base.specs.Scalars.{u16_kind, u32_kind, u64_kind, u8_kind, unit_kind};
+ghost use Rattle.rkyv_btree_base.specs.Scalars.{u16_kind, u32_kind, u64_kind, u8_kind};
 ghost use Rattle.rkyv_btree_base.specs.Text.{text_kind};
-ghost use Rattle.rkyv_btree_base.specs.TextArchival.{text_archival};
 ghost use Rattle.rkyv_btree_base.specs.Views.{stands};
-ghost use Rattle.rkyv_btree_update.specs.Natives.{IsLent};
 
 use crate::from_archived::FromArchived;
-use rkyv_btree_base::archive::Archive;
 use rkyv_btree_base::numbers::{ArchivedU16, ArchivedU32, ArchivedU64};
 use rkyv_btree_base::scalars::{ArchivedChar, ArchivedNonZeroU32};
 use rkyv_btree_base::signed::{ArchivedI16, ArchivedI32, ArchivedI64};
@@ -22,246 +16,113 @@ use rkyv_btree_walk::shows::Shows;
 use std::num::NonZeroU32;
 
 impl<'a> FromArchived<'a> for u8 {
-    ghost Shown = { ℕ };
-
-    ghost shown = { λ x. x };
-
-    ghost order = { nat_cmp };
-
-    ghost lent = { u8_kind.read };
-
     fn from_archived(buf: &'a [u8], pos: u32) -> u8
         requires { IsTrue (stands u8_kind buf.now pos) }
         ensures { result ≡ u8_kind.read buf.now pos }
     {
         View::<u8>::at(buf, pos).to_native()
     }
-
-    fn is_lent() {}
 }
 
 impl<'a> FromArchived<'a> for u16 {
-    ghost Shown = { ℕ };
-
-    ghost shown = { λ x. x };
-
-    ghost order = { nat_cmp };
-
-    ghost lent = { u16_kind.read };
-
     fn from_archived(buf: &'a [u8], pos: u32) -> u16
         requires { IsTrue (stands u16_kind buf.now pos) }
         ensures { result ≡ u16_kind.read buf.now pos }
     {
         View::<ArchivedU16>::at(buf, pos).to_native()
     }
-
-    fn is_lent() {}
 }
 
 impl<'a> FromArchived<'a> for u32 {
-    ghost Shown = { ℕ };
-
-    ghost shown = { λ x. x };
-
-    ghost order = { nat_cmp };
-
-    ghost lent = { u32_kind.read };
-
     fn from_archived(buf: &'a [u8], pos: u32) -> u32
         requires { IsTrue (stands u32_kind buf.now pos) }
         ensures { result ≡ u32_kind.read buf.now pos }
     {
         View::<ArchivedU32>::at(buf, pos).to_native()
     }
-
-    fn is_lent() {}
 }
 
 impl<'a> FromArchived<'a> for u64 {
-    ghost Shown = { ℕ };
-
-    ghost shown = { λ x. x };
-
-    ghost order = { nat_cmp };
-
-    ghost lent = { u64_kind.read };
-
     fn from_archived(buf: &'a [u8], pos: u32) -> u64
         requires { IsTrue (stands u64_kind buf.now pos) }
         ensures { result ≡ u64_kind.read buf.now pos }
     {
         View::<ArchivedU64>::at(buf, pos).to_native()
     }
-
-    fn is_lent() {}
 }
 
 impl<'a> FromArchived<'a> for i8 {
-    ghost Shown = { ℤ };
-
-    ghost shown = { λ x. x };
-
-    ghost order = { int_cmp };
-
-    ghost lent = { i8_kind.read };
-
     fn from_archived(buf: &'a [u8], pos: u32) -> i8
         requires { IsTrue (stands i8_kind buf.now pos) }
         ensures { result ≡ i8_kind.read buf.now pos }
     {
         View::<i8>::at(buf, pos).to_native()
     }
-
-    fn is_lent() {}
 }
 
 impl<'a> FromArchived<'a> for i16 {
-    ghost Shown = { ℤ };
-
-    ghost shown = { λ x. x };
-
-    ghost order = { int_cmp };
-
-    ghost lent = { i16_kind.read };
-
     fn from_archived(buf: &'a [u8], pos: u32) -> i16
         requires { IsTrue (stands i16_kind buf.now pos) }
         ensures { result ≡ i16_kind.read buf.now pos }
     {
         View::<ArchivedI16>::at(buf, pos).to_native()
     }
-
-    fn is_lent() {}
 }
 
 impl<'a> FromArchived<'a> for i32 {
-    ghost Shown = { ℤ };
-
-    ghost shown = { λ x. x };
-
-    ghost order = { int_cmp };
-
-    ghost lent = { i32_kind.read };
-
     fn from_archived(buf: &'a [u8], pos: u32) -> i32
         requires { IsTrue (stands i32_kind buf.now pos) }
         ensures { result ≡ i32_kind.read buf.now pos }
     {
         View::<ArchivedI32>::at(buf, pos).to_native()
     }
-
-    fn is_lent() {}
 }
 
 impl<'a> FromArchived<'a> for i64 {
-    ghost Shown = { ℤ };
-
-    ghost shown = { λ x. x };
-
-    ghost order = { int_cmp };
-
-    ghost lent = { i64_kind.read };
-
     fn from_archived(buf: &'a [u8], pos: u32) -> i64
         requires { IsTrue (stands i64_kind buf.now pos) }
         ensures { result ≡ i64_kind.read buf.now pos }
     {
         View::<ArchivedI64>::at(buf, pos).to_native()
     }
-
-    fn is_lent() {}
 }
 
 impl<'a> FromArchived<'a> for bool {
-    ghost Shown = { Bool };
-
-    ghost shown = { λ x. x };
-
-    ghost order = { bool_cmp };
-
-    ghost lent = { bool_kind.read };
-
     fn from_archived(buf: &'a [u8], pos: u32) -> bool
         requires { IsTrue (stands bool_kind buf.now pos) }
         ensures { result ≡ bool_kind.read buf.now pos }
     {
         View::<bool>::at(buf, pos).to_native()
     }
-
-    fn is_lent() {}
 }
 
 impl<'a> FromArchived<'a> for char {
-    ghost Shown = { ℕ };
-
-    ghost shown = { λ x. x };
-
-    ghost order = { nat_cmp };
-
-    ghost lent = { char_kind.read };
-
     fn from_archived(buf: &'a [u8], pos: u32) -> char
         requires { IsTrue (stands char_kind buf.now pos) }
         ensures { result ≡ char_kind.read buf.now pos }
     {
         View::<ArchivedChar>::at(buf, pos).to_native()
     }
-
-    fn is_lent() {}
 }
 
 impl<'a> FromArchived<'a> for NonZeroU32 {
-    ghost Shown = { ℕ };
-
-    ghost shown = { non_zero_u32_get };
-
-    ghost order = { nat_cmp };
-
-    ghost lent = { non_zero_kind.read };
-
     fn from_archived(buf: &'a [u8], pos: u32) -> NonZeroU32
         requires { IsTrue (stands non_zero_kind buf.now pos) }
         ensures { non_zero_u32_get result ≡ non_zero_kind.read buf.now pos }
     {
         View::<ArchivedNonZeroU32>::at(buf, pos).to_native()
     }
-
-    fn is_lent() {}
 }
 
 impl<'a> FromArchived<'a> for () {
-    ghost Shown = { Unit {0} };
-
-    ghost shown = { λ x. x };
-
-    ghost order = { λ x y. Equal };
-
-    ghost lent = { unit_kind.read };
-
     fn from_archived(_buf: &'a [u8], _pos: u32) {}
-
-    fn is_lent() {}
 }
 
 impl<'a> FromArchived<'a> for &'a str {
-    ghost Shown = { List ℕ };
-
-    ghost shown = { λ text. text.now };
-
-    ghost order = { slice_cmp nat_cmp };
-
-    ghost lent = { text_kind.read };
-
     fn from_archived(buf: &'a [u8], pos: u32) -> &'a str
         requires { IsTrue (stands text_kind buf.now pos) }
         ensures { result.now ≡ text_kind.read buf.now pos }
     {
         View::<ArchivedText>::at(buf, pos).as_str()
     }
-
-    fn is_lent()
-        ensures { IsLent (text_archival (λ text. text.now)) text_kind (λ text. text.now)
-            (slice_cmp nat_cmp) text_kind.read ⟦<&'a str as Ord>⟧.cmp }
-    {}
 }

@@ -1,5 +1,5 @@
 //! New archives of maps, from old ones and changes.
-ghost use Rattle.std.specs.Prelude.{◌≡◌, ◌+◌, ◌<◌, ◌≤◌, ℕ, length, IsErrOf, IsTrue, IfErr, IfOk, MatchOption, OnErr, OnOk};
+ghost use Rattle.std.specs.Prelude.{◌≡◌, ◌+◌, ℕ, length, IsErrOf, IsTrue, IfErr, IfOk, OnErr, OnOk};
 ghost use Rattle.rkyv_btree_base.specs.Archiving.{BeginsWith};
 ghost use Rattle.rkyv_btree_base.specs.Increasing.{Increasing, IsOutOfOrder};
 ghost use Rattle.rkyv_btree_base.specs.Kept.{OnlyAppended};
@@ -7,12 +7,13 @@ ghost use Rattle.rkyv_btree_base.specs.Layout.{are_fitting};
 ghost use Rattle.rkyv_btree_base.specs.Writing.{position};
 ghost use Rattle.rkyv_btree_update.specs.Natives.{IsLent, meaning, shown_of};
 ghost use Rattle.rkyv_btree_update.specs.Updated.{all_put, changes_meant, updated};
-ghost use Rattle.rkyv_btree_update.specs.Written.{FailsToUpdate, FailsToWrite, WritesSmallest, WritesStrict};
-ghost use Rattle.rkyv_btree_update.specs.mirror.Merged.{AreOrdered, changing_left, merged, new_left, old_left};
+ghost use Rattle.rkyv_btree_update.specs.Written.{FailsToUpdate, FailsToWrite, IsCount, WritesSmallest, WritesStrict};
+ghost use Rattle.rkyv_btree_update.specs.mirror.Merged.{changing_left};
 ghost use Rattle.rkyv_btree_view.specs.View.{entries_of};
 
 use crate::change::Change;
 use crate::changing::Changing;
+use crate::counting::{count_all, count_listed};
 use crate::from_archived::FromArchived;
 use crate::order::first_disorder;
 use crate::updates::Updates;
@@ -26,41 +27,12 @@ use rkyv_btree_view::compare::ViewOrd;
 use rkyv_btree_walk::archived_map::ArchivedMap;
 use std::alloc::Global;
 
-/// The most entries of a map.
-const MOST: usize = 4294967295;
-
-/// Returns the number of entries after changes, if it has 32 bits.
-fn count<'a, 'x, K, V, M, KU, VU>(updates: Updates<'a, 'x, M, KU, VU>) -> Option<usize>
-where
-    K: ViewOrd,
-    V: Portable,
-    M: ArchivedMap<Key = K, Mapped = V> + StrictEntries,
-    KU: FromArchived<'a> + Archive<Archived = K>,
-    VU: FromArchived<'a> + Archive<Archived = V>,
-    requires { AreOrdered KU.order (old_left KU.lent VU.lent KU.shown VU.shown)
-        (new_left KU.lent VU.lent KU.shown VU.shown) updates }
-    ensures { let entries = merged KU.order (old_left KU.lent VU.lent KU.shown VU.shown)
-        (new_left KU.lent VU.lent KU.shown VU.shown) updates.entry in
-        MatchOption result (4294967295 < length entries)
-        (λ n. (n ≡ length entries) × (n ≤ 4294967295)) }
-{
-    let mut updates = updates;
-    let mut len = 0;
-    while let Some(_) = updates.next() {
-        if len == MOST {
-            return None;
-        }
-        len += 1;
-    }
-    Some(len)
-}
-
-/// Writes the entries of a map after changes whose keys increase. The changes come twice: the entries are counted first.
+/// Writes the entries of a map after changes whose keys increase, of which there are `len`, or more than 32 bits can count.
 fn write_updated<'a, 'x, K, V, M, KU, VU, W, const E: usize>(
     alloc: Global,
     old: Strict<'a, M>,
-    counted: Changing<'a, 'x, M, KU, VU>,
     changes: Changing<'a, 'x, M, KU, VU>,
+    len: Option<usize>,
     writer: &mut W,
 ) -> Result<u32, Fault<W::Error>>
 where
@@ -71,9 +43,10 @@ where
     VU: FromArchived<'a> + Archive<Archived = V> + Serialize<W, Global>,
     W: Writer,
     requires fitting { IsTrue (are_fitting K.kind V.kind E) }
-    requires same { changing_left KU.lent VU.lent KU.shown VU.shown counted
-        ≡ changing_left KU.lent VU.lent KU.shown VU.shown changes }
     requires in_order { Increasing KU.order (changing_left KU.lent VU.lent KU.shown VU.shown changes) }
+    requires counted { IsCount (updated KU.order
+        (shown_of K.kind V.kind M.E KU.lent VU.lent old.view)
+        (changing_left KU.lent VU.lent KU.shown VU.shown changes)) len }
     ensures smallest { (keys : IsLent KU.archival K.kind KU.shown KU.order KU.lent KU.cmp) →
         (values : IsLent VU.archival V.kind VU.shown VU.order VU.lent VU.cmp) →
         IfOk result (λ at. WritesSmallest K.kind V.kind E
@@ -92,7 +65,7 @@ where
 {
     KU::is_lent();
     VU::is_lent();
-    let Some(len) = count(Updates::new(old, counted)) else {
+    let Some(len) = len else {
         return Err(Fault::LengthOverflow);
     };
     let entries = Updates::new(old, changes);
@@ -138,13 +111,8 @@ where
     if let Some(index) = first_disorder(changes) {
         return Err(Fault::OutOfOrder { index });
     }
-    write_updated::<K, V, M, KU, VU, W, E>(
-        alloc,
-        old,
-        Changing::Listed(changes),
-        Changing::Listed(changes),
-        writer,
-    )
+    let len = count_listed(old, changes);
+    write_updated::<K, V, M, KU, VU, W, E>(alloc, old, Changing::Listed(changes), len, writer)
 }
 
 /// Writes the entries of a map after those of another one are put.
@@ -176,19 +144,14 @@ where
     ensures went { OnOk result (OnlyAppended (W.state writer.old) (W.state writer.new)) }
     ensures kept { OnErr result (BeginsWith (W.state writer.new) (W.state writer.old)) }
 {
-    write_updated::<K, V, M, KU, VU, W, E>(
-        alloc,
-        old,
-        Changing::puts(new),
-        Changing::puts(new),
-        writer,
-    )
+    let len = count_all::<K, V, M, KU, VU>(old, Changing::puts(new));
+    write_updated::<K, V, M, KU, VU, W, E>(alloc, old, Changing::puts(new), len, writer)
 }
 
 /// Serializes the entries of a strict map after changes as a new map, with the root after its tree, and returns the root's
 /// position. A key that is put has the new value, a key that is deleted has no entry, and each other key keeps its value. The
-/// old map and the changes are read twice, to count the entries and to write them, after the order of the changes is tested. No
-/// value is allocated.
+/// order of the changes is tested first. Then the entries are counted: by one lookup for each change, or along the old map if it
+/// has fewer than 64 entries for each change. Last, the old map and the changes are read and written. No value is allocated.
 ///
 /// # Errors
 ///

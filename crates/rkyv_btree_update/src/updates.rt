@@ -1,13 +1,15 @@
 //! The entries of a map after changes, one after another.
 ghost use Rattle.std.specs.Iterator.{YieldsFirst, item_count};
 ghost use Rattle.std.specs.Option.{option_map};
-ghost use Rattle.std.specs.Prelude.{◌≡◌, None};
+ghost use Rattle.std.specs.Prelude.{◌≡◌, ◌∷◌, None, false, IfNone, IfSome, IsTrue};
+ghost use Rattle.rkyv_btree_base.specs.Increasing.{Increasing};
 ghost use Rattle.rkyv_btree_update.specs.Natives.{both, shown_of};
-ghost use Rattle.rkyv_btree_update.specs.mirror.Merged.{AreOrdered, Steps, changing_left, entry_put, merged, new_left, old_left};
+ghost use Rattle.rkyv_btree_update.specs.mirror.Merged.{AreOrdered, CanCross, CanMerge, IsBeforeAll, IsQuiet, Steps};
+ghost use Rattle.rkyv_btree_update.specs.mirror.Merged.{changing_left, entry_put, merged, new_left, old_left, shown_left};
 
 use crate::change::Change;
 use crate::changing::Changing;
-use crate::entries::next_native;
+use crate::entries::{native_at_hand, next_native};
 use crate::from_archived::FromArchived;
 use rkyv_btree_base::archive::Archive;
 use rkyv_btree_base::check::Portable;
@@ -20,6 +22,8 @@ use std::cmp::Ordering;
 /// The entries of a strict map after changes whose keys increase: a merge of both.
 #[derive(Drop)]
 pub(crate) struct Updates<'a, 'x, M: ArchivedMap, KU, VU> {
+    /// Whether the entries at hand come before the next change, and are taken without a comparison.
+    quiet: bool,
     /// An entry that was taken and comes next, since a change came before it.
     ahead: Option<(KU, VU)>,
     /// The entries after it.
@@ -58,11 +62,13 @@ where
             ≡ shown_of K.kind V.kind M.E KU.lent VU.lent view.entry.view }
         ensures new { new_left KU.lent VU.lent KU.shown VU.shown result
             ≡ changing_left KU.lent VU.lent KU.shown VU.shown changes.entry }
+        ensures compared { result.quiet ≡ false }
     {
         KU::is_lent();
         VU::is_lent();
         let mut changes = changes;
         Updates {
+            quiet: false,
             ahead: None,
             entries: view.iter(),
             change: changes.take(),
@@ -133,6 +139,140 @@ where
             }
         }
     }
+
+    /// Takes the next entry, after the changes that delete and come before it.
+    fn next_compared(&mut self) -> Option<(KU, VU)>
+        requires { AreOrdered KU.order (old_left KU.lent VU.lent KU.shown VU.shown)
+            (new_left KU.lent VU.lent KU.shown VU.shown) self.old }
+        ensures gives { YieldsFirst (merged KU.order
+            (old_left KU.lent VU.lent KU.shown VU.shown) (new_left KU.lent VU.lent KU.shown VU.shown))
+            self.old (option_map (both KU.shown VU.shown) result) self.new }
+        ensures ordered { IfSome result (λ _.
+            AreOrdered KU.order (old_left KU.lent VU.lent KU.shown VU.shown)
+            (new_left KU.lent VU.lent KU.shown VU.shown) self.new) }
+    {
+        loop {
+            if let Some(item) = self.step() {
+                return item;
+            }
+        }
+    }
+
+    /// Returns whether the entries at hand come before the next change, since the last of them does.
+    #[inline(always)]
+    fn is_quiet(&self) -> bool
+        requires { AreOrdered KU.order (old_left KU.lent VU.lent KU.shown VU.shown)
+            (new_left KU.lent VU.lent KU.shown VU.shown) self.now }
+        ensures quiet { IsTrue result → IsQuiet KU.order KU.lent VU.lent KU.shown VU.shown self.now }
+        // So does an entry before them.
+        ensures earlier { IsTrue result → (e : KU.Shown × VU.Shown) →
+            Increasing KU.order (e ∷ shown_left KU.lent VU.lent self.now.entries) →
+            IsBeforeAll KU.order e (new_left KU.lent VU.lent KU.shown VU.shown self.now) }
+    {
+        KU::is_lent();
+        VU::is_lent();
+        if self.ahead.is_some() {
+            return false;
+        }
+        let Some(last) = self.entries.last_at_hand() else {
+            return false;
+        };
+        match self.change {
+            None => true,
+            Some(next) => KU::from_archived(last.0.buf, last.0.pos)
+                .cmp(&next.0)
+                .is_lt(),
+        }
+    }
+
+    /// Takes the next entry, of a node above the leaf, if the entries of the next leaf come before the next change. Otherwise that
+    /// entry comes next. Nothing is taken if the entries at hand were compared.
+    #[inline(always)]
+    fn next_crossing(&mut self) -> Option<(KU, VU)>
+        requires { CanCross KU.order KU.lent VU.lent KU.shown VU.shown self.old }
+        ensures gives { IfSome result (λ entry. merged KU.order
+            (old_left KU.lent VU.lent KU.shown VU.shown) (new_left KU.lent VU.lent KU.shown VU.shown)
+            self.old ≡ both KU.shown VU.shown entry ∷ merged KU.order
+            (old_left KU.lent VU.lent KU.shown VU.shown) (new_left KU.lent VU.lent KU.shown VU.shown)
+            self.new) }
+        ensures can { IfSome result (λ _. CanMerge KU.order KU.lent VU.lent KU.shown VU.shown self.new) }
+        ensures kept { IfNone result (merged KU.order
+            (old_left KU.lent VU.lent KU.shown VU.shown) (new_left KU.lent VU.lent KU.shown VU.shown)
+            self.new ≡ merged KU.order
+            (old_left KU.lent VU.lent KU.shown VU.shown) (new_left KU.lent VU.lent KU.shown VU.shown)
+            self.old) }
+        ensures ordered { IfNone result
+            (AreOrdered KU.order (old_left KU.lent VU.lent KU.shown VU.shown)
+            (new_left KU.lent VU.lent KU.shown VU.shown) self.new) }
+    {
+        KU::is_lent();
+        if !self.quiet {
+            return None;
+        }
+        self.quiet = false;
+        let entry = next_native(&mut self.entries)?;
+        if self.is_quiet() {
+            self.quiet = true;
+            return Some(entry);
+        }
+        self.ahead = Some(entry);
+        None
+    }
+
+    /// Takes the next entry by comparison, and at the start of a leaf compares its last entry.
+    #[inline(never)]
+    fn next_by_comparison(&mut self) -> Option<(KU, VU)>
+        requires { AreOrdered KU.order (old_left KU.lent VU.lent KU.shown VU.shown)
+            (new_left KU.lent VU.lent KU.shown VU.shown) self.old }
+        ensures gives { YieldsFirst (merged KU.order
+            (old_left KU.lent VU.lent KU.shown VU.shown) (new_left KU.lent VU.lent KU.shown VU.shown))
+            self.old (option_map (both KU.shown VU.shown) result) self.new }
+        ensures can { IfSome result (λ _. CanMerge KU.order KU.lent VU.lent KU.shown VU.shown self.new) }
+    {
+        let at_end = self.entries.last_at_hand().is_none();
+        let item = self.next_compared()?;
+        self.quiet = at_end && self.is_quiet();
+        Some(item)
+    }
+
+    /// Takes the next entry, which isn't at hand. It is compared if the entries of the next leaf are to be.
+    #[inline(never)]
+    fn next_apart(&mut self) -> Option<(KU, VU)>
+        requires { CanCross KU.order KU.lent VU.lent KU.shown VU.shown self.old }
+        ensures gives { YieldsFirst (merged KU.order
+            (old_left KU.lent VU.lent KU.shown VU.shown) (new_left KU.lent VU.lent KU.shown VU.shown))
+            self.old (option_map (both KU.shown VU.shown) result) self.new }
+        ensures can { IfSome result (λ _. CanMerge KU.order KU.lent VU.lent KU.shown VU.shown self.new) }
+    {
+        if let Some(entry) = self.next_crossing() {
+            return Some(entry);
+        }
+        self.next_by_comparison()
+    }
+
+    /// Takes the next entry if it is at hand and comes before the next change, without a comparison.
+    #[inline(always)]
+    fn next_quiet(&mut self) -> Option<(KU, VU)>
+        requires { CanMerge KU.order KU.lent VU.lent KU.shown VU.shown self.old }
+        ensures gives { IfSome result (λ entry. merged KU.order
+            (old_left KU.lent VU.lent KU.shown VU.shown) (new_left KU.lent VU.lent KU.shown VU.shown)
+            self.old ≡ both KU.shown VU.shown entry ∷ merged KU.order
+            (old_left KU.lent VU.lent KU.shown VU.shown) (new_left KU.lent VU.lent KU.shown VU.shown)
+            self.new) }
+        ensures can { IfSome result (λ _. CanMerge KU.order KU.lent VU.lent KU.shown VU.shown self.new) }
+        ensures kept { IfNone result (merged KU.order
+            (old_left KU.lent VU.lent KU.shown VU.shown) (new_left KU.lent VU.lent KU.shown VU.shown)
+            self.new ≡ merged KU.order
+            (old_left KU.lent VU.lent KU.shown VU.shown) (new_left KU.lent VU.lent KU.shown VU.shown)
+            self.old) }
+        ensures ordered { IfNone result (CanCross KU.order KU.lent VU.lent KU.shown VU.shown self.new) }
+    {
+        KU::is_lent();
+        if !self.quiet {
+            return None;
+        }
+        native_at_hand(&mut self.entries)
+    }
 }
 
 impl<'a, 'x, K, V, M, KU, VU> Iterator for Updates<'a, 'x, M, KU, VU>
@@ -145,8 +285,7 @@ where
 {
     type Item = (KU, VU);
 
-    ghost can_next = { AreOrdered KU.order (old_left KU.lent VU.lent KU.shown VU.shown)
-        (new_left KU.lent VU.lent KU.shown VU.shown) };
+    ghost can_next = { CanMerge KU.order KU.lent VU.lent KU.shown VU.shown };
 
     ghost next_gives = { λ s r t. YieldsFirst (merged KU.order
         (old_left KU.lent VU.lent KU.shown VU.shown) (new_left KU.lent VU.lent KU.shown VU.shown))
@@ -157,10 +296,12 @@ where
 
     #[inline(always)]
     fn next(&mut self) -> Option<(KU, VU)> {
-        loop {
-            if let Some(item) = self.step() {
-                return item;
-            }
+        if let Some(entry) = self.next_quiet() {
+            return Some(entry);
         }
+        if self.quiet {
+            return self.next_apart();
+        }
+        self.next_by_comparison()
     }
 }

@@ -7,5 +7,6 @@ pub mod Lookups
 pub mod ManyFound
 pub mod Ordered
 pub mod LookedUp
+pub mod Promised
 pub mod Remaining
 pub mod Sets

@@ -98,15 +98,15 @@ pub listed_read : {X Y : Type 0} (f : X → Y) (xs : List X) (found : Option X) 
 listed_read f xs None h = h
 listed_read f xs (Some x) h = contains_image f x xs h.0 h.1
 
--- an option that reads as what the search of a map finds
-module _ (K V : Kind) (E : ℕ) (b : List ℕ) (at : ℕ) (comparison : K.Value → Ordering) {T : Type 0} (view_value : T → K.Value × V.Value) (r : Option T) (found : option_map view_value r ≡ found_at K V E b at comparison) where
+-- what the search of a map finds
+module _ (K V : Kind) (E : ℕ) (b : List ℕ) (at : ℕ) (comparison : K.Value → Ordering) (entry : Option (K.Value × V.Value)) (found : entry ≡ found_at K V E b at comparison) where
   -- it is an entry that is equal
-  pub found_member : IfSome (option_map view_value r) (IsHit (λ e. comparison e.0) (read_map K V E b at))
+  pub found_member : IfSome entry (IsHit (λ e. comparison e.0) (read_map K V E b at))
   found_member = rw found (probe_finds (entry_at K V E b) (λ e. comparison e.0) (map_tree (layout_of K V E) b at) _ refl).hit
 
   -- and along an ordered list there is one if some entry is equal
-  pub found_complete : OrderedBy (λ e. comparison e.0) (read_map K V E b at) → (IsSome r ↔ AnyHit (λ e. comparison e.0) (read_map K V E b at))
-  found_complete = rw (← some_mapped view_value r, found) (probe_finds (entry_at K V E b) (λ e. comparison e.0) (map_tree (layout_of K V E) b at) _ refl).complete
+  pub found_complete : OrderedBy (λ e. comparison e.0) (read_map K V E b at) → (IsSome entry ↔ AnyHit (λ e. comparison e.0) (read_map K V E b at))
+  found_complete = rw found (probe_finds (entry_at K V E b) (λ e. comparison e.0) (map_tree (layout_of K V E) b at) _ refl).complete
 
 -- so whether an entry is looked up is whether its value is
 pub some_of_entry : {A B : Type 0} (test : A → Bool) (m : List (A × B)) → is_some (lookup_entry test m) ≡ is_some (lookup test m)

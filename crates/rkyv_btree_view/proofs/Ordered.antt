@@ -1,4 +1,4 @@
--- Lists whose keys increase are ordered for each bound.
+-- Lists whose keys increase are ordered for each bound, so what is within bounds of an ordered list is so of such a list.
 use Rattle.std.proofs.Common.{◌≡◌, ℕ, ◌+◌, ◌<◌, List, ◌++◌, length, sym, ◌∙◌, subst, arith, length-append}
 use Rattle.std.proofs.lemmas.List.{get_or_append_left, get_or-append-add, map-id}
 use Rattle.std.proofs.lemmas.List.Elements.{All-map}
@@ -15,9 +15,10 @@ use Rattle.rkyv_btree_base.specs.Layout.{layout_of}
 use Rattle.rkyv_btree_base.specs.Read.{entry_at, map_tree, read_map}
 use Rattle.rkyv_btree_base.specs.Tree.{list}
 use Rattle.rkyv_btree_view.specs.Query.{IsCut}
-use Rattle.rkyv_btree_view.specs.Set.{KeysOrderedFor}
+use Rattle.rkyv_btree_view.specs.Ranges.{AreKeysBetween, IsBetween}
+use Rattle.rkyv_btree_view.specs.Set.{AreKeysWithin, KeysOrderedFor}
 use Rattle.rkyv_btree_view.specs.laws.Increasing.{increasing_ordered}
-use Rattle.rkyv_btree_walk.specs.Bounds.{OrderedFor}
+use Rattle.rkyv_btree_walk.specs.Bounds.{IsWithin, OrderedFor}
 use Rattle.rkyv_btree_walk.specs.Search.{OrderedBy}
 
 module _ {X : Type 0} (P : X → Type 0) (xs ys : List X) (all : All P (xs ++ ys)) where
@@ -54,6 +55,21 @@ module _ {A : Type 0} (order : A → A → Ordering) (ks : List A) (rises : IsSt
   keys_ordered comparison cut cuts same Unbounded = tt
   keys_ordered comparison cut cuts same (Included q) = ordered_alike (comparison q) (cut q) ks (same q) (increasing_ordered order (λ k. k) (cut q) (cuts q) ks keys_rise)
   keys_ordered comparison cut cuts same (Excluded q) = ordered_alike (comparison q) (cut q) ks (same q) (increasing_ordered order (λ k. k) (cut q) (cuts q) ks keys_rise)
+
+-- what is within two bounds, by queries that give at each entry what a cut gives there
+pub between : {A B Q : Type 0} (order : A → A → Ordering) (m left : List (A × B)) (comparison cut : Q → A → Ordering) → ((q : Q) → IsCut order (cut q)) → ((q : Q) → All (λ e. comparison q e.0 ≡ cut q e.0) m) → (low high : Bound Q)
+    → IsWithin (bound_map comparison low) (bound_map comparison high) m left → IsBetween order (bound_map comparison low) (bound_map comparison high) m left
+between order m left comparison cut cuts same low high within = record {
+  sorted = λ rises. let ordered = entries_ordered order m rises comparison cut cuts same in within (ordered low) (ordered high);
+  within = within;
+}
+
+pub keys_between : {A Q : Type 0} (order : A → A → Ordering) (ks left : List A) (comparison cut : Q → A → Ordering) → ((q : Q) → IsCut order (cut q)) → ((q : Q) → All (λ k. comparison q k ≡ cut q k) ks) → (low high : Bound Q)
+    → AreKeysWithin (bound_map comparison low) (bound_map comparison high) ks left → AreKeysBetween order (bound_map comparison low) (bound_map comparison high) ks left
+keys_between order ks left comparison cut cuts same low high within = record {
+  sorted = λ rises. let ordered = keys_ordered order ks rises comparison cut cuts same in within (ordered low) (ordered high);
+  within = within;
+}
 
 -- what gives the same at each key that is read gives the same at each entry of the map
 pub natives_alike : (K V : Kind) (E : ℕ) (b : List ℕ) (at : ℕ) (comparison cut : K.Value → Ordering) → ((p : ℕ) → comparison (K.read b p) ≡ cut (K.read b p)) → All (λ e. comparison e.0 ≡ cut e.0) (read_map K V E b at)

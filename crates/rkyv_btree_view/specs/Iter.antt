@@ -13,3 +13,8 @@ last_of n xs = drop (length xs - n) xs
 abbrev pub entries_left : {M K V : Type 0} {g : ArchivedMap.Ghosts M K V} {m : Portable.Ghosts M} {k : Portable.Ghosts K}
     {v : Portable.Ghosts V} → Iter M K V g m k v → List (k.kind.Value × v.kind.Value)
 entries_left {g} {k} {v} s = last_of (s.walk.behind + (s.walk.end - s.walk.next)) (read_map k.kind v.kind g.E s.buf.now s.pos)
+
+-- how many of them the iterator takes from the node that it is in
+abbrev pub at_hand : {M K V : Type 0} {g : ArchivedMap.Ghosts M K V} {m : Portable.Ghosts M} {k : Portable.Ghosts K} {v : Portable.Ghosts V}
+    → Iter M K V g m k v → ℕ
+at_hand s = s.walk.end - s.walk.next

@@ -4,7 +4,8 @@ ghost use Rattle.std.specs.Prelude.{◌≡◌, ◌≤◌, ◌<◌, ◌+◌, ℕ,
 ghost use Rattle.std.specs.Option.{ForSome, option_map};
 ghost use Rattle.rkyv_btree_view.specs.Items.{ShowsAll};
 ghost use Rattle.rkyv_btree_view.specs.Lookup.{ByNative};
-ghost use Rattle.rkyv_btree_view.specs.ManyLookups.{IsKeyLookup, IsLookup, entry_looked_up_in, key_looked_up_in, looked_up_in};
+ghost use Rattle.rkyv_btree_view.specs.Lookups.{IsKeyLookup, IsLookup};
+ghost use Rattle.rkyv_btree_view.specs.ManyLookups.{entry_looked_up_in, key_looked_up_in, looked_up_in};
 ghost use Rattle.rkyv_btree_view.specs.SideBySide.{AreWaysOf};
 ghost use Rattle.rkyv_btree_view.specs.View.{view_entry, view_value};
 ghost use Rattle.rkyv_btree_walk.specs.Ends.{end_of};

@@ -17,7 +17,7 @@ use rkyv_btree_base::check::Portable;
 use rkyv_btree_base::map::ArchivedBTreeMap;
 use rkyv_btree_walk::archived_map::ArchivedMap;
 use rkyv_btree_walk::entry_place::EntryPlace;
-use rkyv_btree_walk::entry_walk::{Walk, start, step};
+use rkyv_btree_walk::entry_walk::{Walk, last_in_leaf, start, step, step_in_leaf};
 use rkyv_btree_walk::node::{key_pos, value_pos};
 use rkyv_btree_walk::shows::Shows;
 use std::iter::FusedIterator;
@@ -93,6 +93,38 @@ impl<'a, K: Portable, V: Portable, M: ArchivedMap<Key = K, Mapped = V>> ExactSiz
 
 impl<'a, K: Portable, V: Portable, M: ArchivedMap<Key = K, Mapped = V>> FusedIterator
     for Iter<'a, M> {}
+
+impl<'a, K: Portable, V: Portable, M: ArchivedMap<Key = K, Mapped = V>> Iter<'a, M> {
+    ghost use Rattle.std.specs.Prelude.{◌-◌, ◌∷◌, IfNone, IfSome};
+    ghost use Rattle.rkyv_btree_view.specs.Iter.{at_hand, entries_left};
+    ghost use Rattle.rkyv_btree_walk.specs.Bounds.{IsLastOf};
+
+    /// Returns the next entry if it is at hand: if it needs no step to another node. Otherwise it returns `None`, and the same
+    /// entries remain.
+    #[inline(always)]
+    pub fn next_at_hand(&mut self) -> Option<(View<'a, K>, View<'a, V>)>
+        ensures takes { IfSome result (λ e.
+            entries_left self.old ≡ view_entry e ∷ entries_left self.new) }
+        ensures fewer { IfSome result (λ _. at_hand self.old ≡ 1 + at_hand self.new) }
+        ensures none { IfNone result (at_hand self.old ≡ 0) }
+        ensures kept { IfNone result (entries_left self.new ≡ entries_left self.old) }
+    {
+        let buf = self.buf;
+        let place = step_in_leaf::<K, V, M>(buf, self.pos, &mut self.walk)?;
+        Some(entry::<K, V, M>(buf, self.pos, place))
+    }
+
+    /// Returns the last of the entries at hand, if there is one: of those that `next_at_hand` returns. The iterator is unchanged.
+    #[inline(always)]
+    pub fn last_at_hand(&self) -> Option<(View<'a, K>, View<'a, V>)>
+        ensures none { IfNone result (at_hand self.now ≡ 0) }
+        ensures last { IfSome result (λ e.
+            IsLastOf (at_hand self.now) (entries_left self.now) (view_entry e)) }
+    {
+        let place = last_in_leaf::<K, V, M>(self.buf, self.pos, &self.walk)?;
+        Some(entry::<K, V, M>(self.buf, self.pos, place))
+    }
+}
 
 impl<'a, K: Portable, V: Portable, M: ArchivedMap<Key = K, Mapped = V> + ShowsEntries> View<'a, M> {
     ghost use Rattle.rkyv_btree_view.specs.Iter.{entries_left};

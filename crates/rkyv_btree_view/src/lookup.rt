@@ -3,19 +3,20 @@
 //! A search compares the query with the keys of a node from the left. It ends at a key that is equal. Otherwise it goes on in
 //! the child before the first greater key, or in the last child.
 ghost use Rattle.std.specs.BTreeMap.{is_at};
-ghost use Rattle.std.specs.Map.{lookup, lookup_entry};
+ghost use Rattle.std.specs.Map.{lookup};
 ghost use Rattle.std.specs.Option.{option_map};
-ghost use Rattle.std.specs.Prelude.{◌≡◌, ◌+◌, ◌*◌, ◌≤◌, [], Contains, IsTrue, IsSome, IfSome, Some, is_some};
+ghost use Rattle.std.specs.Prelude.{◌≡◌, ◌+◌, ◌*◌, ◌≤◌, [], Contains, IsSome, IfSome, Some};
 ghost use Rattle.rkyv_btree_base.specs.Increasing.{Increasing};
 ghost use Rattle.rkyv_btree_base.specs.Read.{entry_at};
-ghost use Rattle.rkyv_btree_view.specs.Lookup.{found_in, comparisons_in, height_of, IsComplete, IsValueOfEqualKey};
+ghost use Rattle.rkyv_btree_view.specs.Lookup.{found_in, comparisons_in, height_of, IsComplete};
 ghost use Rattle.rkyv_btree_view.specs.Lookup.{ByComparison, ByNative};
 ghost use Rattle.rkyv_btree_view.specs.Lookup.{FoundIsEqual, IncreasingIsFound, SearchedIsSpelled, SearchedIsLow};
+ghost use Rattle.rkyv_btree_view.specs.Lookups.{IsEntryLookup, IsLookup, IsLookupWith, IsWhetherFound};
 ghost use Rattle.rkyv_btree_view.specs.Native.{ByReading};
 ghost use Rattle.rkyv_btree_view.specs.Query.{IsCut};
 ghost use Rattle.rkyv_btree_view.specs.View.{view_value, view_entry, entries_of};
 ghost use Rattle.rkyv_btree_walk.specs.mirror.Node.{RunStands};
-ghost use Rattle.rkyv_btree_walk.specs.Search.{AnyHit, IsHit, shown_value};
+ghost use Rattle.rkyv_btree_walk.specs.Search.{shown_value};
 
 use crate::compare::ViewOrd;
 use crate::compare_native::CompareWith;
@@ -73,21 +74,8 @@ impl<'a, K: Portable, V: Portable, M: ArchivedMap<Key = K, Mapped = V>> View<'a,
         // A result is an entry of the list, whatever the comparison returns.
         ensures listed { IfSome (option_map view_entry result)
             (Contains (entries_of K.kind V.kind M.E self.entry)) }
-        // Its key is equal.
-        ensures member { ByComparison (C.post cmp) (shown_value K.kind W.Shows) key.now (λ comparison.
-            IfSome (option_map view_entry result)
-            (IsHit (λ e. comparison e.0) (entries_of K.kind V.kind M.E self.entry))) }
-        // If the keys increase, it is what std's map finds.
-        ensures sorted { ByComparison (C.post cmp) (shown_value K.kind W.Shows) key.now (λ comparison.
-            IsCut K.kind.order comparison →
-            Increasing K.kind.order (entries_of K.kind V.kind M.E self.entry) →
-            option_map view_entry result ≡ lookup_entry (is_at comparison)
-            (entries_of K.kind V.kind M.E self.entry)) }
-        // On each map it is the entry at which the search ends.
-        ensures found { ByComparison (C.post cmp) (shown_value K.kind W.Shows) key.now (λ comparison.
-            option_map view_entry result ≡ found_in K.kind V.kind M.E self.entry comparison) }
-        ensures complete { ByComparison (C.post cmp) (shown_value K.kind W.Shows) key.now (λ comparison.
-            IsComplete K.kind V.kind M.E self.entry comparison (IsSome result)) }
+        ensures lookup { ByComparison (C.post cmp) (shown_value K.kind W.Shows) key.now (λ comparison.
+            IsLookupWith K.kind V.kind M.E self.entry comparison (option_map view_entry result)) }
     {
         let compare = |query: &Q, key: W| Compared::of(cmp(query, key));
         let (found, _) = search::<Q, K, V, M, W, _>(self.buf, self.pos, key, &compare, false);
@@ -108,21 +96,8 @@ impl<'a, K: Portable, V: Portable, M: ArchivedMap<Key = K, Mapped = V>> View<'a,
         // A result is an entry of the list, whatever the comparison returns.
         ensures listed { IfSome (option_map view_entry result)
             (Contains (entries_of K.kind V.kind M.E self.entry)) }
-        // Its key is equal.
-        ensures member { ByComparison (C.post cmp) (shown_value K.kind W.Shows) key.now (λ comparison.
-            IfSome (option_map view_entry result)
-            (IsHit (λ e. comparison e.0) (entries_of K.kind V.kind M.E self.entry))) }
-        // If the keys increase, it is what std's map finds.
-        ensures sorted { ByComparison (C.post cmp) (shown_value K.kind W.Shows) key.now (λ comparison.
-            IsCut K.kind.order comparison →
-            Increasing K.kind.order (entries_of K.kind V.kind M.E self.entry) →
-            option_map view_entry result ≡ lookup_entry (is_at comparison)
-            (entries_of K.kind V.kind M.E self.entry)) }
-        // On each map it is the entry at which the search ends.
-        ensures found { ByComparison (C.post cmp) (shown_value K.kind W.Shows) key.now (λ comparison.
-            option_map view_entry result ≡ found_in K.kind V.kind M.E self.entry comparison) }
-        ensures complete { ByComparison (C.post cmp) (shown_value K.kind W.Shows) key.now (λ comparison.
-            IsComplete K.kind V.kind M.E self.entry comparison (IsSome result)) }
+        ensures lookup { ByComparison (C.post cmp) (shown_value K.kind W.Shows) key.now (λ comparison.
+            IsLookupWith K.kind V.kind M.E self.entry comparison (option_map view_entry result)) }
         ensures counts { ByComparison (C.post cmp) (shown_value K.kind W.Shows) key.now (λ comparison.
             steps.new ≡ steps.old + comparisons_in K.kind V.kind M.E self.entry comparison) }
         ensures few { ByComparison (C.post cmp) (shown_value K.kind W.Shows) key.now (λ comparison.
@@ -142,19 +117,8 @@ impl<'a, K: Portable, V: Portable, M: ArchivedMap<Key = K, Mapped = V>> View<'a,
 impl<'a, K: ViewOrd, V: Portable, M: ArchivedMap<Key = K, Mapped = V> + ShowsEntries> View<'a, M> {
     /// Returns the entry whose key is equal to `key`, or `None`.
     pub fn get_key_value(self, key: View<'_, K>) -> Option<(View<'a, K>, View<'a, V>)>
-        // A result is an entry of the list whose key is equal.
-        ensures member { IfSome (option_map view_entry result)
-            (IsHit (λ e. K.kind.order (view_value key.entry) e.0)
-            (entries_of K.kind V.kind M.E self.entry)) }
-        // If the keys increase, it is what std's map finds.
-        ensures sorted { Increasing K.kind.order (entries_of K.kind V.kind M.E self.entry) →
-            option_map view_entry result ≡ lookup_entry (is_at (K.kind.order (view_value key.entry)))
-            (entries_of K.kind V.kind M.E self.entry) }
-        // On each map it is the entry at which the search ends.
-        ensures found { option_map view_entry result
-            ≡ found_in K.kind V.kind M.E self.entry (K.kind.order (view_value key.entry)) }
-        ensures complete { IsComplete K.kind V.kind M.E self.entry (K.kind.order (view_value key.entry))
-            (IsSome result) }
+        ensures { IsEntryLookup K.kind V.kind M.E self.entry (K.kind.order (view_value key.entry))
+            (option_map view_entry result) }
     {
         let compare = |query: &View<'_, K>, key: View<K>| Compared::of(K::compare(query, &key));
         let (found, _) = search::<_, K, V, M, _, _>(self.buf, self.pos, &key, &compare, true);
@@ -163,18 +127,8 @@ impl<'a, K: ViewOrd, V: Portable, M: ArchivedMap<Key = K, Mapped = V> + ShowsEnt
 
     /// Returns the value stored for `key`, or `None`.
     pub fn get(self, key: View<'_, K>) -> Option<View<'a, V>>
-        // A result is the value of an entry whose key is equal.
-        ensures member { IfSome result (λ value. IsValueOfEqualKey (K.kind.order (view_value key.entry))
-            (entries_of K.kind V.kind M.E self.entry) (view_value value)) }
-        // If the keys increase, it is what std's map finds.
-        ensures sorted { Increasing K.kind.order (entries_of K.kind V.kind M.E self.entry) →
-            option_map view_value result ≡ lookup (is_at (K.kind.order (view_value key.entry)))
-            (entries_of K.kind V.kind M.E self.entry) }
-        // On each map it is the value of the entry at which the search ends.
-        ensures found { option_map view_value result ≡ option_map (λ e. e.1)
-            (found_in K.kind V.kind M.E self.entry (K.kind.order (view_value key.entry))) }
-        ensures complete { IsComplete K.kind V.kind M.E self.entry (K.kind.order (view_value key.entry))
-            (IsSome result) }
+        ensures { IsLookup K.kind V.kind M.E self.entry (K.kind.order (view_value key.entry))
+            (option_map view_value result) }
     {
         match self.get_key_value(key) {
             None => None,
@@ -184,18 +138,8 @@ impl<'a, K: ViewOrd, V: Portable, M: ArchivedMap<Key = K, Mapped = V> + ShowsEnt
 
     /// Returns whether `get` finds a value.
     pub fn contains_key(self, key: View<'_, K>) -> bool
-        // If it is true, an entry of the list has an equal key.
-        ensures member { IsTrue result → AnyHit (λ e. K.kind.order (view_value key.entry) e.0)
-            (entries_of K.kind V.kind M.E self.entry) }
-        // If the keys increase, it is whether std's map finds a value.
-        ensures sorted { Increasing K.kind.order (entries_of K.kind V.kind M.E self.entry) →
-            result ≡ is_some (lookup (is_at (K.kind.order (view_value key.entry)))
-            (entries_of K.kind V.kind M.E self.entry)) }
-        // On each map it is whether the search ends at an entry.
-        ensures found { result
-            ≡ is_some (found_in K.kind V.kind M.E self.entry (K.kind.order (view_value key.entry))) }
-        ensures complete { IsComplete K.kind V.kind M.E self.entry (K.kind.order (view_value key.entry))
-            (IsTrue result) }
+        ensures { IsWhetherFound K.kind V.kind M.E self.entry (K.kind.order (view_value key.entry))
+            result }
     {
         self.get_key_value(key).is_some()
     }
@@ -203,13 +147,8 @@ impl<'a, K: ViewOrd, V: Portable, M: ArchivedMap<Key = K, Mapped = V> + ShowsEnt
     /// Returns the value stored for `key`. Requires that there is one: `contains_key` is the test.
     pub fn index(self, key: View<'_, K>) -> View<'a, V>
         requires { IsSome (found_in K.kind V.kind M.E self (K.kind.order (view_value key))) }
-        ensures member { IsValueOfEqualKey (K.kind.order (view_value key.entry))
-            (entries_of K.kind V.kind M.E self.entry) (view_value result) }
-        ensures sorted { Increasing K.kind.order (entries_of K.kind V.kind M.E self.entry) →
-            Some (view_value result) ≡ lookup (is_at (K.kind.order (view_value key.entry)))
-            (entries_of K.kind V.kind M.E self.entry) }
-        ensures found { Some (view_value result) ≡ option_map (λ e. e.1)
-            (found_in K.kind V.kind M.E self.entry (K.kind.order (view_value key.entry))) }
+        ensures { IsLookup K.kind V.kind M.E self.entry (K.kind.order (view_value key.entry))
+            (Some (view_value result)) }
     {
         match self.get(key) {
             Some(value) => value,
@@ -225,20 +164,8 @@ impl<'a, K: Portable, V: Portable, M: ArchivedMap<Key = K, Mapped = V> + ShowsEn
     pub fn get_key_value_by<T: Drop>(self, key: T) -> Option<(View<'a, K>, View<'a, V>)>
     where
         K: CompareWith<T>,
-        // A result is an entry of the list whose key is equal.
-        ensures member { ByNative K.kind K.compared_at key (λ comparison.
-            IfSome (option_map view_entry result)
-            (IsHit (λ e. comparison e.0) (entries_of K.kind V.kind M.E self.entry))) }
-        // If the keys increase, it is what std's map finds.
-        ensures sorted { ByNative K.kind K.compared_at key (λ comparison.
-            Increasing K.kind.order (entries_of K.kind V.kind M.E self.entry) →
-            option_map view_entry result ≡ lookup_entry (is_at comparison)
-            (entries_of K.kind V.kind M.E self.entry)) }
-        // On each map it is the entry at which the search ends.
-        ensures found { ByNative K.kind K.compared_at key (λ comparison.
-            option_map view_entry result ≡ found_in K.kind V.kind M.E self.entry comparison) }
-        ensures complete { ByNative K.kind K.compared_at key (λ comparison.
-            IsComplete K.kind V.kind M.E self.entry comparison (IsSome result)) }
+        ensures { ByNative K.kind K.compared_at key (λ comparison.
+            IsEntryLookup K.kind V.kind M.E self.entry comparison (option_map view_entry result)) }
     {
         let compare = |query: &T, key: View<K>| K::compared(query, &key);
         let all = K::is_plain();
@@ -257,19 +184,8 @@ impl<'a, K: Portable, V: Portable, M: ArchivedMap<Key = K, Mapped = V> + ShowsEn
     pub fn get_by<T: Drop>(self, key: T) -> Option<View<'a, V>>
     where
         K: CompareWith<T>,
-        // A result is the value of an entry whose key is equal.
-        ensures member { ByNative K.kind K.compared_at key (λ comparison. IfSome result (λ value.
-            IsValueOfEqualKey comparison (entries_of K.kind V.kind M.E self.entry) (view_value value))) }
-        // If the keys increase, it is what std's map finds.
-        ensures sorted { ByNative K.kind K.compared_at key (λ comparison.
-            Increasing K.kind.order (entries_of K.kind V.kind M.E self.entry) →
-            option_map view_value result ≡ lookup (is_at comparison)
-            (entries_of K.kind V.kind M.E self.entry)) }
-        // On each map it is the value of the entry at which the search ends.
-        ensures found { ByNative K.kind K.compared_at key (λ comparison. option_map view_value result
-            ≡ option_map (λ e. e.1) (found_in K.kind V.kind M.E self.entry comparison)) }
-        ensures complete { ByNative K.kind K.compared_at key (λ comparison.
-            IsComplete K.kind V.kind M.E self.entry comparison (IsSome result)) }
+        ensures { ByNative K.kind K.compared_at key (λ comparison.
+            IsLookup K.kind V.kind M.E self.entry comparison (option_map view_value result)) }
     {
         match self.get_key_value_by(key) {
             None => None,
@@ -287,19 +203,8 @@ impl<'a, K: Portable, V: Portable, M: ArchivedMap<Key = K, Mapped = V> + ShowsEn
     pub fn contains_by<T: Drop>(self, key: T) -> bool
     where
         K: CompareWith<T>,
-        // If it is true, an entry of the list has an equal key.
-        ensures member { ByNative K.kind K.compared_at key (λ comparison. IsTrue result →
-            AnyHit (λ e. comparison e.0) (entries_of K.kind V.kind M.E self.entry)) }
-        // If the keys increase, it is whether std's map finds a value.
-        ensures sorted { ByNative K.kind K.compared_at key (λ comparison.
-            Increasing K.kind.order (entries_of K.kind V.kind M.E self.entry) →
-            result ≡ is_some (lookup (is_at comparison)
-            (entries_of K.kind V.kind M.E self.entry))) }
-        // On each map it is whether the search ends at an entry.
-        ensures found { ByNative K.kind K.compared_at key (λ comparison.
-            result ≡ is_some (found_in K.kind V.kind M.E self.entry comparison)) }
-        ensures complete { ByNative K.kind K.compared_at key (λ comparison.
-            IsComplete K.kind V.kind M.E self.entry comparison (IsTrue result)) }
+        ensures { ByNative K.kind K.compared_at key (λ comparison.
+            IsWhetherFound K.kind V.kind M.E self.entry comparison result) }
     {
         self.get_key_value_by(key).is_some()
     }

@@ -1,13 +1,11 @@
 //! Ranges of the entries of a map, between two bounds of their keys.
 ghost use Rattle.std.specs.Prelude.{◌≡◌, length, IsTrue};
-ghost use Rattle.std.specs.Iterator.{IsFinite};
 ghost use Rattle.std.specs.Range.Bound.{bound_map};
 ghost use Rattle.std.specs.declared.ops.Bound.TheVariants.{Unbounded};
-ghost use Rattle.rkyv_btree_base.specs.Increasing.{Increasing};
 ghost use Rattle.rkyv_btree_base.specs.Views.{stands};
-ghost use Rattle.rkyv_btree_view.specs.Items.{ShowsAll};
+ghost use Rattle.rkyv_btree_view.specs.Ranges.{IsBetween, IsRange};
 ghost use Rattle.rkyv_btree_view.specs.View.{view_value, view_entry, entries_of};
-ghost use Rattle.rkyv_btree_walk.specs.Bounds.{IsRun, OrderedFor, entries_within, ByBounds};
+ghost use Rattle.rkyv_btree_walk.specs.Bounds.{ByBounds, IsWithin};
 ghost use Rattle.rkyv_btree_walk.specs.Search.{shown_value};
 ghost use Rattle.rkyv_btree_walk.specs.WalkBetween.{IsWalkBetween};
 
@@ -84,17 +82,13 @@ impl<'a, K: Portable, V: Portable, M: ArchivedMap<Key = K, Mapped = V>> View<'a,
         cmp: C,
     ) -> Range<'a, M>
         requires { C.IsAlwaysCallable cmp }
-        ensures yields { ShowsAll ⟦<Range<'a, M> as Iterator>⟧.next_gives view_entry result
-            (range_left result) }
-        ensures ends { IsFinite (⟦<Range<'a, M> as Iterator>⟧.remaining result) }
-        ensures run { IsRun (range_left result) (entries_of K.kind V.kind M.E self.entry) }
+        ensures range { IsRange ⟦<Range<'a, M> as Iterator>⟧ view_entry result (range_left result)
+            (entries_of K.kind V.kind M.E self.entry) }
         ensures whole { low.entry ≡ Unbounded → high.entry ≡ Unbounded
             → range_left result ≡ entries_of K.kind V.kind M.E self.entry }
         // If the entries are ordered for both bounds, these are all entries within them.
         ensures within { ByBounds (C.post cmp) (shown_value K.kind W.Shows) low.entry high.entry (λ lo hi.
-            OrderedFor lo (entries_of K.kind V.kind M.E self.entry) →
-            OrderedFor hi (entries_of K.kind V.kind M.E self.entry) →
-            range_left result ≡ entries_within lo hi (entries_of K.kind V.kind M.E self.entry)) }
+            IsWithin lo hi (entries_of K.kind V.kind M.E self.entry) (range_left result)) }
     {
         Range {
             buf: self.buf,
@@ -110,27 +104,14 @@ impl<'a, K: ViewOrd, V: Portable, M: ArchivedMap<Key = K, Mapped = V> + ShowsEnt
 
     /// Returns an iterator over the entries whose keys are within the bounds, in order. No memory is allocated.
     pub fn range(self, low: Bound<View<'_, K>>, high: Bound<View<'_, K>>) -> Range<'a, M>
-        ensures yields { ShowsAll ⟦<Range<'a, M> as Iterator>⟧.next_gives view_entry result
-            (range_left result) }
-        ensures ends { IsFinite (⟦<Range<'a, M> as Iterator>⟧.remaining result) }
-        ensures run { IsRun (range_left result) (entries_of K.kind V.kind M.E self.entry) }
+        ensures range { IsRange ⟦<Range<'a, M> as Iterator>⟧ view_entry result (range_left result)
+            (entries_of K.kind V.kind M.E self.entry) }
         ensures whole { low.entry ≡ Unbounded → high.entry ≡ Unbounded
             → range_left result ≡ entries_of K.kind V.kind M.E self.entry }
-        // If the keys increase, these are all entries within the bounds.
-        ensures sorted { Increasing K.kind.order (entries_of K.kind V.kind M.E self.entry) →
-            range_left result
-            ≡ entries_within (bound_map (λ q. K.kind.order (view_value q)) low.entry)
+        ensures between { IsBetween K.kind.order
+            (bound_map (λ q. K.kind.order (view_value q)) low.entry)
             (bound_map (λ q. K.kind.order (view_value q)) high.entry)
-            (entries_of K.kind V.kind M.E self.entry) }
-        // So they are if the entries are ordered for both bounds.
-        ensures within { OrderedFor (bound_map (λ q. K.kind.order (view_value q)) low.entry)
-            (entries_of K.kind V.kind M.E self.entry) →
-            OrderedFor (bound_map (λ q. K.kind.order (view_value q)) high.entry)
-            (entries_of K.kind V.kind M.E self.entry) →
-            range_left result
-            ≡ entries_within (bound_map (λ q. K.kind.order (view_value q)) low.entry)
-            (bound_map (λ q. K.kind.order (view_value q)) high.entry)
-            (entries_of K.kind V.kind M.E self.entry) }
+            (entries_of K.kind V.kind M.E self.entry) (range_left result) }
     {
         let compare = |query: &View<'_, K>, key: View<K>| K::compare(query, &key);
         let low = low.as_ref();
@@ -152,21 +133,12 @@ impl<'a, K: Portable, V: Portable, M: ArchivedMap<Key = K, Mapped = V> + ShowsEn
     pub fn range_by<T: Drop>(self, low: Bound<T>, high: Bound<T>) -> Range<'a, M>
     where
         K: CompareWith<T>,
-        ensures yields { ShowsAll ⟦<Range<'a, M> as Iterator>⟧.next_gives view_entry result
-            (range_left result) }
-        ensures ends { IsFinite (⟦<Range<'a, M> as Iterator>⟧.remaining result) }
-        ensures run { IsRun (range_left result) (entries_of K.kind V.kind M.E self.entry) }
+        ensures range { IsRange ⟦<Range<'a, M> as Iterator>⟧ view_entry result (range_left result)
+            (entries_of K.kind V.kind M.E self.entry) }
         ensures whole { low ≡ Unbounded → high ≡ Unbounded
             → range_left result ≡ entries_of K.kind V.kind M.E self.entry }
-        // If the keys increase, these are all entries within the bounds.
-        ensures sorted { ByNativeBounds K.kind K.compared_at low high (λ lo hi.
-            Increasing K.kind.order (entries_of K.kind V.kind M.E self.entry) →
-            range_left result ≡ entries_within lo hi (entries_of K.kind V.kind M.E self.entry)) }
-        // So they are if the entries are ordered for both bounds.
-        ensures within { ByNativeBounds K.kind K.compared_at low high (λ lo hi.
-            OrderedFor lo (entries_of K.kind V.kind M.E self.entry) →
-            OrderedFor hi (entries_of K.kind V.kind M.E self.entry) →
-            range_left result ≡ entries_within lo hi (entries_of K.kind V.kind M.E self.entry)) }
+        ensures between { ByNativeBounds K.kind K.compared_at low high (λ lo hi. IsBetween K.kind.order
+            lo hi (entries_of K.kind V.kind M.E self.entry) (range_left result)) }
     {
         let compare = |query: &T, key: View<K>| K::compare_with(query, &key);
         let low = low.as_ref();
@@ -192,24 +164,14 @@ impl<'a, K: Portable, V: Portable, M: ArchivedMap<Key = K, Mapped = V> + ShowsEn
     pub fn range_of<T: Drop, R: RangeBounds<T>>(self, range: R) -> Range<'a, M>
     where
         K: CompareWith<T>,
-        ensures yields { ShowsAll ⟦<Range<'a, M> as Iterator>⟧.next_gives view_entry result
-            (range_left result) }
-        ensures ends { IsFinite (⟦<Range<'a, M> as Iterator>⟧.remaining result) }
-        ensures run { IsRun (range_left result) (entries_of K.kind V.kind M.E self.entry) }
+        ensures range { IsRange ⟦<Range<'a, M> as Iterator>⟧ view_entry result (range_left result)
+            (entries_of K.kind V.kind M.E self.entry) }
         ensures whole { R.has_bounds range → R.start_bound range ≡ Unbounded
             → R.end_bound range ≡ Unbounded
             → range_left result ≡ entries_of K.kind V.kind M.E self.entry }
-        // If the keys increase, these are all entries in the range.
-        ensures sorted { R.has_bounds range → ByNativeBounds K.kind K.compared_at
-            (R.start_bound range) (R.end_bound range) (λ lo hi.
-            Increasing K.kind.order (entries_of K.kind V.kind M.E self.entry) →
-            range_left result ≡ entries_within lo hi (entries_of K.kind V.kind M.E self.entry)) }
-        // So they are if the entries are ordered for both bounds.
-        ensures within { R.has_bounds range → ByNativeBounds K.kind K.compared_at
-            (R.start_bound range) (R.end_bound range) (λ lo hi.
-            OrderedFor lo (entries_of K.kind V.kind M.E self.entry) →
-            OrderedFor hi (entries_of K.kind V.kind M.E self.entry) →
-            range_left result ≡ entries_within lo hi (entries_of K.kind V.kind M.E self.entry)) }
+        ensures between { R.has_bounds range → ByNativeBounds K.kind K.compared_at
+            (R.start_bound range) (R.end_bound range) (λ lo hi. IsBetween K.kind.order
+            lo hi (entries_of K.kind V.kind M.E self.entry) (range_left result)) }
     {
         let compared = |query: &T, key: View<K>| K::compare_with(query, &key);
         let low = range.start_bound();

@@ -1,9 +1,6 @@
 //! Archived sets, read in place: maps of which the keys alone are shown.
-ghost use Rattle.std.specs.Prelude.{◌≡◌, ◌↔◌, ◌≤◌, [], length, is_some, Err, IsTrue, IsOk, IsSome, IfOk, IfSome};
-ghost use Rattle.std.specs.BTreeMap.{is_at};
+ghost use Rattle.std.specs.Prelude.{◌≡◌, ◌↔◌, ◌≤◌, [], length, Err, IsTrue, IsOk, IfOk};
 ghost use Rattle.std.specs.Iterator.{IsFinite};
-ghost use Rattle.std.specs.List.{find};
-ghost use Rattle.std.specs.List.Sorted.{IsStrictlySortedBy};
 ghost use Rattle.std.specs.Option.{option_map};
 ghost use Rattle.std.specs.Range.Bound.{bound_map};
 ghost use Rattle.std.specs.declared.ops.Bound.TheVariants.{Unbounded};
@@ -13,12 +10,12 @@ ghost use Rattle.rkyv_btree_base.specs.Refusals.{RefusesMap};
 ghost use Rattle.rkyv_btree_base.specs.Scalars.{unit_kind};
 ghost use Rattle.rkyv_btree_view.specs.Items.{ShowsAll};
 ghost use Rattle.rkyv_btree_view.specs.Lookup.{ByNative};
+ghost use Rattle.rkyv_btree_view.specs.Lookups.{IsKeyLookup, IsWhetherKeyFound};
 ghost use Rattle.rkyv_btree_view.specs.Map.{IsMap};
 ghost use Rattle.rkyv_btree_view.specs.Range.{ByNativeBounds};
-ghost use Rattle.rkyv_btree_view.specs.Set.{keys_of, key_in, IsCompleteOnKeys, KeysOrderedFor};
+ghost use Rattle.rkyv_btree_view.specs.Ranges.{AreKeysBetween, IsRange};
+ghost use Rattle.rkyv_btree_view.specs.Set.{keys_of};
 ghost use Rattle.rkyv_btree_view.specs.View.{view_value, entries_of};
-ghost use Rattle.rkyv_btree_walk.specs.Bounds.{IsRun, keys_within};
-ghost use Rattle.rkyv_btree_walk.specs.Search.{AnyHit, IsHit};
 
 use crate::compare::ViewOrd;
 use crate::compare_native::CompareWith;
@@ -124,36 +121,15 @@ impl<'a, K: Portable, const E: usize> View<'a, ArchivedBTreeSet<K, E>> {
 impl<'a, K: ViewOrd, const E: usize> View<'a, ArchivedBTreeSet<K, E>> {
     /// Returns whether a key is equal to `key`.
     pub fn contains_key(self, key: View<'_, K>) -> bool
-        // If it is true, a key of the set is equal.
-        ensures member { IsTrue result →
-            AnyHit (K.kind.order (view_value key.entry)) (keys_of K.kind E self.entry) }
-        // If the keys increase, it is whether std's set finds a key.
-        ensures sorted { IsStrictlySortedBy K.kind.order (keys_of K.kind E self.entry) →
-            result ≡ is_some (find (is_at (K.kind.order (view_value key.entry)))
-            (keys_of K.kind E self.entry)) }
-        // On each set it is whether the search ends at a key.
-        ensures found { result
-            ≡ is_some (key_in K.kind E self.entry (K.kind.order (view_value key.entry))) }
-        ensures complete { IsCompleteOnKeys K.kind E self.entry (K.kind.order (view_value key.entry))
-            (IsTrue result) }
+        ensures { IsWhetherKeyFound K.kind E self.entry (K.kind.order (view_value key.entry)) result }
     {
         self.as_map().contains_key(key)
     }
 
     /// Returns the set's own key that is equal to `key`, or `None`.
     pub fn get(self, key: View<'_, K>) -> Option<View<'a, K>>
-        // A result is a key of the set that is equal.
-        ensures member { IfSome (option_map view_value result)
-            (IsHit (K.kind.order (view_value key.entry)) (keys_of K.kind E self.entry)) }
-        // If the keys increase, it is what std's set finds.
-        ensures sorted { IsStrictlySortedBy K.kind.order (keys_of K.kind E self.entry) →
-            option_map view_value result ≡ find (is_at (K.kind.order (view_value key.entry)))
-            (keys_of K.kind E self.entry) }
-        // On each set it is the key at which the search ends.
-        ensures found { option_map view_value result
-            ≡ key_in K.kind E self.entry (K.kind.order (view_value key.entry)) }
-        ensures complete { IsCompleteOnKeys K.kind E self.entry (K.kind.order (view_value key.entry))
-            (IsSome result) }
+        ensures { IsKeyLookup K.kind E self.entry (K.kind.order (view_value key.entry))
+            (option_map view_value result) }
     {
         match self.as_map().get_key_value(key) {
             None => None,
@@ -167,18 +143,8 @@ impl<'a, K: Portable, const E: usize> View<'a, ArchivedBTreeSet<K, E>> {
     pub fn contains_by<T: Drop>(self, key: T) -> bool
     where
         K: CompareWith<T>,
-        // If it is true, a key of the set is equal.
-        ensures member { ByNative K.kind K.compared_at key (λ comparison. IsTrue result →
-            AnyHit comparison (keys_of K.kind E self.entry)) }
-        // If the keys increase, it is whether std's set finds a key.
-        ensures sorted { ByNative K.kind K.compared_at key (λ comparison.
-            IsStrictlySortedBy K.kind.order (keys_of K.kind E self.entry) →
-            result ≡ is_some (find (is_at comparison) (keys_of K.kind E self.entry))) }
-        // On each set it is whether the search ends at a key.
-        ensures found { ByNative K.kind K.compared_at key (λ comparison.
-            result ≡ is_some (key_in K.kind E self.entry comparison)) }
-        ensures complete { ByNative K.kind K.compared_at key (λ comparison.
-            IsCompleteOnKeys K.kind E self.entry comparison (IsTrue result)) }
+        ensures { ByNative K.kind K.compared_at key (λ comparison.
+            IsWhetherKeyFound K.kind E self.entry comparison result) }
     {
         self.as_map().contains_by(key)
     }
@@ -187,18 +153,8 @@ impl<'a, K: Portable, const E: usize> View<'a, ArchivedBTreeSet<K, E>> {
     pub fn get_by<T: Drop>(self, key: T) -> Option<View<'a, K>>
     where
         K: CompareWith<T>,
-        // A result is a key of the set that is equal.
-        ensures member { ByNative K.kind K.compared_at key (λ comparison.
-            IfSome (option_map view_value result) (IsHit comparison (keys_of K.kind E self.entry))) }
-        // If the keys increase, it is what std's set finds.
-        ensures sorted { ByNative K.kind K.compared_at key (λ comparison.
-            IsStrictlySortedBy K.kind.order (keys_of K.kind E self.entry) →
-            option_map view_value result ≡ find (is_at comparison) (keys_of K.kind E self.entry)) }
-        // On each set it is the key at which the search ends.
-        ensures found { ByNative K.kind K.compared_at key (λ comparison.
-            option_map view_value result ≡ key_in K.kind E self.entry comparison) }
-        ensures complete { ByNative K.kind K.compared_at key (λ comparison.
-            IsCompleteOnKeys K.kind E self.entry comparison (IsSome result)) }
+        ensures { ByNative K.kind K.compared_at key (λ comparison.
+            IsKeyLookup K.kind E self.entry comparison (option_map view_value result)) }
     {
         match self.as_map().get_key_value_by(key) {
             None => None,
@@ -212,25 +168,14 @@ impl<'a, K: ViewOrd, const E: usize> View<'a, ArchivedBTreeSet<K, E>> {
 
     /// Returns an iterator over the keys within the bounds, in order. No memory is allocated.
     pub fn range(self, low: Bound<View<'_, K>>, high: Bound<View<'_, K>>) -> Range<'a, K, E>
-        ensures yields { ShowsAll ⟦<Range<'a, K, E> as Iterator>⟧.next_gives view_value result
-            (range_keys_left result) }
-        ensures ends { IsFinite (⟦<Range<'a, K, E> as Iterator>⟧.remaining result) }
-        ensures run { IsRun (range_keys_left result) (keys_of K.kind E self.entry) }
+        ensures range { IsRange ⟦<Range<'a, K, E> as Iterator>⟧ view_value result
+            (range_keys_left result) (keys_of K.kind E self.entry) }
         ensures whole { low.entry ≡ Unbounded → high.entry ≡ Unbounded
             → range_keys_left result ≡ keys_of K.kind E self.entry }
-        // If the keys increase, these are all keys within the bounds.
-        ensures sorted { IsStrictlySortedBy K.kind.order (keys_of K.kind E self.entry) →
-            range_keys_left result
-            ≡ keys_within (bound_map (λ q. K.kind.order (view_value q)) low.entry)
-            (bound_map (λ q. K.kind.order (view_value q)) high.entry) (keys_of K.kind E self.entry) }
-        // So they are if the keys are ordered for both bounds.
-        ensures within { KeysOrderedFor (bound_map (λ q. K.kind.order (view_value q)) low.entry)
-            (keys_of K.kind E self.entry) →
-            KeysOrderedFor (bound_map (λ q. K.kind.order (view_value q)) high.entry)
-            (keys_of K.kind E self.entry) →
-            range_keys_left result
-            ≡ keys_within (bound_map (λ q. K.kind.order (view_value q)) low.entry)
-            (bound_map (λ q. K.kind.order (view_value q)) high.entry) (keys_of K.kind E self.entry) }
+        ensures between { AreKeysBetween K.kind.order
+            (bound_map (λ q. K.kind.order (view_value q)) low.entry)
+            (bound_map (λ q. K.kind.order (view_value q)) high.entry)
+            (keys_of K.kind E self.entry) (range_keys_left result) }
     {
         RangeKeys::of(self.as_map().range(low, high))
     }
@@ -244,21 +189,12 @@ impl<'a, K: Portable, const E: usize> View<'a, ArchivedBTreeSet<K, E>> {
     pub fn range_by<T: Drop>(self, low: Bound<T>, high: Bound<T>) -> Range<'a, K, E>
     where
         K: CompareWith<T>,
-        ensures yields { ShowsAll ⟦<Range<'a, K, E> as Iterator>⟧.next_gives view_value result
-            (range_keys_left result) }
-        ensures ends { IsFinite (⟦<Range<'a, K, E> as Iterator>⟧.remaining result) }
-        ensures run { IsRun (range_keys_left result) (keys_of K.kind E self.entry) }
+        ensures range { IsRange ⟦<Range<'a, K, E> as Iterator>⟧ view_value result
+            (range_keys_left result) (keys_of K.kind E self.entry) }
         ensures whole { low ≡ Unbounded → high ≡ Unbounded
             → range_keys_left result ≡ keys_of K.kind E self.entry }
-        // If the keys increase, these are all keys within the bounds.
-        ensures sorted { ByNativeBounds K.kind K.compared_at low high (λ lo hi.
-            IsStrictlySortedBy K.kind.order (keys_of K.kind E self.entry) →
-            range_keys_left result ≡ keys_within lo hi (keys_of K.kind E self.entry)) }
-        // So they are if the keys are ordered for both bounds.
-        ensures within { ByNativeBounds K.kind K.compared_at low high (λ lo hi.
-            KeysOrderedFor lo (keys_of K.kind E self.entry)
-            → KeysOrderedFor hi (keys_of K.kind E self.entry) →
-            range_keys_left result ≡ keys_within lo hi (keys_of K.kind E self.entry)) }
+        ensures between { ByNativeBounds K.kind K.compared_at low high (λ lo hi.
+            AreKeysBetween K.kind.order lo hi (keys_of K.kind E self.entry) (range_keys_left result)) }
     {
         RangeKeys::of(self.as_map().range_by(low, high))
     }
@@ -267,24 +203,14 @@ impl<'a, K: Portable, const E: usize> View<'a, ArchivedBTreeSet<K, E>> {
     pub fn range_of<T: Drop, R: RangeBounds<T>>(self, range: R) -> Range<'a, K, E>
     where
         K: CompareWith<T>,
-        ensures yields { ShowsAll ⟦<Range<'a, K, E> as Iterator>⟧.next_gives view_value result
-            (range_keys_left result) }
-        ensures ends { IsFinite (⟦<Range<'a, K, E> as Iterator>⟧.remaining result) }
-        ensures run { IsRun (range_keys_left result) (keys_of K.kind E self.entry) }
+        ensures range { IsRange ⟦<Range<'a, K, E> as Iterator>⟧ view_value result
+            (range_keys_left result) (keys_of K.kind E self.entry) }
         ensures whole { R.has_bounds range → R.start_bound range ≡ Unbounded
             → R.end_bound range ≡ Unbounded
             → range_keys_left result ≡ keys_of K.kind E self.entry }
-        // If the keys increase, these are all keys in the range.
-        ensures sorted { R.has_bounds range → ByNativeBounds K.kind K.compared_at
+        ensures between { R.has_bounds range → ByNativeBounds K.kind K.compared_at
             (R.start_bound range) (R.end_bound range) (λ lo hi.
-            IsStrictlySortedBy K.kind.order (keys_of K.kind E self.entry) →
-            range_keys_left result ≡ keys_within lo hi (keys_of K.kind E self.entry)) }
-        // So they are if the keys are ordered for both bounds.
-        ensures within { R.has_bounds range → ByNativeBounds K.kind K.compared_at
-            (R.start_bound range) (R.end_bound range) (λ lo hi.
-            KeysOrderedFor lo (keys_of K.kind E self.entry)
-            → KeysOrderedFor hi (keys_of K.kind E self.entry) →
-            range_keys_left result ≡ keys_within lo hi (keys_of K.kind E self.entry)) }
+            AreKeysBetween K.kind.order lo hi (keys_of K.kind E self.entry) (range_keys_left result)) }
     {
         RangeKeys::of(self.as_map().range_of(range))
     }

@@ -8,6 +8,7 @@ use Rattle.rkyv_btree_base.specs.Kind.{Kind}
 use Rattle.rkyv_btree_base.specs.Layout.{NodeLayout, layout_of, len_at, pointer_at}
 use Rattle.rkyv_btree_base.specs.Read.{run, child_of, row_at, tree_at}
 use Rattle.rkyv_btree_base.specs.Tree.{list, row_list, child_list as tree_child_list}
+use Rattle.rkyv_btree_walk.specs.Bounds.{IsLastOf}
 use Rattle.rkyv_btree_walk.specs.Nodes.{natural, is_leaf, entry_count, child_place}
 use Rattle.rkyv_btree_walk.specs.mirror.Node.{NodeStands, TreeStands, RunStands}
 use Rattle.rkyv_btree_walk.specs.Paths.{row_rest, node_rest, path_rest, walk_rest, child_list}
@@ -109,7 +110,27 @@ module _ (s : NodeLayout) (b : List ℕ) (p : ℕ) where
   run_length zero i = refl
   run_length (suc n) i = ap suc (run_length n (i + 1))
 
+  -- a run of entries ends with its last one
+  run_last : (n i : ℕ) → run s b p (n + 1) i ≡ run s b p n i ++ (p, i + n) ∷ []
+  run_last zero i = let z : i + 0 ≡ i = omega arith in rw z refl
+  run_last (suc n) i =
+      let m : suc n + 1 ≡ suc (n + 1) = omega arith in
+      let z : i + suc n ≡ i + 1 + n = omega arith in
+      rw (m, z) (ap (λ xs. (p, i) ∷ xs) (run_last n (i + 1)))
+
   module _ (i n : ℕ) (fs : List (ℕ × ℕ)) where
+    -- the last entry that is left of the leaf
+    pub walk_last : i < n → IsLastOf (n - i) (walk_rest s b p i n fs) (p, n - 1)
+    walk_last less =
+        let k : n - i ≡ n - 1 - i + 1 = omega arith in
+        let at : i + (n - 1 - i) ≡ n - 1 = omega arith in
+        let rest = path_rest s b 32 fs in (
+          run s b p (n - 1 - i) i,
+          rest,
+          rw k (ap (λ xs. xs ++ rest) (run_last (n - 1 - i) i) ∙ append_assoc (run s b p (n - 1 - i) i) ((p, i + (n - 1 - i)) ∷ []) rest ∙ ap (λ j. run s b p (n - 1 - i) i ++ (p, j) ∷ rest) at),
+          rw (run_length (n - 1 - i) i) k,
+        )
+
     pub walk_more : i < n → walk_rest s b p i n fs ≡ (p, i) ∷ walk_rest s b p (i + 1) n fs
     walk_more less = let z : n - i ≡ suc (n - (i + 1)) = omega arith in rw z refl
 

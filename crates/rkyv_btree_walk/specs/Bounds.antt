@@ -1,5 +1,5 @@
 -- Which entries are within two bounds. A bound holds what its query's comparison gives at each key: at Greater it is past the key.
-use Rattle.std.specs.Prelude.{◌≡◌, List, ◌++◌, Bool, true, ◌&&◌, filter}
+use Rattle.std.specs.Prelude.{◌≡◌, ℕ, ◌+◌, List, ◌∷◌, ◌++◌, length, Bool, true, ◌&&◌, filter}
 use Rattle.std.specs.Borrow.{Bor}
 use Rattle.std.specs.Ordering.{is_le, is_lt, is_ge, is_gt}
 use Rattle.std.specs.Range.Bound.{bound_map}
@@ -15,6 +15,10 @@ IsRun {X} range all = (skipped later : List X) × (all ≡ skipped ++ (range ++ 
 -- a list ends with these
 abbrev pub IsEnd : {X : Type 0} → List X → List X → Type 0
 IsEnd {X} rest all = (skipped : List X) × (all ≡ skipped ++ rest)
+
+-- this is the last of a list's first n elements
+abbrev pub IsLastOf : {X : Type 0} → ℕ → List X → X → Type 0
+IsLastOf {X} n all x = (before later : List X) × (all ≡ before ++ x ∷ later) × (n ≡ length before + 1)
 
 module _ {A : Type 0} where
   -- whether a key isn't before a low bound

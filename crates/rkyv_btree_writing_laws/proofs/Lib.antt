@@ -32,4 +32,5 @@ pub mod OneTree
 pub mod Increasing
 pub mod Within
 pub mod Sets
+pub mod Built
 pub mod Whole

@@ -16,3 +16,4 @@ pub mod SmallestMaps
 pub mod OneTree
 pub mod Increasing
 pub mod StrictBuilding
+pub mod Building

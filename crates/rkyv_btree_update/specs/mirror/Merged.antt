@@ -2,8 +2,11 @@
 use Rattle.std.specs.Iterator.{YieldsFirst}
 use Rattle.std.specs.Option.{option_map}
 use Rattle.std.specs.Ordering.{is_eq}
-use Rattle.std.specs.Prelude.{◌≡◌, ℕ, ◌+◌, ◌-◌, ◌<◌, List, [], ◌∷◌, length, Option, None, Some, IfSome, MatchOption}
+use Rattle.std.specs.List.{AllByRecursion}
+use Rattle.std.specs.Map.{keys_of}
+use Rattle.std.specs.Prelude.{◌≡◌, ℕ, zero, suc, ◌+◌, ◌-◌, ◌<◌, List, [], ◌∷◌, length, Option, None, Some, IfSome, IsTrue, MatchOption}
 use Rattle.std.specs.declared.cmp.Ordering.{Ordering}
+use Rattle.std.specs.declared.cmp.Ordering.TheVariants.{Less}
 use Rattle.rkyv_btree_base.specs.Increasing.{Increasing}
 use Rattle.rkyv_btree_portable.specs.declared.check.Portable
 use Rattle.rkyv_btree_update.specs.Natives.{both, read_shown}
@@ -16,7 +19,7 @@ use Rattle.rkyv_btree_update.specs.declared.changing.Changing.{Changing}
 use Rattle.rkyv_btree_update.specs.declared.changing.Changing.TheVariants.{Listed, Puts}
 use Rattle.rkyv_btree_update.specs.declared.updates.Updates.{Updates}
 use Rattle.rkyv_btree_update.specs.declared.entries.Entries.{Entries}
-use Rattle.rkyv_btree_view.specs.Iter.{last_of}
+use Rattle.rkyv_btree_view.specs.Iter.{at_hand, last_of}
 use Rattle.rkyv_btree_view.specs.declared.iter.Iter.{Iter}
 use Rattle.rkyv_btree_walk.specs.declared.archived_map.ArchivedMap
 
@@ -56,6 +59,16 @@ module _ {T U S : Type 0} (cmp : T → T → Ordering) (old : S → List (T × U
       MatchOption step ((merged s ≡ merged t) × AreOrdered t × (length (new t) < length (new s)))
       (λ item. YieldsFirst merged s item t × IfSome item (λ _. AreOrdered t))
 
+-- an entry comes before all changes
+abbrev pub IsBeforeAll : {T U W : Type 0} → (T → T → Ordering) → T × U → List (T × W) → Type 0
+IsBeforeAll cmp e cs = AllByRecursion (λ k. cmp e.0 k ≡ Less) (keys_of cs)
+
+-- the first n entries of a list do
+abbrev pub FirstBefore : {T U W : Type 0} → (T → T → Ordering) → ℕ → List (T × U) → List (T × W) → Type 0
+FirstBefore cmp zero xs cs = Unit {0}
+FirstBefore cmp (suc n) [] cs = Unit {0}
+FirstBefore cmp (suc n) (x ∷ xs) cs = IsBeforeAll cmp x cs × FirstBefore cmp n xs cs
+
 -- an element that was put back, and those after it
 abbrev pub put_back : {X : Type 0} → Option X → List X → List X
 put_back None rest = rest
@@ -77,6 +90,21 @@ abbrev pub new_left : {M K V A B T U : Type 0} {g : ArchivedMap.Ghosts M K V} {m
     → (List ℕ → ℕ → T) → (List ℕ → ℕ → U) → (A → T) → (B → U) → Updates M A B K V g m k v → List (T × Change U)
 new_left key_lent value_lent key value s =
     ahead (option_map (key_change key value) s.change) (changing_left key_lent value_lent key value s.changes)
+
+-- a merge at which all entries at hand come before the changes that are left, if it says so
+module _ {M K V A B T U : Type 0} {g : ArchivedMap.Ghosts M K V} {m : Portable.Ghosts M} {k : Portable.Ghosts K} {v : Portable.Ghosts V}
+    (order : T → T → Ordering) (key_lent : List ℕ → ℕ → T) (value_lent : List ℕ → ℕ → U) (key : A → T) (value : B → U) where
+  abbrev pub IsQuiet : Updates M A B K V g m k v → Type 0
+  IsQuiet s = (s.ahead ≡ None) × FirstBefore order (at_hand s.entries) (shown_left key_lent value_lent s.entries) (new_left key_lent value_lent key value s)
+
+  -- or the next entry is in another node
+  pub record CanCross (s : Updates M A B K V g m k v) : Type 0 where
+    pub ordered : AreOrdered order (old_left key_lent value_lent key value) (new_left key_lent value_lent key value) s
+    pub bare : IsTrue s.quiet → s.ahead ≡ None
+
+  pub record CanMerge (s : Updates M A B K V g m k v) : Type 0 where
+    pub ordered : AreOrdered order (old_left key_lent value_lent key value) (new_left key_lent value_lent key value) s
+    pub quiet : IsTrue s.quiet → IsQuiet s
 
 -- what is left of a comparison of two maps: the changes, and how many entries
 module _ {M K V A B T U : Type 0} {g : ArchivedMap.Ghosts M K V} {m : Portable.Ghosts M} {k : Portable.Ghosts K} {v : Portable.Ghosts V} where

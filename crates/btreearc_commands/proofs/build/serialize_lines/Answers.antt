@@ -13,7 +13,7 @@ returns-in-Err-clause-err g c =
     let from = g.W.Writer.state c.args.writer.now in
     let t = g.W.Writer.state c.try_serialize_from_ordered_iter.new.writer in
     by_items IsEntry entry-once (λ s. s.left) (λ s. g.B.Read.remaining s.input) {Q = λ entries. IsTried entries c.in-Err.fault} (g.B.Read.remaining c.args.input) c.new-items.result c.args.count (ap g.B.Read.remaining c.new-items.ensures.input) c.new-items.ensures.left
-    (λ entries l number. untried (λ s. s.left) (λ s. g.B.Read.remaining s.input) c.new-items.result entries l from c.requires c.args.count number c.in-Err.fault t c.in-Err.ensures.err)
+    (λ entries l number. untried (λ s. s.left) (λ s. g.B.Read.remaining s.input) c.new-items.result entries l from c.requires c.args.count number c.in-Err.fault t c.in-Err.ensures.err.cause)
 
 pub returns-in-Ok-write_root-clause-ok : goal.returns-in-Ok-write_root-clause-ok
 returns-in-Ok-write_root-clause-ok g c =
@@ -21,7 +21,7 @@ returns-in-Ok-write_root-clause-ok g c =
     let s = g.W.Writer.state c.try_serialize_from_ordered_iter.new.writer in
     let t = g.W.Writer.state c.write_root.new.writer in
     by_items IsEntry entry-once (λ s. s.left) (λ s. g.B.Read.remaining s.input) {Q = λ entries. IsArchived t.contents entries} (g.B.Read.remaining c.args.input) c.new-items.result c.args.count (ap g.B.Read.remaining c.new-items.ensures.input) c.new-items.ensures.left
-    (λ entries l number. archived_lines (λ s. s.left) (λ s. g.B.Read.remaining s.input) c.new-items.result entries l from c.requires c.args.count number c.in-Ok.root s t c.in-Ok.ensures.written c.in-Ok-write_root.ensures.len c.in-Ok-write_root.ensures.ok c.in-Ok-write_root.ensures.last)
+    (λ entries l number. archived_lines (λ s. s.left) (λ s. g.B.Read.remaining s.input) c.new-items.result entries l from c.requires c.args.count number c.in-Ok.root s t c.in-Ok.ensures.ok.written c.in-Ok-write_root.ensures.ok.len c.in-Ok-write_root.ensures.ok.wrote c.in-Ok-write_root.ensures.ok.last)
 
 pub returns-in-Err-write_root-clause-err : goal.returns-in-Err-write_root-clause-err
 returns-in-Err-write_root-clause-err g c =
@@ -29,4 +29,4 @@ returns-in-Err-write_root-clause-err g c =
     let s = g.W.Writer.state c.try_serialize_from_ordered_iter.new.writer in
     let t = g.W.Writer.state c.write_root.new.writer in
     by_items IsEntry entry-once (λ s. s.left) (λ s. g.B.Read.remaining s.input) {Q = λ entries. IsUnbuilt entries c.in-Err-write_root.fault} (g.B.Read.remaining c.args.input) c.new-items.result c.args.count (ap g.B.Read.remaining c.new-items.ensures.input) c.new-items.ensures.left
-    (λ entries l number. unrooted (λ s. s.left) (λ s. g.B.Read.remaining s.input) c.new-items.result entries l from c.requires c.args.count number c.in-Ok.root s c.in-Err-write_root.fault t c.in-Ok.ensures.written c.in-Err-write_root.ensures.err)
+    (λ entries l number. unrooted (λ s. s.left) (λ s. g.B.Read.remaining s.input) c.new-items.result entries l from c.requires c.args.count number c.in-Ok.root s c.in-Err-write_root.fault t c.in-Ok.ensures.ok.written c.in-Err-write_root.ensures.err.cause)

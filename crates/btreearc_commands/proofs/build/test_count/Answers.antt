@@ -6,13 +6,13 @@ use Rattle.btreearc_commands.proofs.build.test_count.Goals as goal
 
 pub returns-in-Err-clause-err : goal.returns-in-Err-clause-err
 returns-in-Err-clause-err c =
-    let why = counted_unbuilt (CountsDown (λ s. s.left)) _ _ c.new-writer.ensures c.args.count (counted_down (λ s. s.left) _) c.in-Err.fault _ c.in-Err.ensures.err in
+    let why = counted_unbuilt (CountsDown (λ s. s.left)) _ _ c.new-writer.ensures c.args.count (counted_down (λ s. s.left) _) c.in-Err.fault _ c.in-Err.ensures.err.cause in
     rw c.in_memory.ensures (λ entries number. unbuilt_in_memory entries c.in-Err.fault (why entries number))
 
 pub returns-in-Ok-write_root-clause-ok : goal.returns-in-Ok-write_root-clause-ok
 returns-in-Ok-write_root-clause-ok c = λ entries number.
-    counted_fits _ _ _ c.new-writer.ensures c.args.count c.in-Ok.root _ _ c.in-Ok.ensures.written c.in-Ok-write_root.ensures.len c.in-Ok-write_root.ensures.ok c.in-Ok-write_root.ensures.last entries number
+    counted_fits _ _ _ c.new-writer.ensures c.args.count c.in-Ok.root _ _ c.in-Ok.ensures.ok.written c.in-Ok-write_root.ensures.ok.len c.in-Ok-write_root.ensures.ok.wrote c.in-Ok-write_root.ensures.ok.last entries number
 
 pub returns-clause-err : goal.returns-clause-err
 returns-clause-err c = rw c.in_memory-in-Err-write_root.ensures (λ entries number. unbuilt_in_memory entries c.in-Err-write_root.fault
-    (counted_unrooted _ _ _ c.new-writer.ensures c.args.count c.in-Ok.root _ c.in-Err-write_root.fault _ c.in-Ok.ensures.written c.in-Err-write_root.ensures.err entries number))
+    (counted_unrooted _ _ _ c.new-writer.ensures c.args.count c.in-Ok.root _ c.in-Err-write_root.fault _ c.in-Ok.ensures.ok.written c.in-Err-write_root.ensures.err.cause entries number))

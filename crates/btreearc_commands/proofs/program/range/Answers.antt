@@ -20,7 +20,7 @@ returns-clause-done g c =
       output_between (g.R.Read.remaining c.args.input.now) (g.W.Write.contents c.args.output.now) (g.W.Write.contents c.write_all.new.output) archive c.as_bytes.result.now c.args.low c.args.high entries found
           c.in_ok-archive.ensures.all
           (subst (λ b. IsArchive b entries) c.deref.ensures.value c.in_ok-map.ensures.accepted)
-          (between c.args.low c.args.high entries found range.run (range.within nat_cmp (λ n b at. refl)))
-          (c.as_bytes.ensures.value ∙ (c.as_str.ensures.value ∙ from_nothing _ _ _ c.new-text.ensures.bytes given.2 ∙ ap text_of (range.yields given.0 given.1)))
+          (between c.args.low c.args.high entries found range.range.run (range.between nat_cmp (λ n b at. refl)).within)
+          (c.as_bytes.ensures.value ∙ (c.as_str.ensures.value ∙ from_nothing _ _ _ c.new-text.ensures.bytes given.2 ∙ ap text_of (range.range.yields given.0 given.1)))
           c.in_ok-write_all.ensures.all,
     )

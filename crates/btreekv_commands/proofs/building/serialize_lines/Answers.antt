@@ -23,18 +23,18 @@ returns-in-Err-clause-err g c =
     let from = g.W.Writer.state c.args.writer.now in
     let t = g.W.Writer.state c.try_serialize_from_ordered_iter.new.writer in
     by_entries (λ s. s.left) (λ s. g.B.Read.remaining s.input) {Q = λ entries. IsTried entries c.in-Err.fault} (g.B.Read.remaining c.args.input) c.new-items.result c.args.count (ap g.B.Read.remaining c.new-items.ensures.input) c.new-items.ensures.left
-    (λ entries l number. tried c.archiving_is_lawful.ensures.archived c.archiving_is_lawful.ensures.causes (λ s. s.left) (λ s. g.B.Read.remaining s.input) c.new-items.result entries l from c.requires c.args.count number c.in-Err.fault t (λ none. (c.in-Err.ensures.none none).0) c.in-Err.ensures.err)
+    (λ entries l number. tried c.archiving_is_lawful.ensures.archived c.archiving_is_lawful.ensures.causes (λ s. s.left) (λ s. g.B.Read.remaining s.input) c.new-items.result entries l from c.requires c.args.count number c.in-Err.fault t (λ none. (c.in-Err.ensures.limits.none none).0) c.in-Err.ensures.err.cause)
 
 pub returns-in-Ok-write_root-clause-ok : goal.returns-in-Ok-write_root-clause-ok
 returns-in-Ok-write_root-clause-ok g c =
     let s = g.W.Writer.state c.try_serialize_from_ordered_iter.new.writer in
     let t = g.W.Writer.state c.write_root.new.writer in
-    let smallest = c.in-Ok.ensures.smallest in
+    let smallest = c.in-Ok.ensures.ok.smallest in
     let made = smallest.0 in
     let base = ap (λ w. w.base) c.requires in
-    let held = c.written_maps_are_held.ensures _ s t c.in-Ok.root c.args.count base c.in-Ok.ensures.went c.in-Ok-write_root.ensures.ok c.in-Ok-write_root.ensures.last in
-    let zero : s.base ≡ 0 = c.in-Ok.ensures.went.1.base ∙ base in
-    let long = archive_length s t c.in-Ok.root c.args.count zero c.in-Ok-write_root.ensures.ok in
+    let held = c.written_maps_are_held.ensures _ s t c.in-Ok.root c.args.count base c.in-Ok.ensures.ok.went c.in-Ok-write_root.ensures.ok.wrote c.in-Ok-write_root.ensures.ok.last in
+    let zero : s.base ≡ 0 = c.in-Ok.ensures.ok.went.1.base ∙ base in
+    let long = archive_length s t c.in-Ok.root c.args.count zero c.in-Ok-write_root.ensures.ok.wrote in
     let at : round_up (position s) 4 ≡ length t.contents - 8 = omega (arith, long) in
     by_entries (λ s. s.left) (λ s. g.B.Read.remaining s.input) {Q = λ entries. IsArchive t.contents entries} (g.B.Read.remaining c.args.input) c.new-items.result c.args.count (ap g.B.Read.remaining c.new-items.ensures.input) c.new-items.ensures.left
     (λ entries l number.
@@ -52,4 +52,4 @@ returns-in-Err-write_root-clause-err g c =
     let s = g.W.Writer.state c.try_serialize_from_ordered_iter.new.writer in
     let t = g.W.Writer.state c.write_root.new.writer in
     by_entries (λ s. s.left) (λ s. g.B.Read.remaining s.input) {Q = λ entries. IsUnbuilt entries c.in-Err-write_root.fault} (g.B.Read.remaining c.args.input) c.new-items.result c.args.count (ap g.B.Read.remaining c.new-items.ensures.input) c.new-items.ensures.left
-    (λ entries l number. rootless c.archiving_is_lawful.ensures.archived c.archiving_is_lawful.ensures.causes (λ s. s.left) (λ s. g.B.Read.remaining s.input) c.new-items.result entries l from c.requires c.args.count number c.in-Ok.root s t c.in-Err-write_root.fault (not_past c.args.count (λ more. ok_or_err _ _ (c.in-Ok.ensures.past more).0)) c.in-Ok.ensures.written c.in-Err-write_root.ensures.err)
+    (λ entries l number. rootless c.archiving_is_lawful.ensures.archived c.archiving_is_lawful.ensures.causes (λ s. s.left) (λ s. g.B.Read.remaining s.input) c.new-items.result entries l from c.requires c.args.count number c.in-Ok.root s t c.in-Err-write_root.fault (not_past c.args.count (λ more. ok_or_err _ _ (c.in-Ok.ensures.limits.past more).0)) c.in-Ok.ensures.ok.written c.in-Err-write_root.ensures.err.cause)

@@ -11,7 +11,7 @@ pub returns-clause-has_prefix : goal.returns-clause-has_prefix
 returns-clause-has_prefix c =
     let m = entries_of text_kind text_kind 5 c.args.map in
     record {
-      run = c.range_with.ensures.run;
+      run = c.range_with.ensures.range.run;
       all = λ increase.
           let order = ordered c.args.prefix.now m increase in
           c.range_with.ensures.within (λ s k. prefix_cmp s.now k) (λ q w r ran. search rules) order order ∙ filter_agree _ _ (λ e. equal_begins c.args.prefix.now e.0) m;

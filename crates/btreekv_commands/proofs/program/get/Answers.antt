@@ -10,7 +10,7 @@ use Rattle.btreekv_commands.proofs.program.get.Goals as goal
 pub returns-in-None-clause-ok : goal.returns-in-None-clause-ok
 returns-in-None-clause-ok c =
     let map = c.in_ok-map.map in
-    let found = c.in-None.ensures.found (λ n k. slice_cmp nat_cmp n.now k) (λ n b at. refl) in (
+    let found = (c.in-None.ensures (λ n k. slice_cmp nat_cmp n.now k) (λ n b at. refl)).found in (
       (entries_of text_kind text_kind 5 map, c.in_ok-map.ensures.accepted),
       found_none (λ v. v) _ _ (rw (c.in_ok-map.ensures.buffer, c.in_ok-map.ensures.position, c.as_str.ensures.value) at found) (search rules),
     )
@@ -18,7 +18,7 @@ returns-in-None-clause-ok c =
 pub returns-else-is_err-clause-ok : goal.returns-else-is_err-clause-ok
 returns-else-is_err-clause-ok c =
     let map = c.in_ok-map.map in
-    let found = c.in-Some.ensures.found (λ n k. slice_cmp nat_cmp n.now k) (λ n b at. refl) in
+    let found = (c.in-Some.ensures (λ n k. slice_cmp nat_cmp n.now k) (λ n b at. refl)).found in
     let line : string_bytes c.writeln.new.self ≡ text_kind.read c.in-Some.value.buf.now c.in-Some.value.pos ++ 10 ∷ [] = search rules in (
       (entries_of text_kind text_kind 5 map, c.in_ok-map.ensures.accepted),
       found_some (λ v. v) _ _ _ (rw (c.in_ok-map.ensures.buffer, c.in_ok-map.ensures.position, c.as_str.ensures.value) at found) line,

@@ -11,7 +11,7 @@ use Rattle.btreekv_commands.proofs.program.get_json.Goals as goal
 pub returns-in-None-clause-ok : goal.returns-in-None-clause-ok
 returns-in-None-clause-ok c =
     let map = c.in_ok-map.map in
-    let found = c.in-None.ensures.found (λ n k. slice_cmp nat_cmp n.now k) (λ n b at. refl) in (
+    let found = (c.in-None.ensures (λ n k. slice_cmp nat_cmp n.now k) (λ n b at. refl)).found in (
       (entries_of text_kind text_kind 5 map, c.in_ok-map.ensures.accepted),
       found_none json_string _ _ (rw (c.in_ok-map.ensures.buffer, c.in_ok-map.ensures.position, c.as_str.ensures.value) at found) (search rules),
     )
@@ -19,7 +19,7 @@ returns-in-None-clause-ok c =
 pub returns-in-Ok-clause-ok : goal.returns-in-Ok-clause-ok
 returns-in-Ok-clause-ok c =
     let map = c.in_ok-map.map in
-    let found = c.in-Some.ensures.found (λ n k. slice_cmp nat_cmp n.now k) (λ n b at. refl) in
+    let found = (c.in-Some.ensures (λ n k. slice_cmp nat_cmp n.now k) (λ n b at. refl)).found in
     let string : c.push_string.new.out.items ≡ json_string (text_kind.read c.in-Some.value.buf.now c.in-Some.value.pos) = search rules in
     let line : c.push.new.self.items ≡ json_string (text_kind.read c.in-Some.value.buf.now c.in-Some.value.pos) ++ 10 ∷ [] = c.in-Ok.ensures.items ∙ ap (λ (z : List ℕ). z ++ 10 ∷ []) string in (
       (entries_of text_kind text_kind 5 map, c.in_ok-map.ensures.accepted),

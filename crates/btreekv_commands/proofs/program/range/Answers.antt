@@ -14,13 +14,13 @@ returns-in-Ok-clause-ok c =
     let map = c.in_ok-map.map in
     let r = c.range_by-entries in
     let given = c.in-Ok.ensures in
-    let within = r.ensures.within (λ n k. slice_cmp nat_cmp n.now k) (λ n b at. refl) in (
+    let within = (r.ensures.between (λ n k. slice_cmp nat_cmp n.now k) (λ n b at. refl)).within in (
       refl,
       (
         entries_of text_kind text_kind 5 map,
         range_left r.result,
         c.in_ok-map.ensures.accepted,
-        record { run = r.ensures.run; all = rw (c.as_str.ensures.value, c.as_str-2.ensures.value) at within },
-        from_nothing _ _ _ c.new-text.ensures.bytes given.2 ∙ ap text_of (r.ensures.yields given.0 given.1),
+        record { run = r.ensures.range.run; all = rw (c.as_str.ensures.value, c.as_str-2.ensures.value) at within },
+        from_nothing _ _ _ c.new-text.ensures.bytes given.2 ∙ ap text_of (r.ensures.range.yields given.0 given.1),
       ),
     )

@@ -54,6 +54,6 @@ returns c m is =
         behind = map means run.1;
         all = all;
         added = refl;
-        are = within_numbers c.args.low c.args.high m within (rw (read, ← entries) (c.by-cursor.ensures.within nat_cmp (λ n b at. refl)));
+        are = within_numbers c.args.low c.args.high m within (rw (read, ← entries) (c.by-cursor.ensures.between nat_cmp (λ n b at. refl)).within);
       },
     )

@@ -11,9 +11,9 @@ returns-in_err-root-clause-refused g c =
 pub returns-in_err-pos-clause-refused : goal.returns-in_err-pos-clause-refused
 returns-in_err-pos-clause-refused g c =
     let p = err_from_is_err_and c.from_residual-in_err-pos.result c.from_residual-in_err-pos.ensures.1 in
-    rw (p.1, p.2) (c.write_root.new.writer, inr (c.in_ok-root.root, c.serialize.new.writer, rw c.new-writer.ensures at c.in_ok-root.ensures.ok, rw c.len.ensures.len at c.in_err-pos.ensures.err))
+    rw (p.1, p.2) (c.write_root.new.writer, inr (c.in_ok-root.root, c.serialize.new.writer, rw c.new-writer.ensures at c.in_ok-root.ensures.ok, rw c.len.ensures.len at c.in_err-pos.ensures.err.cause))
 
 pub returns-clause-smallest : goal.returns-clause-smallest
 returns-clause-smallest g c =
     smallest_written g.KU.Archived.Portable.kind g.VU.Archived.Portable.kind 5 g.KU.Archive.archival g.VU.Archive.archival c.written_maps_are_held.ensures c.new-writer.result c.serialize.new.writer c.write_root.new.writer c.in_ok-root.root c.len.result c.in_ok-pos.pos c.into_vec.result.items
-    c.new-writer.ensures c.args.map.now.entries c.len.ensures.len c.in_ok-root.ensures.smallest c.in_ok-root.ensures.went c.in_ok-pos.ensures.ok c.in_ok-pos.ensures.last c.in_ok-pos.ensures.pos c.into_vec.ensures
+    c.new-writer.ensures c.args.map.now.entries c.len.ensures.len c.in_ok-root.ensures.built.smallest c.in_ok-root.ensures.went c.in_ok-pos.ensures.ok.wrote c.in_ok-pos.ensures.ok.last c.in_ok-pos.ensures.ok.pos c.into_vec.ensures

@@ -1,6 +1,6 @@
 use Rattle.std.proofs.lemmas.Result.{err_from_is_err_and}
-use Rattle.examples.proofs.Concluded.{found_mapped, list_found, none_accepted}
-use Rattle.rkyv_btree.specs.View.{view_value, view_entry}
+use Rattle.examples.proofs.Concluded.{list_found, none_accepted}
+use Rattle.rkyv_btree.specs.View.{view_value}
 use Rattle.examples.proofs.headline.looked_up.Goals as goal
 
 pub returns-in_err-map-clause-refused : goal.returns-in_err-map-clause-refused
@@ -13,4 +13,4 @@ returns-clause-found g c m is =
     let member = rw (c.in_ok-map.ensures.buffer, c.in_ok-map.ensures.position) at c.get_key_value.ensures.member in
     let complete = rw (c.in_ok-map.ensures.buffer, c.in_ok-map.ensures.position) at c.get_key_value.ensures.complete in
     list_found g.K.Portable.kind g.V.Portable.kind g.row.E g.met.K.Portable.laws g.met.V.Portable.laws c.args.buf.now c.args.pos m is
-    (g.K.Portable.kind.order (view_value c.args.key)) _ member (λ ordered. found_mapped view_entry c.get_key_value.result (complete ordered))
+    (g.K.Portable.kind.order (view_value c.args.key)) _ member complete

@@ -1,9 +1,7 @@
 use Rattle.std.proofs.lemmas.Result.{err_from_is_err_and}
 use Rattle.rkyv_btree_base.specs.Scalars.{unit_kind}
 use Rattle.rkyv_btree_base.specs.laws.Scalars.{unit_laws}
-use Rattle.rkyv_btree.specs.Lookup.{found_at}
-use Rattle.rkyv_btree.specs.View.{view_value}
-use Rattle.examples.proofs.Concluded.{list_read, found_key, found_mapped, none_accepted}
+use Rattle.examples.proofs.Concluded.{list_read, none_accepted}
 use Rattle.examples.proofs.headline.looked_up_in_set.Goals as goal
 
 pub returns-in_err-set-clause-refused : goal.returns-in_err-set-clause-refused
@@ -13,11 +11,8 @@ returns-in_err-set-clause-refused g c =
 
 pub returns-clause-found : goal.returns-clause-found
 returns-clause-found g c m is =
-    let K = g.K.Portable.kind in
-    let comparison = K.order (view_value c.args.key) in
-    let list = list_read K unit_kind g.row.E g.met.K.Portable.laws unit_laws c.args.buf.now c.args.pos m is in
-    let hit = rw list at (c.what_is_found_is_equal.ensures c.args.buf.now c.args.pos comparison).hit in
+    let list = list_read g.K.Portable.kind unit_kind g.row.E g.met.K.Portable.laws unit_laws c.args.buf.now c.args.pos m is in
     record {
-      hit = rw (c.get.ensures.found, c.in_ok-set.ensures.buffer, c.in_ok-set.ensures.position) (found_key comparison m (found_at K unit_kind g.row.E c.args.buf.now c.args.pos comparison) hit);
-      complete = λ ordered. found_mapped view_value c.get.result (rw list at (rw (c.in_ok-set.ensures.buffer, c.in_ok-set.ensures.position) at c.get.ensures.complete) ordered);
+      hit = rw list at (rw (c.in_ok-set.ensures.buffer, c.in_ok-set.ensures.position) at c.get.ensures.member);
+      complete = rw list at (rw (c.in_ok-set.ensures.buffer, c.in_ok-set.ensures.position) at c.get.ensures.complete);
     }

@@ -12,9 +12,9 @@ returns-in_err-set-clause-refused g c =
 pub returns-clause-within : goal.returns-clause-within
 returns-clause-within g c m is =
     let list = list_read g.K.Portable.kind unit_kind g.row.E g.met.K.Portable.laws unit_laws c.args.buf.now c.args.pos m is in
-    let run = rw list at (rw (c.in_ok-set.ensures.buffer, c.in_ok-set.ensures.position) at c.range.ensures.run) in
-    let within = rw list at (rw (c.in_ok-set.ensures.buffer, c.in_ok-set.ensures.position) at c.range.ensures.within) in
-    (_, run, c.range.ensures.yields, within)
+    let run = rw list at (rw (c.in_ok-set.ensures.buffer, c.in_ok-set.ensures.position) at c.range.ensures.range.run) in
+    let within = rw list at (rw (c.in_ok-set.ensures.buffer, c.in_ok-set.ensures.position) at c.range.ensures.between.within) in
+    (_, run, c.range.ensures.range.yields, within)
 
 pub returns-clause-ends : goal.returns-clause-ends
-returns-clause-ends g c = c.range.ensures.ends
+returns-clause-ends g c = c.range.ensures.range.ends

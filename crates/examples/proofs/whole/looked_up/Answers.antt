@@ -41,5 +41,5 @@ returns c =
     let view = c.in-Ok.view in
     let same : read_map u32_kind u32_kind 5 view.buf.now view.pos ≡ meant = rw (c.in-Ok.ensures.buffer, c.in-Ok.ensures.position) read in
     let found = c.look_ups_find_as_std.ensures (λ n. n) (λ n. n) (λ x y. refl) view.buf.now view.pos c.args.map.now.entries c.args.key same c.len-len.ensures.ordered in
-    let value = c.get_by-value.ensures.found nat_cmp (λ n b at. refl) in
+    let value = (c.get_by-value.ensures nat_cmp (λ n b at. refl)).found in
     mapped view_value _ (λ x y h. search rules) c.get_by-value.result c.map.result c.map.ensures.cases ∙ value ∙ found ∙ itself_mapped (lookup (is_at (nat_cmp c.args.key)) c.args.map.now.entries)

@@ -1,7 +1,6 @@
 -- Nothing is built of no items, and a tree of some.
 use Rattle.std.proofs.Common.{◌≡◌, ℕ, ◌+◌, ◌<◌, ◌≤◌, List, [], length, map, take, Option, None, inl, refl, sym, ◌∙◌, subst, arith}
 use Rattle.std.specs.Iterator.{YieldsThen}
-use Rattle.std.proofs.lemmas.Result.{on_ok_weaker}
 use Rattle.rkyv_btree_writing_laws.proofs.Kept.{same_begins, went_nowhere}
 use Rattle.rkyv_btree_portable.specs.Kind.{Kind}
 use Rattle.rkyv_btree_format.specs.Layout.{layout_of}
@@ -49,83 +48,39 @@ in_time : (n : ℕ) → n ≤ 4294967295 → 4294967295 < n → ⊥
 in_time n few late = omega arith
 
 pub returns-then-len-clause-err : goal.returns-then-len-clause-err
-returns-then-len-clause-err g c = inl (omega arith, refl)
+returns-then-len-clause-err g c = record { cause = inl (omega arith, refl); kept = same_begins (g.W.Writer.state c.args.writer.now) (g.W.Writer.state c.args.writer.now) refl; memory = λ keys values memory. refl }
 
 pub returns-clause-err : goal.returns-clause-err
 returns-clause-err g c = c.build_some.ensures.err
 
 pub returns-then-len-eq0-clause-ok : goal.returns-then-len-eq0-clause-ok
-returns-then-len-eq0-clause-ok g c =
-    none_serialised g.K.Portable.kind g.V.Portable.kind g.row.E g.KU.Archive.archival g.VU.Archive.archival (both_borrowed g.BKU.Borrow.borrowed g.BVU.Borrow.borrowed) (Gives g.I.Iterator.next_gives g.L.Look.passes g.L.Look.stops) (c.args.source.now, None) (c.none_left.new.source, None) c.args.len (g.W.Writer.state c.args.writer.now) (omega arith) c.in_default.ensures.ok
+returns-then-len-eq0-clause-ok g c = record {
+  built = none_serialised g.K.Portable.kind g.V.Portable.kind g.row.E g.KU.Archive.archival g.VU.Archive.archival (both_borrowed g.BKU.Borrow.borrowed g.BVU.Borrow.borrowed) (Gives g.I.Iterator.next_gives g.L.Look.passes g.L.Look.stops) (c.args.source.now, None) (c.none_left.new.source, None) c.args.len (g.W.Writer.state c.args.writer.now) (omega arith) c.in_default.ensures.ok;
+  last = λ some. absurd (omega arith);
+  went = went_nowhere (g.W.Writer.state c.args.writer.now) (g.W.Writer.state c.args.writer.now) refl;
+}
 
 pub returns-clause-ok : goal.returns-clause-ok
 returns-clause-ok g c = c.build_some.ensures.ok
 
-pub returns-clause-end : goal.returns-clause-end
-returns-clause-end g c = on_ok_weaker c.build_some.result (λ done some. done) c.build_some.ensures.end
-
-pub returns-clause-went : goal.returns-clause-went
-returns-clause-went g c = c.build_some.ensures.went
-
-pub returns-clause-kept : goal.returns-clause-kept
-returns-clause-kept g c = c.build_some.ensures.kept
-
-pub returns-clause-memory : goal.returns-clause-memory
-returns-clause-memory g c = c.build_some.ensures.memory
-
-pub returns-clause-past : goal.returns-clause-past
-returns-clause-past g c = λ late. absurd (in_time c.args.len c.if-len.false late)
-
-pub returns-clause-past_kept : goal.returns-clause-past_kept
-returns-clause-past_kept g c = λ late. absurd (in_time c.args.len c.if-len.false late)
-
-pub returns-then-len-clause-kept : goal.returns-then-len-clause-kept
-returns-then-len-clause-kept g c = same_begins (g.W.Writer.state c.args.writer.now) (g.W.Writer.state c.args.writer.now) refl
-
-pub returns-then-len-clause-memory : goal.returns-then-len-clause-memory
-returns-then-len-clause-memory g c = λ keys values memory. refl
-
-pub returns-then-len-clause-past : goal.returns-then-len-clause-past
-returns-then-len-clause-past g c = λ late. refl
-
-pub returns-then-len-clause-past_kept : goal.returns-then-len-clause-past_kept
-returns-then-len-clause-past_kept g c = λ late. refl
-
-pub returns-then-len-clause-none_kept : goal.returns-then-len-clause-none_kept
-returns-then-len-clause-none_kept g c = λ none. refl
-
-pub returns-in-Err-clause-kept : goal.returns-in-Err-clause-kept
-returns-in-Err-clause-kept g c = same_begins (g.W.Writer.state c.args.writer.now) (g.W.Writer.state c.args.writer.now) refl
-
-pub returns-in-Err-clause-memory : goal.returns-in-Err-clause-memory
-returns-in-Err-clause-memory g c = λ keys values memory. refl
-
-pub returns-in-Err-clause-past : goal.returns-in-Err-clause-past
-returns-in-Err-clause-past g c = λ late. absurd (in_time c.args.len c.if-len.false late)
-
-pub returns-in-Err-clause-past_kept : goal.returns-in-Err-clause-past_kept
-returns-in-Err-clause-past_kept g c = λ late. refl
-
-pub returns-in-Err-clause-none_kept : goal.returns-in-Err-clause-none_kept
-returns-in-Err-clause-none_kept g c = λ none. refl
-
-pub returns-then-len-eq0-clause-went : goal.returns-then-len-eq0-clause-went
-returns-then-len-eq0-clause-went g c = went_nowhere (g.W.Writer.state c.args.writer.now) (g.W.Writer.state c.args.writer.now) refl
-
-pub returns-then-len-eq0-clause-memory : goal.returns-then-len-eq0-clause-memory
-returns-then-len-eq0-clause-memory g c = λ keys values memory. refl
-
-pub returns-then-len-eq0-clause-past : goal.returns-then-len-eq0-clause-past
-returns-then-len-eq0-clause-past g c = λ late. absurd (in_time c.args.len c.if-len.false late)
-
-pub returns-then-len-eq0-clause-past_kept : goal.returns-then-len-eq0-clause-past_kept
-returns-then-len-eq0-clause-past_kept g c = λ late. refl
-
-pub returns-then-len-eq0-clause-none_kept : goal.returns-then-len-eq0-clause-none_kept
-returns-then-len-eq0-clause-none_kept g c = λ none. refl
-
 pub returns-in-Err-clause-err : goal.returns-in-Err-clause-err
 returns-in-Err-clause-err g c =
     let left = c.in-Err.ensures.actual in
-    uncalled g.K.Portable.kind g.V.Portable.kind g.row.E g.KU.Archive.archival g.VU.Archive.archival (both_borrowed g.BKU.Borrow.borrowed g.BVU.Borrow.borrowed) (Gives g.I.Iterator.next_gives g.L.Look.passes g.L.Look.stops) (c.args.source.now, None) (c.none_left.new.source, None) c.args.len _ _ (g.W.Writer.state c.args.writer.now) left.0
-    c.if-len-eq0.true left.1 c.in-Err.ensures.expected c.in-Err.ensures.more left.2
+    record {
+      cause = uncalled g.K.Portable.kind g.V.Portable.kind g.row.E g.KU.Archive.archival g.VU.Archive.archival (both_borrowed g.BKU.Borrow.borrowed g.BVU.Borrow.borrowed) (Gives g.I.Iterator.next_gives g.L.Look.passes g.L.Look.stops) (c.args.source.now, None) (c.none_left.new.source, None) c.args.len _ _ (g.W.Writer.state c.args.writer.now) left.0
+          c.if-len-eq0.true left.1 c.in-Err.ensures.expected c.in-Err.ensures.more left.2;
+      kept = same_begins (g.W.Writer.state c.args.writer.now) (g.W.Writer.state c.args.writer.now) refl;
+      memory = λ keys values memory. refl;
+    }
+
+pub returns-then-len-clause-limits : goal.returns-then-len-clause-limits
+returns-then-len-clause-limits g c = record { past = λ late. (refl, refl); none = λ none. absurd (omega arith) }
+
+pub returns-in-Err-clause-limits : goal.returns-in-Err-clause-limits
+returns-in-Err-clause-limits g c = record { past = λ late. absurd (in_time c.args.len c.if-len.false late); none = λ none. (tt, refl) }
+
+pub returns-then-len-eq0-clause-limits : goal.returns-then-len-eq0-clause-limits
+returns-then-len-eq0-clause-limits g c = record { past = λ late. absurd (in_time c.args.len c.if-len.false late); none = λ none. (tt, refl) }
+
+pub returns-clause-limits : goal.returns-clause-limits
+returns-clause-limits g c = record { past = λ late. absurd (in_time c.args.len c.if-len.false late); none = λ none. absurd (c.if-len-eq0.false none) }

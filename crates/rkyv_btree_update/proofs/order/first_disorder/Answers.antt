@@ -10,4 +10,4 @@ both_increase R None f h = (h, f h)
 both_increase R (Some index) f h = h
 
 pub returns : goal.returns
-returns g c = both_increase _ c.first_out_of_order.result (ascending_meant g.KU.Ord.cmp g.KU.FromArchived.order g.KU.FromArchived.shown (change_meant g.VU.FromArchived.shown) c.is_lent.ensures.compared c.args.changes.now) c.first_out_of_order.ensures
+returns g c = both_increase _ c.first_out_of_order.result (ascending_meant g.KU.Ord.cmp g.KU.CompareArchived.order g.KU.CompareArchived.shown (change_meant g.VU.CompareArchived.shown) c.is_lent.ensures.compared c.args.changes.now) c.first_out_of_order.ensures

@@ -12,8 +12,8 @@ use Rattle.rkyv_btree_update.proofs.update.merge.Goals as goal
 pub returns-clause-smallest : goal.returns-clause-smallest
 returns-clause-smallest g c keys values =
     let new = c.args.second.view in
-    let put = puts_meant keys.meant values.meant (shown_of g.K.Portable.kind g.V.Portable.kind g.row.E g.KU.FromArchived.lent g.VU.FromArchived.lent new)
-    ∙ ap all_put (shown_meant g.K.Portable.kind g.V.Portable.kind g.row.E g.KU.FromArchived.lent g.VU.FromArchived.lent keys.meant values.meant (read_meant keys) (read_meant values) new.buf.now new.pos) in
+    let put = puts_meant keys.meant values.meant (shown_of g.K.Portable.kind g.V.Portable.kind g.row.E g.KU.CompareArchived.lent g.VU.CompareArchived.lent new)
+    ∙ ap all_put (shown_meant g.K.Portable.kind g.V.Portable.kind g.row.E g.KU.CompareArchived.lent g.VU.CompareArchived.lent keys.meant values.meant (read_meant keys) (read_meant values) new.buf.now new.pos) in
     subst (λ cs. IfOk c.write_merged.result (λ at. WritesSmallest g.K.Portable.kind g.V.Portable.kind g.row.E (updated g.K.Portable.kind.order (entries_of g.K.Portable.kind g.V.Portable.kind g.row.E c.args.first.view) cs) (g.W.Writer.state c.args.writer.now) at (g.W.Writer.state c.write_merged.new.writer)))
     put (c.write_merged.ensures.smallest keys values)
 

@@ -11,7 +11,7 @@ use Rattle.rkyv_btree_update.proofs.update.update.Goals as goal
 
 pub returns-clause-smallest : goal.returns-clause-smallest
 returns-clause-smallest g c keys values =
-    let through = changes_through (meaning g.KU.Archive.archival keys.same) (meaning g.VU.Archive.archival values.same) g.KU.FromArchived.shown g.VU.FromArchived.shown keys.meant values.meant keys.means values.means c.args.changes.now in
+    let through = changes_through (meaning g.KU.Archive.archival keys.same) (meaning g.VU.Archive.archival values.same) g.KU.CompareArchived.shown g.VU.CompareArchived.shown keys.meant values.meant keys.means values.means c.args.changes.now in
     subst (λ cs. IfOk c.write_listed.result (λ at. WritesSmallest g.K.Portable.kind g.V.Portable.kind g.row.E (updated g.K.Portable.kind.order (entries_of g.K.Portable.kind g.V.Portable.kind g.row.E c.args.old.view) cs) (g.W.Writer.state c.args.writer.now) at (g.W.Writer.state c.write_listed.new.writer)))
     (sym through) (c.write_listed.ensures.smallest keys values)
 

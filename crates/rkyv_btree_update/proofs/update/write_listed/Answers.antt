@@ -13,4 +13,4 @@ returns-clause-out_of_order g c index out = absurd (not_both g.met.KU.Ord.total 
 
 pub returns-clause-err : goal.returns-clause-err
 returns-clause-err g c =
-    fails g.K.Portable.kind g.V.Portable.kind g.row.E g.KU.Archive.archival g.VU.Archive.archival g.KU.FromArchived.shown g.VU.FromArchived.shown g.KU.Ord.cmp c.args.changes.now _ (g.W.Writer.state c.args.writer.now) (g.W.Writer.state c.write_updated.new.writer) c.write_updated.result c.write_updated.ensures.err
+    fails g.K.Portable.kind g.V.Portable.kind g.row.E g.KU.Archive.archival g.VU.Archive.archival g.KU.CompareArchived.shown g.VU.CompareArchived.shown g.KU.Ord.cmp c.args.changes.now _ (g.W.Writer.state c.args.writer.now) (g.W.Writer.state c.write_updated.new.writer) c.write_updated.result c.write_updated.ensures.err

@@ -9,8 +9,8 @@ use Rattle.tests.proofs.equal.write_both.Goals as goal
 
 pub returns : goal.returns
 returns g c =
-    let made = c.in_ok-root.ensures.written in
-    let also = c.in_ok-place.ensures.written in
+    let made = c.in_ok-root.ensures.ok.written in
+    let also = c.in_ok-place.ensures.ok.written in
     let mean = map (entry_meaning (text_archival string_bytes) (native_archival u32_form)) in
     let are = drained (λ e. e.rest.now) _ made.items made.all in
     let these = drained (λ e. e.rest.now) _ also.items also.all in

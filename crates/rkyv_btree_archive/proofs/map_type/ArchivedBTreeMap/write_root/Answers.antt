@@ -52,75 +52,60 @@ far_root {X} root len at s m wrote is far =
     stopped-behind {E = X} s (padding 4 (position s)) m (write ∷ []) OffsetOverflow m wrote
     (stopped-one {E = X} m write OffsetOverflow m (refl, ap (λ n. root_reaches n root len) (sym is) ∙ unreached (root_reaches at root len) far))
 
-pub returns-then-len-gt4294967295-clause-kept : goal.returns-then-len-gt4294967295-clause-kept
-returns-then-len-gt4294967295-clause-kept g c = same_begins (g.W.Writer.state c.args.writer.now) (g.W.Writer.state c.args.writer.now) refl
-
 pub returns-then-len-gt4294967295-clause-err : goal.returns-then-len-gt4294967295-clause-err
-returns-then-len-gt4294967295-clause-err g c = (c.if-len-gt4294967295.true, refl)
+returns-then-len-gt4294967295-clause-err g c = record {
+  cause = (c.if-len-gt4294967295.true, refl);
+  kept = same_begins (g.W.Writer.state c.args.writer.now) (g.W.Writer.state c.args.writer.now) refl;
+}
 
 pub returns-in_err-pos-clause-err : goal.returns-in_err-pos-clause-err
 returns-in_err-pos-clause-err g c =
     let p = err_from_is_err_and c.from_residual.result c.from_residual.ensures.1 in
-    rw (p.1, p.2) (padding_refused c.args.resolver c.args.len (g.W.Writer.state c.args.writer.now) (g.W.Writer.state c.pad.new.writer) c.in_err-pos.field-0.0 c.in_err-pos.ensures.err)
-
-pub returns-in_err-pos-clause-kept : goal.returns-in_err-pos-clause-kept
-returns-in_err-pos-clause-kept g c =
-    let p = err_from_is_err_and c.from_residual.result c.from_residual.ensures.1 in
-    rw p.1 (stopped_begins (g.W.Writer.state c.args.writer.now) _ c.in_err-pos.field-0.0 (g.W.Writer.state c.pad.new.writer) c.in_err-pos.ensures.err)
+    rw (p.1, p.2) (record {
+      cause = padding_refused c.args.resolver c.args.len (g.W.Writer.state c.args.writer.now) (g.W.Writer.state c.pad.new.writer) c.in_err-pos.field-0.0 c.in_err-pos.ensures.err;
+      kept = stopped_begins (g.W.Writer.state c.args.writer.now) _ c.in_err-pos.field-0.0 (g.W.Writer.state c.pad.new.writer) c.in_err-pos.ensures.err;
+    })
 
 pub returns-then-pos-clause-err : goal.returns-then-pos-clause-err
-returns-then-pos-clause-err g c = late_root c.args.resolver c.args.len c.in_ok-pos.pos (g.W.Writer.state c.args.writer.now) (g.W.Writer.state c.pad.new.writer) c.in_ok-pos.ensures.ok c.in_ok-pos.ensures.end c.if-pos.true
-
-pub returns-then-pos-clause-kept : goal.returns-then-pos-clause-kept
-returns-then-pos-clause-kept g c = wrote_begins (g.W.Writer.state c.args.writer.now) _ (g.W.Writer.state c.pad.new.writer) c.in_ok-pos.ensures.ok
+returns-then-pos-clause-err g c = record {
+  cause = late_root c.args.resolver c.args.len c.in_ok-pos.pos (g.W.Writer.state c.args.writer.now) (g.W.Writer.state c.pad.new.writer) c.in_ok-pos.ensures.ok c.in_ok-pos.ensures.end c.if-pos.true;
+  kept = wrote_begins (g.W.Writer.state c.args.writer.now) _ (g.W.Writer.state c.pad.new.writer) c.in_ok-pos.ensures.ok;
+}
 
 pub returns-in-Err-clause-err : goal.returns-in-Err-clause-err
 returns-in-Err-clause-err g c =
     let s = g.W.Writer.state c.args.writer.now in
     let t = g.W.Writer.state c.pad.new.writer in
-    subst (λ (n : ℕ). Stopped {E = g.row.W-Error.Denot} s (root_image (position s) n c.args.len) OffsetOverflow t) c.resolver.view_is
-    (far_root c.resolver.inside.root c.args.len c.in_ok-pos.pos s t c.in_ok-pos.ensures.ok c.in_ok-pos.ensures.pos (λ near. c.in-Err.ensures.fits.1 (c.if-len-gt4294967295.false, near)))
+    record {
+      cause = subst (λ (n : ℕ). Stopped {E = g.row.W-Error.Denot} s (root_image (position s) n c.args.len) OffsetOverflow t) c.resolver.view_is
+          (far_root c.resolver.inside.root c.args.len c.in_ok-pos.pos s t c.in_ok-pos.ensures.ok c.in_ok-pos.ensures.pos (λ near. c.in-Err.ensures.fits.1 (c.if-len-gt4294967295.false, near)));
+      kept = wrote_begins s _ t c.in_ok-pos.ensures.ok;
+    }
 
-pub returns-in-Err-clause-kept : goal.returns-in-Err-clause-kept
-returns-in-Err-clause-kept g c = wrote_begins (g.W.Writer.state c.args.writer.now) _ (g.W.Writer.state c.pad.new.writer) c.in_ok-pos.ensures.ok
+pub returns-in_err-put-clause-err : goal.returns-in_err-put-clause-err
+returns-in_err-put-clause-err g c =
+    let root = c.resolver.inside.root in
+    let s = g.W.Writer.state c.args.writer.now in
+    let m = g.W.Writer.state c.pad.new.writer in
+    let t = g.W.Writer.state c.put.new.writer in
+    let refused = root_refused root c.args.len s m t _ c.in_err-put.field-0.0
+    (c.in-Ok.ensures.ok ∙ ap (λ n. root_bytes n root c.args.len) c.in_ok-pos.ensures.pos) c.in_ok-pos.ensures.ok c.in_err-put.ensures.err in
+    let p = err_from_is_err_and c.from_residual-in_err-put.result c.from_residual-in_err-put.ensures.1 in
+    rw (p.1, p.2) (record {
+      cause = subst (λ (n : ℕ). RootFault n c.args.len s c.in_err-put.field-0.0 t) c.resolver.view_is refused;
+      kept = then_begins s m t (wrote_begins s _ m c.in_ok-pos.ensures.ok) (refused_begins c.in_err-put.field-0.0 m _ t (c.in_err-put.ensures.err true));
+    })
 
 pub returns-clause-ok : goal.returns-clause-ok
 returns-clause-ok g c =
     let s = g.W.Writer.state c.args.writer.now in
     let m = g.W.Writer.state c.pad.new.writer in
     let t = g.W.Writer.state c.put.new.writer in
-    subst (λ (n : ℕ). Wrote s (root_image (position s) n c.args.len) t) c.resolver.view_is
-    (root_wrote c.resolver.inside.root c.args.len c.in_ok-pos.pos s m t c.fill_root.new.bytes c.in_ok-pos.ensures.pos c.in-Ok.ensures.ok (c.in-Ok.ensures.fits.0 refl).1 c.in_ok-pos.ensures.ok c.in_ok-put.ensures.ok)
-
-pub returns-clause-last : goal.returns-clause-last
-returns-clause-last g c = c.in_ok-put.ensures.end
-
-pub returns-clause-len : goal.returns-clause-len
-returns-clause-len g c = c.if-len-gt4294967295.false
-
-pub returns-clause-went : goal.returns-clause-went
-returns-clause-went g c =
-    let s = g.W.Writer.state c.args.writer.now in
-    let m = g.W.Writer.state c.pad.new.writer in
-    went_on s m (g.W.Writer.state c.put.new.writer) (wrote_went s _ m c.in_ok-pos.ensures.ok) (_, c.in_ok-put.ensures.ok)
-
-pub returns-in_err-put-clause-err : goal.returns-in_err-put-clause-err
-returns-in_err-put-clause-err g c =
-    let root = c.resolver.inside.root in
-    let s = g.W.Writer.state c.args.writer.now in
-    let t = g.W.Writer.state c.put.new.writer in
-    let refused = root_refused root c.args.len s (g.W.Writer.state c.pad.new.writer) t _ c.in_err-put.field-0.0
-    (c.in-Ok.ensures.ok ∙ ap (λ n. root_bytes n root c.args.len) c.in_ok-pos.ensures.pos) c.in_ok-pos.ensures.ok c.in_err-put.ensures.err in
-    let p = err_from_is_err_and c.from_residual-in_err-put.result c.from_residual-in_err-put.ensures.1 in
-    rw (p.1, p.2) (subst (λ (n : ℕ). RootFault n c.args.len s c.in_err-put.field-0.0 t) c.resolver.view_is refused)
-
-pub returns-in_err-put-clause-kept : goal.returns-in_err-put-clause-kept
-returns-in_err-put-clause-kept g c =
-    let p = err_from_is_err_and c.from_residual-in_err-put.result c.from_residual-in_err-put.ensures.1 in
-    let s = g.W.Writer.state c.args.writer.now in
-    let m = g.W.Writer.state c.pad.new.writer in
-    let t = g.W.Writer.state c.put.new.writer in
-    rw p.1 (then_begins s m t (wrote_begins s _ m c.in_ok-pos.ensures.ok) (refused_begins c.in_err-put.field-0.0 m _ t (c.in_err-put.ensures.err true)))
-
-pub returns-clause-pos : goal.returns-clause-pos
-returns-clause-pos g c = c.in_ok-pos.ensures.pos
+    record {
+      pos = c.in_ok-pos.ensures.pos;
+      wrote = subst (λ (n : ℕ). Wrote s (root_image (position s) n c.args.len) t) c.resolver.view_is
+          (root_wrote c.resolver.inside.root c.args.len c.in_ok-pos.pos s m t c.fill_root.new.bytes c.in_ok-pos.ensures.pos c.in-Ok.ensures.ok (c.in-Ok.ensures.fits.0 refl).1 c.in_ok-pos.ensures.ok c.in_ok-put.ensures.ok);
+      last = c.in_ok-put.ensures.end;
+      len = c.if-len-gt4294967295.false;
+      went = went_on s m t (wrote_went s _ m c.in_ok-pos.ensures.ok) (_, c.in_ok-put.ensures.ok);
+    }

@@ -2,4 +2,4 @@
 use Rattle.rkyv_btree_strict.proofs.strict_map.Strict.contains_by.Goals as goal
 
 pub returns : goal.returns
-returns g c comparison agree = c.contains_by.ensures.sorted comparison agree c.args.self.increasing
+returns g c comparison agree = (c.contains_by.ensures comparison agree).sorted c.args.self.increasing

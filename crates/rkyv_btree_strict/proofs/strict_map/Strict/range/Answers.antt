@@ -2,4 +2,4 @@
 use Rattle.rkyv_btree_strict.proofs.strict_map.Strict.range.Goals as goal
 
 pub returns-clause-within : goal.returns-clause-within
-returns-clause-within g c = c.range.ensures.sorted c.args.self.increasing
+returns-clause-within g c = c.range.ensures.between.sorted c.args.self.increasing

@@ -2,4 +2,4 @@
 use Rattle.rkyv_btree_strict.proofs.strict_set.Strict+ArchivedBTreeSet+K+E.range_of.Goals as goal
 
 pub returns-clause-within : goal.returns-clause-within
-returns-clause-within g c known comparison agree = c.range_of.ensures.sorted known comparison agree c.args.self.increasing
+returns-clause-within g c known comparison agree = (c.range_of.ensures.between known comparison agree).sorted c.args.self.increasing

@@ -10,11 +10,11 @@ pub returns-clause-shown : goal.returns-clause-shown
 returns-clause-shown g c =
     let key = c.is_lent.ensures in
     let value = c.is_lent-2.ensures in
-    ap all_put (whole {g = g.M.ArchivedMap} g.KU.FromArchived.lent g.VU.FromArchived.lent key.of_value value.of_value key.reads value.reads c.iter.result c.args.map.view.buf.now c.args.map.view.pos c.iter.ensures.entries)
+    ap all_put (whole {g = g.M.ArchivedMap} g.KU.CompareArchived.lent g.VU.CompareArchived.lent key.of_value value.of_value key.reads value.reads c.iter.result c.args.map.view.buf.now c.args.map.view.pos c.iter.ensures.entries)
 
 pub returns-clause-in_order : goal.returns-clause-in_order
 returns-clause-in_order g c =
     let key = c.is_lent.ensures in
     let value = c.is_lent-2.ensures in
-    subst (Increasing g.KU.FromArchived.order) (sym (returns-clause-shown g c))
-    (put_increase g.KU.FromArchived.order _ (shown_increase g.K.Portable.kind g.V.Portable.kind g.M.ArchivedMap.E g.KU.FromArchived.lent g.VU.FromArchived.lent key.meant value.meant (read_meant key) (read_meant value) c.args.map.view.buf.now g.KU.FromArchived.order key.alike c.args.map.view.pos c.args.map.increasing))
+    subst (Increasing g.KU.CompareArchived.order) (sym (returns-clause-shown g c))
+    (put_increase g.KU.CompareArchived.order _ (shown_increase g.K.Portable.kind g.V.Portable.kind g.M.ArchivedMap.E g.KU.CompareArchived.lent g.VU.CompareArchived.lent key.meant value.meant (read_meant key) (read_meant value) c.args.map.view.buf.now g.KU.CompareArchived.order key.alike c.args.map.view.pos c.args.map.increasing))

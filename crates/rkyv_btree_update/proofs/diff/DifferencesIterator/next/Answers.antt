@@ -16,13 +16,13 @@ loop-item-init g c = record { same = refl }
 
 pub returns-in-Some-clause-steps : goal.returns-in-Some-clause-steps
 returns-in-Some-clause-steps g c =
-    let left = diff_left {g = g.M.ArchivedMap} {m = g.M.Portable} {k = g.K.Portable} {v = g.V.Portable} g.KU.FromArchived.order g.VU.FromArchived.order g.KU.FromArchived.lent g.VU.FromArchived.lent g.KU.FromArchived.shown g.VU.FromArchived.shown in
-    gives left (λ s. Unit {0}) c.args.self.now c.loop-item.self c.step.new.self c.loop-item.invariant.same (option_map (key_change g.KU.FromArchived.shown g.VU.FromArchived.shown) c.in-Some.item) c.in-Some.ensures
+    let left = diff_left {g = g.M.ArchivedMap} {m = g.M.Portable} {k = g.K.Portable} {v = g.V.Portable} g.KU.CompareArchived.order g.VU.CompareArchived.order g.KU.CompareArchived.lent g.VU.CompareArchived.lent g.KU.CompareArchived.shown g.VU.CompareArchived.shown in
+    gives left (λ s. Unit {0}) c.args.self.now c.loop-item.self c.step.new.self c.loop-item.invariant.same (option_map (key_change g.KU.CompareArchived.shown g.VU.CompareArchived.shown) c.in-Some.item) c.in-Some.ensures
 
 pub returns-in-Some-clause-goes : goal.returns-in-Some-clause-goes
 returns-in-Some-clause-goes g c =
-    let left = diff_left {g = g.M.ArchivedMap} {m = g.M.Portable} {k = g.K.Portable} {v = g.V.Portable} g.KU.FromArchived.order g.VU.FromArchived.order g.KU.FromArchived.lent g.VU.FromArchived.lent g.KU.FromArchived.shown g.VU.FromArchived.shown in
-    goes left _ c.args.self.now c.loop-item.self c.step.new.self c.loop-item.invariant.same (key_change g.KU.FromArchived.shown g.VU.FromArchived.shown) c.in-Some.item c.in-Some.ensures (any _)
+    let left = diff_left {g = g.M.ArchivedMap} {m = g.M.Portable} {k = g.K.Portable} {v = g.V.Portable} g.KU.CompareArchived.order g.VU.CompareArchived.order g.KU.CompareArchived.lent g.VU.CompareArchived.lent g.KU.CompareArchived.shown g.VU.CompareArchived.shown in
+    goes left _ c.args.self.now c.loop-item.self c.step.new.self c.loop-item.invariant.same (key_change g.KU.CompareArchived.shown g.VU.CompareArchived.shown) c.in-Some.item c.in-Some.ensures (any _)
 
 pub loop-item-smaller : goal.loop-item-smaller
 loop-item-smaller g c = c.in_default.ensures.1

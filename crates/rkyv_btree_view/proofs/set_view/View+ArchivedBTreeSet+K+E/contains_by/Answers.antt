@@ -1,23 +1,6 @@
 -- What the map's lookup says of entries holds of keys.
-use Rattle.std.proofs.Common.{◌∙◌}
-use Rattle.std.specs.BTreeMap.{is_at}
-use Rattle.rkyv_btree_base.specs.Scalars.{unit_kind}
-use Rattle.rkyv_btree_view.proofs.LookedUp.{some_of_key}
-use Rattle.rkyv_btree_view.proofs.Sets.{keys_complete, keys_hit}
-use Rattle.rkyv_btree_view.specs.View.{entries_of}
+use Rattle.rkyv_btree_view.proofs.Promised.{whether_key_found}
 use Rattle.rkyv_btree_view.proofs.set_view.View+ArchivedBTreeSet+K+E.contains_by.Goals as goal
 
-pub returns-clause-complete : goal.returns-clause-complete
-returns-clause-complete g c f p =
-    let K = g.K.Portable.kind in
-    keys_complete (f c.args.key) (entries_of K unit_kind g.row.E c.args.self) (rw (c.as_map.ensures.buffer, c.as_map.ensures.position) at (c.contains_by.ensures.complete f p))
-
-pub returns-clause-member : goal.returns-clause-member
-returns-clause-member g c f p = λ is.
-    let K = g.K.Portable.kind in
-    keys_hit (f c.args.key) (entries_of K unit_kind g.row.E c.args.self) (rw (c.as_map.ensures.buffer, c.as_map.ensures.position) at (c.contains_by.ensures.member f p is))
-
-pub returns-clause-sorted : goal.returns-clause-sorted
-returns-clause-sorted g c f p = λ rises.
-    let K = g.K.Portable.kind in
-    (rw (c.as_map.ensures.buffer, c.as_map.ensures.position) at c.contains_by.ensures.sorted f p rises) ∙ some_of_key (is_at (f c.args.key)) (entries_of K unit_kind g.row.E c.args.self)
+pub returns : goal.returns
+returns g c f p = whether_key_found c.as_map.ensures.buffer c.as_map.ensures.position (c.contains_by.ensures f p)

@@ -1,42 +1,9 @@
 -- What the map's lookup says of entries holds of keys.
-use Rattle.std.proofs.Common.{◌∙◌, ap}
-use Rattle.std.specs.BTreeMap.{is_at}
-use Rattle.std.specs.Option.{option_map}
-use Rattle.rkyv_btree_base.specs.Scalars.{unit_kind}
-use Rattle.rkyv_btree_view.proofs.LookedUp.{key_of_entry}
-use Rattle.rkyv_btree_view.proofs.Sets.{keys_complete, key_hit}
-use Rattle.rkyv_btree_view.specs.View.{entries_of}
+use Rattle.rkyv_btree_view.proofs.Promised.{key_lookup}
 use Rattle.rkyv_btree_view.proofs.set_view.View+ArchivedBTreeSet+K+E.get_by.Goals as goal
 
-pub returns-in-None-clause-found : goal.returns-in-None-clause-found
-returns-in-None-clause-found g c f p = ap (option_map (λ e. e.0)) (rw (c.as_map.ensures.buffer, c.as_map.ensures.position, c.in-None.is) at (c.get_key_value_by.ensures.found f p))
+pub returns-in-None : goal.returns-in-None
+returns-in-None g c f p = rw c.in-None.is at (key_lookup {view = c.args.self} c.as_map.ensures.buffer c.as_map.ensures.position (c.get_key_value_by.ensures f p))
 
-pub returns-in-None-clause-complete : goal.returns-in-None-clause-complete
-returns-in-None-clause-complete g c f p =
-    let K = g.K.Portable.kind in
-    keys_complete (f c.args.key) (entries_of K unit_kind g.row.E c.args.self) (rw (c.as_map.ensures.buffer, c.as_map.ensures.position, c.in-None.is) at (c.get_key_value_by.ensures.complete f p))
-
-pub returns-in-None-clause-sorted : goal.returns-in-None-clause-sorted
-returns-in-None-clause-sorted g c f p = λ rises.
-    let K = g.K.Portable.kind in
-    ap (option_map (λ e. e.0)) (rw (c.as_map.ensures.buffer, c.as_map.ensures.position, c.in-None.is) at c.get_key_value_by.ensures.sorted f p rises)
-    ∙ key_of_entry (is_at (f c.args.key)) (entries_of K unit_kind g.row.E c.args.self)
-
-pub returns-in-Some-clause-found : goal.returns-in-Some-clause-found
-returns-in-Some-clause-found g c f p = ap (option_map (λ e. e.0)) (rw (c.as_map.ensures.buffer, c.as_map.ensures.position, c.in-Some.is) at (c.get_key_value_by.ensures.found f p))
-
-pub returns-in-Some-clause-complete : goal.returns-in-Some-clause-complete
-returns-in-Some-clause-complete g c f p =
-    let K = g.K.Portable.kind in
-    keys_complete (f c.args.key) (entries_of K unit_kind g.row.E c.args.self) (rw (c.as_map.ensures.buffer, c.as_map.ensures.position, c.in-Some.is) at (c.get_key_value_by.ensures.complete f p))
-
-pub returns-in-Some-clause-member : goal.returns-in-Some-clause-member
-returns-in-Some-clause-member g c f p =
-    let K = g.K.Portable.kind in
-    key_hit (f c.args.key) (entries_of K unit_kind g.row.E c.args.self) _ (rw (c.as_map.ensures.buffer, c.as_map.ensures.position, c.in-Some.is) at (c.get_key_value_by.ensures.member f p))
-
-pub returns-in-Some-clause-sorted : goal.returns-in-Some-clause-sorted
-returns-in-Some-clause-sorted g c f p = λ rises.
-    let K = g.K.Portable.kind in
-    ap (option_map (λ e. e.0)) (rw (c.as_map.ensures.buffer, c.as_map.ensures.position, c.in-Some.is) at c.get_key_value_by.ensures.sorted f p rises)
-    ∙ key_of_entry (is_at (f c.args.key)) (entries_of K unit_kind g.row.E c.args.self)
+pub returns-in-Some : goal.returns-in-Some
+returns-in-Some g c f p = rw c.in-Some.is at (key_lookup {view = c.args.self} c.as_map.ensures.buffer c.as_map.ensures.position (c.get_key_value_by.ensures f p))

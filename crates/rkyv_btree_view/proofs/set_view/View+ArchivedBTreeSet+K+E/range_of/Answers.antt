@@ -8,29 +8,27 @@ use Rattle.rkyv_btree_view.specs.Range.{range_left}
 use Rattle.rkyv_btree_view.specs.View.{view_value, entries_of}
 use Rattle.rkyv_btree_view.proofs.Drained.{drained}
 use Rattle.rkyv_btree_view.proofs.LookedUp.{natives_agree}
-use Rattle.rkyv_btree_view.proofs.Ordered.{keys_ordered, natives_alike}
+use Rattle.rkyv_btree_view.proofs.Ordered.{keys_between, natives_alike}
 use Rattle.rkyv_btree_view.proofs.Sets.{keys_run, keys_within}
 use Rattle.rkyv_btree_view.specs.Set.{keys_of}
 use Rattle.rkyv_btree_view.proofs.set_view.View+ArchivedBTreeSet+K+E.range_of.Goals as goal
 
-pub returns-clause-yields : goal.returns-clause-yields
-returns-clause-yields g c = λ items all. drained view_value range_keys_left _ items all
-
-pub returns-clause-run : goal.returns-clause-run
-returns-clause-run g c =
+pub returns-clause-range : goal.returns-clause-range
+returns-clause-range g c =
     let all = entries_of g.K.Portable.kind unit_kind g.row.E c.args.self in
-    rw c.of.ensures (keys_run (range_left c.range_of.result) all (rw (c.as_map.ensures.buffer, c.as_map.ensures.position) at c.range_of.ensures.run))
+    record {
+      yields = λ items all. drained view_value range_keys_left _ items all;
+      ends = tt;
+      run = rw c.of.ensures (keys_run (range_left c.range_of.result) all (rw (c.as_map.ensures.buffer, c.as_map.ensures.position) at c.range_of.ensures.range.run));
+    }
 
-pub returns-clause-within : goal.returns-clause-within
-returns-clause-within g c known f p low high =
-    let all = entries_of g.K.Portable.kind unit_kind g.row.E c.args.self in
-    rw c.of.ensures (keys_within (bound_map f (g.R.RangeBounds.start_bound c.args.range)) (bound_map f (g.R.RangeBounds.end_bound c.args.range)) all (range_left c.range_of.result) (rw (c.as_map.ensures.buffer, c.as_map.ensures.position) at (c.range_of.ensures.within known f p)) low high)
-
-pub returns-clause-sorted : goal.returns-clause-sorted
-returns-clause-sorted g c known f p rises =
+pub returns-clause-between : goal.returns-clause-between
+returns-clause-between g c known f p =
     let K = g.K.Portable.kind in
     let view = c.args.self in
+    let all = entries_of K unit_kind g.row.E view in
     let law = g.met.K.CompareWith.compares in
-    let ordered = keys_ordered K.order (keys_of K g.row.E view) rises f law.compared law.cuts
-    (λ q. All-map (λ k. f q k ≡ law.compared q k) (λ e. e.0) (entries_of K unit_kind g.row.E view) (natives_alike K unit_kind g.row.E view.buf.now view.pos (f q) (law.compared q) (natives_agree law f p q view.buf.now))) in
-    returns-clause-within g c known f p (ordered (g.R.RangeBounds.start_bound c.args.range)) (ordered (g.R.RangeBounds.end_bound c.args.range))
+    keys_between K.order (keys_of K g.row.E view) _ f law.compared law.cuts
+    (λ q. All-map (λ k. f q k ≡ law.compared q k) (λ e. e.0) all (natives_alike K unit_kind g.row.E view.buf.now view.pos (f q) (law.compared q) (natives_agree law f p q view.buf.now)))
+    (g.R.RangeBounds.start_bound c.args.range) (g.R.RangeBounds.end_bound c.args.range)
+    (λ low high. rw c.of.ensures (keys_within (bound_map f (g.R.RangeBounds.start_bound c.args.range)) (bound_map f (g.R.RangeBounds.end_bound c.args.range)) all (range_left c.range_of.result) (rw (c.as_map.ensures.buffer, c.as_map.ensures.position) at (c.range_of.ensures.between known f p).within) low high))

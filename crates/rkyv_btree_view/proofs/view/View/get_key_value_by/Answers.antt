@@ -2,23 +2,16 @@
 use Rattle.std.proofs.Common.{◌∙◌, ap, rules}
 use Rattle.std.specs.Option.{option_map}
 use Rattle.rkyv_btree_base.specs.Read.{entry_at}
-use Rattle.rkyv_btree_view.proofs.LookedUp.{found_member, found_complete, found_is, natives_agree}
-use Rattle.rkyv_btree_view.specs.View.{view_entry}
+use Rattle.rkyv_btree_view.proofs.LookedUp.{natives_agree}
+use Rattle.rkyv_btree_view.proofs.Promised.{entry_lookup}
 use Rattle.rkyv_btree_view.proofs.view.View.get_key_value_by.Goals as goal
 
-pub returns-clause-found : goal.returns-clause-found
-returns-clause-found g c f p =
-    let found = c.search-found.ensures.found f (λ q w r e. let same = p q.now w.buf.now w.pos in search rules) in
-    c.entry_found.ensures ∙ ap (λ r. option_map (entry_at g.K.Portable.kind g.V.Portable.kind g.M.ArchivedMap.E c.args.self.buf.now) r.0) found
-
-pub returns-clause-member : goal.returns-clause-member
-returns-clause-member g c f p = found_member g.K.Portable.kind g.V.Portable.kind g.M.ArchivedMap.E c.args.self.buf.now c.args.self.pos (f c.args.key) view_entry _ (returns-clause-found g c f p)
-
-pub returns-clause-complete : goal.returns-clause-complete
-returns-clause-complete g c f p = found_complete g.K.Portable.kind g.V.Portable.kind g.M.ArchivedMap.E c.args.self.buf.now c.args.self.pos (f c.args.key) view_entry _ (returns-clause-found g c f p)
-
-pub returns-clause-sorted : goal.returns-clause-sorted
-returns-clause-sorted g c f p = λ rises.
-    let law = g.met.K.CompareWith.compares in
+pub returns : goal.returns
+returns g c f p =
+    let K = g.K.Portable.kind in let V = g.V.Portable.kind in let E = g.M.ArchivedMap.E in
+    let b = c.args.self.buf.now in
     let key = c.args.key in
-    returns-clause-found g c f p ∙ found_is g.K.Portable.kind g.V.Portable.kind g.M.ArchivedMap.E c.args.self.buf.now c.args.self.pos rises (f key) (law.compared key) (law.cuts key) (natives_agree law f p key c.args.self.buf.now)
+    let law = g.met.K.CompareWith.compares in
+    let found = c.search-found.ensures.found f (λ q w r e. let same = p q.now w.buf.now w.pos in search rules) in
+    entry_lookup K V E c.args.self (f key) _ (c.entry_found.ensures ∙ ap (λ r. option_map (entry_at K V E b) r.0) found)
+    (law.compared key) (law.cuts key) (natives_agree law f p key b)

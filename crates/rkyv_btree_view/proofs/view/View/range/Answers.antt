@@ -4,32 +4,27 @@ use Rattle.rkyv_btree_view.specs.Range.{range_left}
 use Rattle.rkyv_btree_view.specs.View.{view_value, view_entry, entries_of}
 use Rattle.rkyv_btree_view.proofs.Bounds.{within_referred}
 use Rattle.rkyv_btree_view.proofs.Drained.{drained}
-use Rattle.rkyv_btree_view.proofs.Ordered.{entries_ordered}
+use Rattle.rkyv_btree_view.proofs.Ordered.{between}
 use Rattle.rkyv_btree_view.specs.laws.Cuts.{order_cuts}
 use Rattle.rkyv_btree_base.specs.Read.{entry_at}
 use Rattle.rkyv_btree_walk.proofs.Ranges.{run_means}
 use Rattle.rkyv_btree_walk.specs.EntryPlaces.{entry_places}
 use Rattle.rkyv_btree_view.proofs.view.View.range.Goals as goal
 
-pub returns-clause-yields : goal.returns-clause-yields
-returns-clause-yields g c = λ items all. drained view_entry range_left _ items all
+pub returns-clause-range : goal.returns-clause-range
+returns-clause-range g c =
+    let K = g.K.Portable.kind in let V = g.V.Portable.kind in let E = g.M.ArchivedMap.E in
+    let view = c.args.self in
+    record {
+      yields = λ items all. drained view_entry range_left _ items all;
+      ends = tt;
+      run = run_means (entry_at K V E view.buf.now) _ (entry_places K V E view.buf.now view.pos) c.start_between.ensures.run;
+    }
 
-pub returns-clause-within : goal.returns-clause-within
-returns-clause-within g c low high =
+pub returns-clause-between : goal.returns-clause-between
+returns-clause-between g c =
     let K = g.K.Portable.kind in
     let within = c.start_between.ensures.within (λ q x. K.order (view_value q) x) (λ q w r e. search rules) in
-    (within_referred (λ q. K.order (view_value q)) c.as_ref-low.result c.as_ref-high.result c.args.low c.args.high _ _ c.as_ref-low.ensures c.as_ref-high.ensures within low high)
-
-pub returns-clause-sorted : goal.returns-clause-sorted
-returns-clause-sorted g c rises =
-    let K = g.K.Portable.kind in
-    let ordered = entries_ordered K.order (entries_of K g.V.Portable.kind g.M.ArchivedMap.E c.args.self) rises (λ q. K.order (view_value q)) (λ q. K.order (view_value q)) (λ q. order_cuts g.met.K.ViewOrd.total (view_value q)) (λ q i d less. refl) in
-    returns-clause-within g c (ordered c.args.low) (ordered c.args.high)
-
-pub returns-clause-run : goal.returns-clause-run
-returns-clause-run g c =
-    let K = g.K.Portable.kind in
-    let V = g.V.Portable.kind in
-    let E = g.M.ArchivedMap.E in
-    let view = c.args.self in
-    run_means (entry_at K V E view.buf.now) _ (entry_places K V E view.buf.now view.pos) c.start_between.ensures.run
+    between K.order (entries_of K g.V.Portable.kind g.M.ArchivedMap.E c.args.self) _ (λ q. K.order (view_value q)) (λ q. K.order (view_value q))
+    (λ q. order_cuts g.met.K.ViewOrd.total (view_value q)) (λ q i d less. refl) c.args.low c.args.high
+    (within_referred (λ q. K.order (view_value q)) c.as_ref-low.result c.as_ref-high.result c.args.low c.args.high _ _ c.as_ref-low.ensures c.as_ref-high.ensures within)

@@ -6,39 +6,32 @@ use Rattle.rkyv_btree_view.specs.View.{view_entry, entries_of}
 use Rattle.rkyv_btree_view.proofs.Bounds.{within_referred, unbounded_referred}
 use Rattle.rkyv_btree_view.proofs.Drained.{drained}
 use Rattle.rkyv_btree_view.proofs.LookedUp.{natives_agree}
-use Rattle.rkyv_btree_view.proofs.Ordered.{entries_ordered, natives_alike}
+use Rattle.rkyv_btree_view.proofs.Ordered.{between, natives_alike}
 use Rattle.rkyv_btree_base.specs.Read.{entry_at}
 use Rattle.rkyv_btree_walk.proofs.Ranges.{run_means}
 use Rattle.rkyv_btree_walk.specs.EntryPlaces.{entry_places}
 use Rattle.rkyv_btree_view.proofs.view.View.range_of.Goals as goal
 
-pub returns-clause-yields : goal.returns-clause-yields
-returns-clause-yields g c = λ items all. drained view_entry range_left _ items all
+pub returns-clause-range : goal.returns-clause-range
+returns-clause-range g c =
+    let K = g.K.Portable.kind in let V = g.V.Portable.kind in let E = g.M.ArchivedMap.E in
+    let view = c.args.self in
+    record {
+      yields = λ items all. drained view_entry range_left _ items all;
+      ends = tt;
+      run = run_means (entry_at K V E view.buf.now) _ (entry_places K V E view.buf.now view.pos) c.start_between.ensures.run;
+    }
 
 pub returns-clause-whole : goal.returns-clause-whole
 returns-clause-whole g c known low high =
     (c.start_between.ensures.whole (unbounded_referred _ (c.start_bound-low.ensures known ∙ low)) (unbounded_referred _ (c.end_bound-high.ensures known ∙ high)))
 
-pub returns-clause-within : goal.returns-clause-within
-returns-clause-within g c known f p low high =
-    let within = c.start_between.ensures.within f (λ q w r e. let same = p q.now w.buf.now w.pos in search rules) in
-    (within_referred f c.start_bound-low.result c.end_bound-high.result (g.R.RangeBounds.start_bound c.args.range) (g.R.RangeBounds.end_bound c.args.range) _ _ (c.start_bound-low.ensures known) (c.end_bound-high.ensures known) within low high)
-
-pub returns-clause-sorted : goal.returns-clause-sorted
-returns-clause-sorted g c known f p rises =
-    let K = g.K.Portable.kind in
-    let V = g.V.Portable.kind in
-    let E = g.M.ArchivedMap.E in
+pub returns-clause-between : goal.returns-clause-between
+returns-clause-between g c known f p =
+    let K = g.K.Portable.kind in let V = g.V.Portable.kind in let E = g.M.ArchivedMap.E in
     let view = c.args.self in
     let law = g.met.K.CompareWith.compares in
-    let ordered = entries_ordered K.order (entries_of K V E view) rises f law.compared law.cuts
-    (λ q. natives_alike K V E view.buf.now view.pos (f q) (law.compared q) (natives_agree law f p q view.buf.now)) in
-    returns-clause-within g c known f p (ordered (g.R.RangeBounds.start_bound c.args.range)) (ordered (g.R.RangeBounds.end_bound c.args.range))
-
-pub returns-clause-run : goal.returns-clause-run
-returns-clause-run g c =
-    let K = g.K.Portable.kind in
-    let V = g.V.Portable.kind in
-    let E = g.M.ArchivedMap.E in
-    let view = c.args.self in
-    run_means (entry_at K V E view.buf.now) _ (entry_places K V E view.buf.now view.pos) c.start_between.ensures.run
+    let within = c.start_between.ensures.within f (λ q w r e. let same = p q.now w.buf.now w.pos in search rules) in
+    between K.order (entries_of K V E view) _ f law.compared law.cuts (λ q. natives_alike K V E view.buf.now view.pos (f q) (law.compared q) (natives_agree law f p q view.buf.now))
+    (g.R.RangeBounds.start_bound c.args.range) (g.R.RangeBounds.end_bound c.args.range)
+    (within_referred f c.start_bound-low.result c.end_bound-high.result (g.R.RangeBounds.start_bound c.args.range) (g.R.RangeBounds.end_bound c.args.range) _ _ (c.start_bound-low.ensures known) (c.end_bound-high.ensures known) within)

@@ -7,16 +7,15 @@ use Rattle.rkyv_btree_walk.proofs.Ranges.{run_means}
 use Rattle.rkyv_btree_walk.specs.EntryPlaces.{entry_places}
 use Rattle.rkyv_btree_view.proofs.view.View.range_with.Goals as goal
 
-pub returns-clause-yields : goal.returns-clause-yields
-returns-clause-yields g c = λ items all. drained view_entry range_left _ items all
+pub returns-clause-range : goal.returns-clause-range
+returns-clause-range g c =
+    let K = g.K.Portable.kind in let V = g.V.Portable.kind in let E = g.M.ArchivedMap.E in
+    let view = c.args.self in
+    record {
+      yields = λ items all. drained view_entry range_left _ items all;
+      ends = tt;
+      run = run_means (entry_at K V E view.buf.now) _ (entry_places K V E view.buf.now view.pos) c.start_between.ensures.run;
+    }
 
 pub returns-clause-within : goal.returns-clause-within
 returns-clause-within g c f p low high = (c.start_between.ensures.within f p low high)
-
-pub returns-clause-run : goal.returns-clause-run
-returns-clause-run g c =
-    let K = g.K.Portable.kind in
-    let V = g.V.Portable.kind in
-    let E = g.M.ArchivedMap.E in
-    let view = c.args.self in
-    run_means (entry_at K V E view.buf.now) _ (entry_places K V E view.buf.now view.pos) c.start_between.ensures.run
