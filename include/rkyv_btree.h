@@ -10,6 +10,12 @@
 extern "C" {
 #endif
 
+/* The version of this header and of the library. */
+#define RKYV_BTREE_VERSION_MAJOR 0
+#define RKYV_BTREE_VERSION_MINOR 1
+#define RKYV_BTREE_VERSION_PATCH 0
+#define RKYV_BTREE_VERSION "0.1.0"
+
 /* What each call returns, unless it says otherwise. */
 enum {
     RKYV_BTREE_OK = 0,

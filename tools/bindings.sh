@@ -90,12 +90,32 @@ c() {
 }
 try C c
 
+# The crate as cargo packages it is built over the library that the variable names, since it lies in another folder then.
+rust() {
+    local CARGO_TARGET_DIR=$PWD/$build/rust
+    export CARGO_TARGET_DIR
+    cargo test --quiet --offline --manifest-path bindings/rust/Cargo.toml &&
+        RKYV_BTREE_LIB_DIR=$PWD/$build cargo package --quiet --offline --allow-dirty --manifest-path bindings/rust/Cargo.toml
+}
 if has Rust cargo; then
-    try Rust env CARGO_TARGET_DIR="$PWD/$build/rust" cargo test --quiet --offline --manifest-path bindings/rust/Cargo.toml
+    try Rust rust
 fi
 
+# The package as pip installs it, without a network, has the library in its folder.
+python() {
+    local installed=$PWD/$build/python
+    rm -rf "$installed"
+    PYTHONDONTWRITEBYTECODE=1 PYTHONPATH=bindings/python python3 -m unittest -q test_rkyv_btree &&
+        python3 -m pip install --quiet --disable-pip-version-check --no-index --target "$installed" bindings/python &&
+        (cd / && env -u RKYV_BTREE_LIB PYTHONPATH="$installed" python3 -c '
+import pathlib, rkyv_btree
+from importlib.metadata import version
+assert version("rkyv-btree") == rkyv_btree.__version__
+assert (pathlib.Path(rkyv_btree.__file__).parent / "librkyv_btree.so").exists()
+assert rkyv_btree.Map(rkyv_btree.build("text", "u32", [("pear", 5)]), "text", "u32")["pear"] == 5')
+}
 if has Python python3; then
-    try Python env PYTHONDONTWRITEBYTECODE=1 PYTHONPATH=bindings/python python3 -m unittest -q test_rkyv_btree
+    try Python python
 fi
 
 if has "the installed library" pkg-config; then

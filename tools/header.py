@@ -1,8 +1,8 @@
 #!/usr/bin/env python3
 """Compares include/rkyv_btree.h with the sources of crates/rkyv_btree_ffi, and the Rust declarations with the header.
 
-It compares the codes, the numbers of the types, the fields of the structs, and the prototypes: names, parameters and results. The last
-line is `1 passed, 0 failed`, or what differs and `0 passed, 1 failed`.
+It compares the codes, the numbers of the types, the fields of the structs, and the prototypes: names, parameters and results; and the version
+with that of the Rust crate and of the Python package. The last line is `1 passed, 0 failed`, or what differs and `0 passed, 1 failed`.
 """
 import pathlib
 import re
@@ -122,10 +122,24 @@ def rust():
         differs(f"raw.rs, {name}", (result, listed), declared.get(name))
 
 
+def versions():
+    """The version in the header, in the Rust crate and in the Python package."""
+    macros = dict(re.findall(r"^#define RKYV_BTREE_VERSION(_\w+|) \"?([\d.]+)\"?$", HEADER, re.M))
+    version = macros[""]
+    differs("RKYV_BTREE_VERSION", version, ".".join(macros[part] for part in ("_MAJOR", "_MINOR", "_PATCH")))
+    for place, form in {
+        "rust/Cargo.toml": r'^version = "(.*)"$',
+        "python/pyproject.toml": r'^version = "(.*)"$',
+        "python/rkyv_btree/__init__.py": r'^__version__ = "(.*)"$',
+    }.items():
+        differs(place, version, re.search(form, (ROOT / "bindings" / place).read_text(), re.M)[1])
+
+
 constants()
 structs()
 prototypes()
 rust()
+versions()
 for line in wrong:
     print(f"tools/header.py: {line}", file=sys.stderr)
 print("0 passed, 1 failed" if wrong else "1 passed, 0 failed")

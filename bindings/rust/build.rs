@@ -1,13 +1,32 @@
-//! Links the static library. `make bindings` names its folder; RKYV_BTREE_LIB_DIR names another.
+//! Links the static library: that of the folder that RKYV_BTREE_LIB_DIR names, or that of `make bindings`, or the installed one.
 use std::env;
 use std::path::PathBuf;
+use std::process::Command;
+
+/// Returns the folder of `make bindings`, if the crate lies in its repository.
+fn built() -> Option<PathBuf> {
+    let folder = PathBuf::from(env::var_os("CARGO_MANIFEST_DIR")?).join("../build");
+    folder.is_dir().then_some(folder)
+}
+
+/// Returns the folder that pkg-config knows.
+fn installed() -> Option<PathBuf> {
+    let output = Command::new("pkg-config")
+        .args(["--variable=libdir", "rkyv_btree"])
+        .output()
+        .ok()?;
+    let folder = String::from_utf8(output.stdout).ok()?;
+    output.status.success().then(|| PathBuf::from(folder.trim()))
+}
 
 fn main() {
     println!("cargo:rerun-if-env-changed=RKYV_BTREE_LIB_DIR");
-    let folder = env::var_os("RKYV_BTREE_LIB_DIR").map_or_else(
-        || PathBuf::from(env::var_os("CARGO_MANIFEST_DIR").expect("cargo sets it")).join("../build"),
-        PathBuf::from,
-    );
+    println!("cargo:rerun-if-env-changed=PKG_CONFIG_PATH");
+    let folder = env::var_os("RKYV_BTREE_LIB_DIR")
+        .map(PathBuf::from)
+        .or_else(built)
+        .or_else(installed)
+        .expect("no librkyv_btree.a: install it, or name its folder in RKYV_BTREE_LIB_DIR");
     println!("cargo:rustc-link-search=native={}", folder.display());
     println!("cargo:rustc-link-lib=static=rkyv_btree");
     println!("cargo:rerun-if-changed={}", folder.join("librkyv_btree.a").display());
