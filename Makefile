@@ -6,7 +6,7 @@ MAPS := crates/bench/out/bench
 # Where make install puts what is built. DESTDIR is put before it; BINDIR, MANDIR, INCLUDEDIR and LIBDIR name other folders than those below it.
 export PREFIX ?= /usr/local
 
-.PHONY: run test wrong programs install uninstall bench bindings man drawing program maps
+.PHONY: run test wrong programs install uninstall bench bindings man reference drawing program maps
 
 # Two lines become an archive, and the archive becomes the two lines again. Nothing is proved.
 run:
@@ -47,6 +47,10 @@ bindings:
 # The man pages of the programs, made of their pages.
 man:
 	@tools/man.py
+
+# The reference as one page that is searched without a network: out/reference.html.
+reference:
+	@mkdir -p out && tools/reference.py --html out/reference.html && echo "written: out/reference.html"
 
 # The drawing of the format, made of the program's archive of 17 entries.
 drawing: program
