@@ -3,6 +3,7 @@ use Rattle.std.proofs.Common.{◌≡◌, ℕ, ◌<◌, ◌≤◌, List, [], ◌�
 use Rattle.std.specs.Iterator.{Yields, Drains, YieldsFirst}
 use Rattle.std.specs.declared.cmp.Ordering.{Ordering}
 use Rattle.rkyv_btree_base.specs.Archives.{HoldsArchive}
+use Rattle.rkyv_btree_base.specs.Building.{IsRootUnwritten}
 use Rattle.rkyv_btree_base.specs.Archiving.{Archival, Matches}
 use Rattle.rkyv_btree_base.specs.Entries.{both_borrowed}
 use Rattle.rkyv_btree_base.specs.Fault.{Fault}
@@ -21,7 +22,8 @@ use Rattle.rkyv_btree_base.proofs.Accepting.{written_is_held_after}
 use Rattle.std.proofs.lemmas.List.{length-map}
 use Rattle.std.specs.Option.{option_map}
 use Rattle.rkyv_btree_update.specs.Natives.{both}
-use Rattle.rkyv_btree_update.specs.Written.{FailsToUpdate, FailsToWrite, StopsWriting, WritesSmallest, WritesStrict, too_many, no_memory, in_tree, in_map}
+use Rattle.rkyv_btree_strict.proofs.Migrated.{then_begins}
+use Rattle.rkyv_btree_update.specs.Written.{FailsToUpdate, FailsToWrite, IsNotUpdated, IsNotWritten, IsWritten, StopsWriting, WritesSmallest, too_many, no_memory, in_tree, in_map}
 use Rattle.rkyv_btree_update.specs.declared.change.Change.{Change}
 
 -- an iterator gives items that show the list which its state shows
@@ -58,13 +60,13 @@ module _ {X Y R S : Type 0} (K V : Kind) (E : ℕ) (KA : Archival X R) (VA : Arc
     writes_smallest (Err fault) claim count smallest went place wrote end = tt
     writes_smallest (Ok at) claim count smallest went place wrote end = smallest_of at smallest went place (subst (λ n. Wrote mid (root_image (position mid) root n) to) count wrote) end
 
-  strict_of : (m : List (K.Value × V.Value)) (from to : Writing) (at : ℕ) → Increasing K.order m → WritesSmallest K V E m from at to → WritesStrict K V E m from at to
-  strict_of m from to at increase smallest front base = let is = smallest front base in record { map = (is.0, is.1); increasing = increase }
+  written_as : (m : List (K.Value × V.Value)) (from to : Writing) (at : ℕ) → Increasing K.order m → WritesSmallest K V E m from at to → IsWritten K V E m from at to
+  written_as m from to at increase smallest = record { strict = λ front base. let is = smallest front base in record { map = (is.0, is.1); increasing = increase }; smallest = smallest }
 
-  pub writes_strict : {F : Type 0} (result : Result ℕ (Fault F)) (m : List (K.Value × V.Value)) (from to : Writing) → Increasing K.order m → IfOk result (λ at. WritesSmallest K V E m from at to)
-      → IfOk result (λ at. WritesStrict K V E m from at to)
-  writes_strict (Err fault) m from to increase smallest = tt
-  writes_strict (Ok at) m from to increase smallest = strict_of m from to at increase smallest
+  pub is_written : {F : Type 0} (result : Result ℕ (Fault F)) (m : List (K.Value × V.Value)) (from to : Writing) → Increasing K.order m → IfOk result (λ at. WritesSmallest K V E m from at to)
+      → IfOk result (λ at. IsWritten K V E m from at to)
+  is_written (Err fault) m from to increase smallest = tt
+  is_written (Ok at) m from to increase smallest = written_as m from to at increase smallest
 
   -- the items that were given, and why they aren't written
   module _ {T U P : Type 0} (key : X → T) (value : Y → U) (rest : P → List (T × U)) (iter : P) (list : List (T × U)) (are : rest iter ≡ list)
@@ -116,10 +118,13 @@ module _ {X Y R S : Type 0} (K V : Kind) (E : ℕ) (KA : Archival X R) (VA : Arc
     unrooted_by from root mid (Entry fault) to h none = absurd none
     unrooted_by from root mid (OutOfOrder index) to h none = absurd none
 
-    pub unrooted : {F : Type 0} (from : Writing) (root : ℕ) (mid to : Writing) (result : Result ℕ (Fault F)) → Written from root mid
-        → IfErr result (λ fault. RootFault root claim mid fault to) → IfErr result (λ fault. FailsToWrite K V E KA VA key value list from fault to)
-    unrooted from root mid to (Ok at) h failed = tt
-    unrooted from root mid to (Err fault) h failed = unrooted_by from root mid fault to h (subst (λ n. RootFault root n mid fault to) count failed)
+    pub unrooted : {F : Type 0} (from : Writing) (root : ℕ) (mid to : Writing) (result : Result ℕ (Fault F)) → Written from root mid → OnlyAppended from mid
+        → IfErr result (IsRootUnwritten claim root mid to) → IfErr result (λ fault. IsNotWritten K V E KA VA key value list from fault to)
+    unrooted from root mid to (Ok at) h went failed = tt
+    unrooted from root mid to (Err fault) h went failed = record {
+      cause = unrooted_by from root mid fault to h (subst (λ n. RootFault root n mid fault to) count failed.cause);
+      kept = then_begins from mid to went failed.kept;
+    }
 
   -- an update fails where the entries after the changes aren't written
   module _ {T U : Type 0} (key : X → T) (value : Y → U) (cmp : X → X → Ordering) (changes : List (X × Change Y)) (list : List (T × U)) (from to : Writing) where
@@ -133,6 +138,7 @@ module _ {X Y R S : Type 0} (K V : Kind) (E : ℕ) (KA : Archival X R) (VA : Arc
     fails_by (Entry fault) h = h
     fails_by (OutOfOrder index) none = absurd none
 
-    pub fails : {F : Type 0} (result : Result ℕ (Fault F)) → IfErr result (λ fault. FailsToWrite K V E KA VA key value list from fault to) → IfErr result (λ fault. FailsToUpdate K V E KA VA key value cmp changes list from fault to)
+    pub fails : {F : Type 0} (result : Result ℕ (Fault F)) → IfErr result (λ fault. IsNotWritten K V E KA VA key value list from fault to)
+        → IfErr result (λ fault. IsNotUpdated K V E KA VA key value cmp changes list from fault to)
     fails (Ok at) h = tt
-    fails (Err fault) h = fails_by fault h
+    fails (Err fault) h = record { cause = fails_by fault h.cause; kept = h.kept }

@@ -1,17 +1,18 @@
 -- What is left in a writer where entries are written as a map.
-use Rattle.std.specs.Prelude.{◌≡◌, ℕ, ◌<◌, ◌≤◌, List, ◌++◌, length, map, MatchOption, Option}
+use Rattle.std.specs.Prelude.{◌≡◌, ℕ, ◌+◌, ◌<◌, ◌≤◌, List, ◌++◌, length, map, MatchOption, Option}
 use Rattle.std.specs.declared.cmp.Ordering.{Ordering}
-use Rattle.rkyv_btree_base.specs.Archiving.{Archival}
+use Rattle.rkyv_btree_base.specs.Archiving.{Archival, BeginsWith}
 use Rattle.rkyv_btree_base.specs.Fault.{Fault}
 use Rattle.rkyv_btree_base.specs.Fault.TheVariants.{LengthOverflow, Memory, OutOfOrder}
 use Rattle.rkyv_btree_base.specs.Increasing.{IsOutOfOrder}
+use Rattle.rkyv_btree_base.specs.Kept.{OnlyAppended}
 use Rattle.rkyv_btree_base.specs.Kind.{Kind}
 use Rattle.rkyv_btree_base.specs.Layout.{layout_of}
 use Rattle.rkyv_btree_base.specs.Plan.{planned_alone}
 use Rattle.rkyv_btree_base.specs.Serialising.{Built, RootFault}
 use Rattle.rkyv_btree_base.specs.SmallestMaps.{IsSmallestMap, map_at}
 use Rattle.rkyv_btree_base.specs.Spells.{Accepted}
-use Rattle.rkyv_btree_base.specs.Writing.{Writing, last_end}
+use Rattle.rkyv_btree_base.specs.Writing.{Writing, last_end, position}
 use Rattle.rkyv_btree_base.specs.Written.{ChildStopped}
 use Rattle.rkyv_btree_strict.specs.Strict.{IsStrictMap}
 use Rattle.rkyv_btree_update.specs.Natives.{both}
@@ -31,6 +32,20 @@ module _ (K V : Kind) (E : ℕ) (m : List (K.Value × V.Value)) (from : Writing)
   WritesSmallest =
       (front : List ℕ) → length front ≡ from.base
       → (left : ℕ) × (a : Accepted K V E (front ++ to.contents) 0 at at left m) × IsSmallestMap (map_at a)
+
+  -- the entries were written as a map at a position
+  pub record IsWritten : Type 0 where
+    -- the writer's bytes are a strict map of them
+    pub strict : WritesStrict
+    -- no accepted map with as many entries has fewer nodes, node bytes or levels
+    pub smallest : WritesSmallest
+
+-- a map at a position was appended to a writer's bytes
+pub record IsAppended (from : Writing) (at : ℕ) (to : Writing) : Type 0 where
+  -- it is the last of them
+  pub end : position to ≡ at + 8
+  -- no write has failed, and bytes were only appended
+  pub went : OnlyAppended from to
 
 module _ {X Y T U R S : Type 0} (K V : Kind) (E : ℕ) (KA : Archival X R) (VA : Archival Y S)
     (key : X → T) (value : Y → U) where
@@ -59,3 +74,16 @@ module _ {X Y T U R S : Type 0} (K V : Kind) (E : ℕ) (KA : Archival X R) (VA :
   abbrev pub FailsToUpdate : {F : Type 0} → (X → X → Ordering) → List (X × Change Y) → List (T × U) → Writing → Fault F → Writing → Type 0
   FailsToUpdate cmp changes list from (OutOfOrder index) to = IsOutOfOrder cmp changes index × (to ≡ from)
   FailsToUpdate cmp changes list from fault to = StopsWriting list from fault to
+
+  -- an error stopped the writing of entries that show a list
+  pub record IsNotWritten {F : Type 0} (list : List (T × U)) (from : Writing) (fault : Fault F) (to : Writing) : Type 0 where
+    pub cause : FailsToWrite list from fault to
+    -- the contents begin with the old ones
+    pub kept : BeginsWith to from
+
+  -- an error stopped an update
+  pub record IsNotUpdated {F : Type 0} (cmp : X → X → Ordering) (changes : List (X × Change Y)) (list : List (T × U))
+      (from : Writing) (fault : Fault F) (to : Writing) : Type 0 where
+    pub cause : FailsToUpdate cmp changes list from fault to
+    -- the contents begin with the old ones
+    pub kept : BeginsWith to from

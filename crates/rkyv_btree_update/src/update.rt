@@ -1,13 +1,10 @@
 //! New archives of maps, from old ones and changes.
-ghost use Rattle.std.specs.Prelude.{◌≡◌, ◌+◌, ℕ, length, IsErrOf, IsTrue, IfErr, IfOk, OnErr, OnOk};
-ghost use Rattle.rkyv_btree_base.specs.Archiving.{BeginsWith};
+ghost use Rattle.std.specs.Prelude.{ℕ, IsErrOf, IsTrue, IfErr, IfOk, OnOk};
 ghost use Rattle.rkyv_btree_base.specs.Increasing.{Increasing, IsOutOfOrder};
-ghost use Rattle.rkyv_btree_base.specs.Kept.{OnlyAppended};
 ghost use Rattle.rkyv_btree_base.specs.Layout.{are_fitting};
-ghost use Rattle.rkyv_btree_base.specs.Writing.{position};
 ghost use Rattle.rkyv_btree_update.specs.Natives.{IsLent, meaning, shown_of};
 ghost use Rattle.rkyv_btree_update.specs.Updated.{all_put, changes_meant, updated};
-ghost use Rattle.rkyv_btree_update.specs.Written.{FailsToUpdate, FailsToWrite, IsCount, WritesSmallest, WritesStrict};
+ghost use Rattle.rkyv_btree_update.specs.Written.{IsAppended, IsCount, IsNotUpdated, IsNotWritten, IsWritten, WritesSmallest};
 ghost use Rattle.rkyv_btree_update.specs.mirror.Merged.{changing_left};
 ghost use Rattle.rkyv_btree_view.specs.View.{entries_of};
 
@@ -54,14 +51,12 @@ where
         (changes_meant keys.meant values.meant
         (changing_left KU.lent VU.lent KU.shown VU.shown changes.entry)))
         (W.state writer.old) at (W.state writer.new)) }
-    ensures err { IfErr result (λ fault. FailsToWrite K.kind V.kind E KU.archival VU.archival
+    ensures err { IfErr result (λ fault. IsNotWritten K.kind V.kind E KU.archival VU.archival
         KU.shown VU.shown (updated KU.order
         (shown_of K.kind V.kind M.E KU.lent VU.lent old.entry.view)
         (changing_left KU.lent VU.lent KU.shown VU.shown changes.entry))
         (W.state writer.old) fault (W.state writer.new)) }
-    ensures end { IfOk result (λ at. position (W.state writer.new) ≡ at + 8) }
-    ensures went { OnOk result (OnlyAppended (W.state writer.old) (W.state writer.new)) }
-    ensures kept { OnErr result (BeginsWith (W.state writer.new) (W.state writer.old)) }
+    ensures appended { IfOk result (λ at. IsAppended (W.state writer.old) at (W.state writer.new)) }
 {
     KU::is_lent();
     VU::is_lent();
@@ -99,14 +94,12 @@ where
     ensures in_order { OnOk result (Increasing KU.cmp changes.now) }
     ensures out_of_order { (index : ℕ) → IsOutOfOrder KU.cmp changes.now index →
         IsErrOf result (Fault.OutOfOrder index) }
-    ensures err { IfErr result (λ fault. FailsToUpdate K.kind V.kind E KU.archival VU.archival
+    ensures err { IfErr result (λ fault. IsNotUpdated K.kind V.kind E KU.archival VU.archival
         KU.shown VU.shown KU.cmp changes.now (updated KU.order
         (shown_of K.kind V.kind M.E KU.lent VU.lent old.entry.view)
         (changes_meant KU.shown VU.shown changes.now))
         (W.state writer.old) fault (W.state writer.new)) }
-    ensures end { IfOk result (λ at. position (W.state writer.new) ≡ at + 8) }
-    ensures went { OnOk result (OnlyAppended (W.state writer.old) (W.state writer.new)) }
-    ensures kept { OnErr result (BeginsWith (W.state writer.new) (W.state writer.old)) }
+    ensures appended { IfOk result (λ at. IsAppended (W.state writer.old) at (W.state writer.new)) }
 {
     if let Some(index) = first_disorder(changes) {
         return Err(Fault::OutOfOrder { index });
@@ -136,13 +129,11 @@ where
         (updated K.kind.order (entries_of K.kind V.kind M.E old.entry.view)
         (changes_meant keys.meant values.meant (all_put (shown_of K.kind V.kind M.E KU.lent VU.lent new.entry.view))))
         (W.state writer.old) at (W.state writer.new)) }
-    ensures err { IfErr result (λ fault. FailsToWrite K.kind V.kind E KU.archival VU.archival
+    ensures err { IfErr result (λ fault. IsNotWritten K.kind V.kind E KU.archival VU.archival
         KU.shown VU.shown (updated KU.order
         (shown_of K.kind V.kind M.E KU.lent VU.lent old.entry.view) (all_put (shown_of K.kind V.kind M.E KU.lent VU.lent new.entry.view)))
         (W.state writer.old) fault (W.state writer.new)) }
-    ensures end { IfOk result (λ at. position (W.state writer.new) ≡ at + 8) }
-    ensures went { OnOk result (OnlyAppended (W.state writer.old) (W.state writer.new)) }
-    ensures kept { OnErr result (BeginsWith (W.state writer.new) (W.state writer.old)) }
+    ensures appended { IfOk result (λ at. IsAppended (W.state writer.old) at (W.state writer.new)) }
 {
     let len = count_all::<K, V, M, KU, VU>(old, Changing::puts(new));
     write_updated::<K, V, M, KU, VU, W, E>(alloc, old, Changing::puts(new), len, writer)
@@ -171,36 +162,25 @@ where
     VU: FromArchived<'a> + Archive<Archived = V> + Serialize<W, Global>,
     W: Writer,
     requires fitting { IsTrue (are_fitting K.kind V.kind E) }
-    // The writer's bytes are a strict map of the old entries after the changes, at the returned position.
-    ensures strict { (keys : IsLent KU.archival K.kind KU.shown KU.order KU.lent KU.cmp) →
+    // The old entries after the changes were written, as the smallest strict map.
+    ensures ok { (keys : IsLent KU.archival K.kind KU.shown KU.order KU.lent KU.cmp) →
         (values : IsLent VU.archival V.kind VU.shown VU.order VU.lent VU.cmp) →
-        IfOk result (λ at. WritesStrict K.kind V.kind E
+        IfOk result (λ at. IsWritten K.kind V.kind E
         (updated K.kind.order (entries_of K.kind V.kind E old.entry.view)
         (changes_meant (meaning KU.archival keys.same) (meaning VU.archival values.same)
         changes.now)) (W.state writer.old) at (W.state writer.new)) }
-    // No accepted map with as many entries has fewer nodes, node bytes or levels.
-    ensures smallest { (keys : IsLent KU.archival K.kind KU.shown KU.order KU.lent KU.cmp) →
-        (values : IsLent VU.archival V.kind VU.shown VU.order VU.lent VU.cmp) →
-        IfOk result (λ at. WritesSmallest K.kind V.kind E
-        (updated K.kind.order (entries_of K.kind V.kind E old.entry.view)
-        (changes_meant (meaning KU.archival keys.same) (meaning VU.archival values.same)
-        changes.now)) (W.state writer.old) at (W.state writer.new)) }
+    // It is the last of the writer's bytes.
+    ensures appended { IfOk result (λ at. IsAppended (W.state writer.old) at (W.state writer.new)) }
     // The keys of the changes increase, or the error has the index of the first one that is out of order.
     ensures in_order { OnOk result (Increasing KU.cmp changes.now) }
     ensures out_of_order { (index : ℕ) → IsOutOfOrder KU.cmp changes.now index →
         IsErrOf result (Fault.OutOfOrder index) }
-    // Each error's cause is there.
-    ensures err { IfErr result (λ fault. FailsToUpdate K.kind V.kind E KU.archival VU.archival
+    // Each error's cause is there, and the contents begin with the old ones.
+    ensures err { IfErr result (λ fault. IsNotUpdated K.kind V.kind E KU.archival VU.archival
         KU.shown VU.shown KU.cmp changes.now (updated KU.order
         (shown_of K.kind V.kind E KU.lent VU.lent old.entry.view)
         (changes_meant KU.shown VU.shown changes.now)) (W.state writer.old) fault
         (W.state writer.new)) }
-    // The map is the last of the writer's bytes.
-    ensures end { IfOk result (λ at. position (W.state writer.new) ≡ at + 8) }
-    // On success no write has failed, and bytes were only appended.
-    ensures went { OnOk result (OnlyAppended (W.state writer.old) (W.state writer.new)) }
-    // After any error the contents begin with the old ones.
-    ensures kept { OnErr result (BeginsWith (W.state writer.new) (W.state writer.old)) }
 {
     write_listed::<K, V, ArchivedBTreeMap<K, V, E>, KU, VU, W, E>(alloc, old, changes, writer)
 }
@@ -224,32 +204,21 @@ where
     VU: FromArchived<'a> + Archive<Archived = V> + Serialize<W, Global> + 'a,
     W: Writer,
     requires fitting { IsTrue (are_fitting K.kind V.kind E) }
-    // The writer's bytes are a strict map of the first map's entries after those of the second are put, at the returned position.
-    ensures strict { (keys : IsLent KU.archival K.kind KU.shown KU.order KU.lent KU.cmp) →
+    // The first map's entries after those of the second are put were written, as the smallest strict map.
+    ensures ok { (keys : IsLent KU.archival K.kind KU.shown KU.order KU.lent KU.cmp) →
         (values : IsLent VU.archival V.kind VU.shown VU.order VU.lent VU.cmp) →
-        IfOk result (λ at. WritesStrict K.kind V.kind E
+        IfOk result (λ at. IsWritten K.kind V.kind E
         (updated K.kind.order (entries_of K.kind V.kind E first.entry.view)
         (all_put (entries_of K.kind V.kind E second.entry.view)))
         (W.state writer.old) at (W.state writer.new)) }
-    // No accepted map with as many entries has fewer nodes, node bytes or levels.
-    ensures smallest { (keys : IsLent KU.archival K.kind KU.shown KU.order KU.lent KU.cmp) →
-        (values : IsLent VU.archival V.kind VU.shown VU.order VU.lent VU.cmp) →
-        IfOk result (λ at. WritesSmallest K.kind V.kind E
-        (updated K.kind.order (entries_of K.kind V.kind E first.entry.view)
-        (all_put (entries_of K.kind V.kind E second.entry.view)))
-        (W.state writer.old) at (W.state writer.new)) }
-    // Each error's cause is there.
-    ensures err { IfErr result (λ fault. FailsToWrite K.kind V.kind E KU.archival VU.archival
+    // It is the last of the writer's bytes.
+    ensures appended { IfOk result (λ at. IsAppended (W.state writer.old) at (W.state writer.new)) }
+    // Each error's cause is there, and the contents begin with the old ones.
+    ensures err { IfErr result (λ fault. IsNotWritten K.kind V.kind E KU.archival VU.archival
         KU.shown VU.shown (updated KU.order
         (shown_of K.kind V.kind E KU.lent VU.lent first.entry.view)
         (all_put (shown_of K.kind V.kind E KU.lent VU.lent second.entry.view))) (W.state writer.old) fault
         (W.state writer.new)) }
-    // The map is the last of the writer's bytes.
-    ensures end { IfOk result (λ at. position (W.state writer.new) ≡ at + 8) }
-    // On success no write has failed, and bytes were only appended.
-    ensures went { OnOk result (OnlyAppended (W.state writer.old) (W.state writer.new)) }
-    // After any error the contents begin with the old ones.
-    ensures kept { OnErr result (BeginsWith (W.state writer.new) (W.state writer.old)) }
 {
     write_merged::<K, V, ArchivedBTreeMap<K, V, E>, KU, VU, W, E>(alloc, first, second, writer)
 }

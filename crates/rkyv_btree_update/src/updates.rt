@@ -4,7 +4,7 @@ ghost use Rattle.std.specs.Option.{option_map};
 ghost use Rattle.std.specs.Prelude.{◌≡◌, ◌∷◌, None, false, IfNone, IfSome, IsTrue};
 ghost use Rattle.rkyv_btree_base.specs.Increasing.{Increasing};
 ghost use Rattle.rkyv_btree_update.specs.Natives.{both, shown_of};
-ghost use Rattle.rkyv_btree_update.specs.mirror.Merged.{AreOrdered, CanCross, CanMerge, IsBeforeAll, IsQuiet, Steps};
+ghost use Rattle.rkyv_btree_update.specs.mirror.Merged.{AreOrdered, CanCross, CanMerge, IsBeforeAll, IsQuiet, MayTake, Steps};
 ghost use Rattle.rkyv_btree_update.specs.mirror.Merged.{changing_left, entry_put, merged, new_left, old_left, shown_left};
 
 use crate::change::Change;
@@ -190,17 +190,7 @@ where
     #[inline(always)]
     fn next_crossing(&mut self) -> Option<(KU, VU)>
         requires { CanCross KU.order KU.lent VU.lent KU.shown VU.shown self.old }
-        ensures gives { IfSome result (λ entry. merged KU.order
-            (old_left KU.lent VU.lent KU.shown VU.shown) (new_left KU.lent VU.lent KU.shown VU.shown)
-            self.old ≡ both KU.shown VU.shown entry ∷ merged KU.order
-            (old_left KU.lent VU.lent KU.shown VU.shown) (new_left KU.lent VU.lent KU.shown VU.shown)
-            self.new) }
-        ensures can { IfSome result (λ _. CanMerge KU.order KU.lent VU.lent KU.shown VU.shown self.new) }
-        ensures kept { IfNone result (merged KU.order
-            (old_left KU.lent VU.lent KU.shown VU.shown) (new_left KU.lent VU.lent KU.shown VU.shown)
-            self.new ≡ merged KU.order
-            (old_left KU.lent VU.lent KU.shown VU.shown) (new_left KU.lent VU.lent KU.shown VU.shown)
-            self.old) }
+        ensures takes { MayTake KU.order KU.lent VU.lent KU.shown VU.shown self.old result self.new }
         ensures ordered { IfNone result
             (AreOrdered KU.order (old_left KU.lent VU.lent KU.shown VU.shown)
             (new_left KU.lent VU.lent KU.shown VU.shown) self.new) }
@@ -254,17 +244,7 @@ where
     #[inline(always)]
     fn next_quiet(&mut self) -> Option<(KU, VU)>
         requires { CanMerge KU.order KU.lent VU.lent KU.shown VU.shown self.old }
-        ensures gives { IfSome result (λ entry. merged KU.order
-            (old_left KU.lent VU.lent KU.shown VU.shown) (new_left KU.lent VU.lent KU.shown VU.shown)
-            self.old ≡ both KU.shown VU.shown entry ∷ merged KU.order
-            (old_left KU.lent VU.lent KU.shown VU.shown) (new_left KU.lent VU.lent KU.shown VU.shown)
-            self.new) }
-        ensures can { IfSome result (λ _. CanMerge KU.order KU.lent VU.lent KU.shown VU.shown self.new) }
-        ensures kept { IfNone result (merged KU.order
-            (old_left KU.lent VU.lent KU.shown VU.shown) (new_left KU.lent VU.lent KU.shown VU.shown)
-            self.new ≡ merged KU.order
-            (old_left KU.lent VU.lent KU.shown VU.shown) (new_left KU.lent VU.lent KU.shown VU.shown)
-            self.old) }
+        ensures takes { MayTake KU.order KU.lent VU.lent KU.shown VU.shown self.old result self.new }
         ensures ordered { IfNone result (CanCross KU.order KU.lent VU.lent KU.shown VU.shown self.new) }
     {
         KU::is_lent();

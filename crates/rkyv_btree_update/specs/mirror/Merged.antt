@@ -4,7 +4,7 @@ use Rattle.std.specs.Option.{option_map}
 use Rattle.std.specs.Ordering.{is_eq}
 use Rattle.std.specs.List.{AllByRecursion}
 use Rattle.std.specs.Map.{keys_of}
-use Rattle.std.specs.Prelude.{◌≡◌, ℕ, zero, suc, ◌+◌, ◌-◌, ◌<◌, List, [], ◌∷◌, length, Option, None, Some, IfSome, IsTrue, MatchOption}
+use Rattle.std.specs.Prelude.{◌≡◌, ℕ, zero, suc, ◌+◌, ◌-◌, ◌<◌, List, [], ◌∷◌, length, Option, None, Some, IfNone, IfSome, IsTrue, MatchOption}
 use Rattle.std.specs.declared.cmp.Ordering.{Ordering}
 use Rattle.std.specs.declared.cmp.Ordering.TheVariants.{Less}
 use Rattle.rkyv_btree_base.specs.Increasing.{Increasing}
@@ -105,6 +105,15 @@ module _ {M K V A B T U : Type 0} {g : ArchivedMap.Ghosts M K V} {m : Portable.G
   pub record CanMerge (s : Updates M A B K V g m k v) : Type 0 where
     pub ordered : AreOrdered order (old_left key_lent value_lent key value) (new_left key_lent value_lent key value) s
     pub quiet : IsTrue s.quiet → IsQuiet s
+
+  abbrev all_left : Updates M A B K V g m k v → List (T × U)
+  all_left = merged order (old_left key_lent value_lent key value) (new_left key_lent value_lent key value)
+
+  -- the next entry was taken, or the same entries are to come
+  pub record MayTake (s : Updates M A B K V g m k v) (r : Option (A × B)) (t : Updates M A B K V g m k v) : Type 0 where
+    pub gives : IfSome r (λ entry. all_left s ≡ both key value entry ∷ all_left t)
+    pub can : IfSome r (λ _. CanMerge t)
+    pub kept : IfNone r (all_left t ≡ all_left s)
 
 -- what is left of a comparison of two maps: the changes, and how many entries
 module _ {M K V A B T U : Type 0} {g : ArchivedMap.Ghosts M K V} {m : Portable.Ghosts M} {k : Portable.Ghosts K} {v : Portable.Ghosts V} where

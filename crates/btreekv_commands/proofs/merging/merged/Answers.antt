@@ -12,9 +12,9 @@ returns-in-Ok-clause-ok c =
     (entries_of text_kind text_kind 5 c.args.second.view))) (sym c.into_vec.ensures)
     (strict_archive c.new-writer.result c.merge.new.writer c.in-Ok.field-0
     (put_over (entries_of text_kind text_kind 5 c.args.first.view) (entries_of text_kind text_kind 5 c.args.second.view)) c.new-writer.ensures
-    c.in-Ok.ensures.went.1.base (c.in-Ok.ensures.strict bytes_lent bytes_lent) c.in-Ok.ensures.end)
+    c.in-Ok.ensures.appended.went.1.base (c.in-Ok.ensures.ok bytes_lent bytes_lent).strict c.in-Ok.ensures.appended.end)
 
 pub returns-in-Err-clause-err : goal.returns-in-Err-clause-err
 returns-in-Err-clause-err c =
     unwritten (put_over (entries_of text_kind text_kind 5 c.args.first.view) (entries_of text_kind text_kind 5 c.args.second.view))
-    c.new-writer.result c.merge.new.writer c.in-Err.fault c.new-writer.ensures c.in-Err.ensures.err
+    c.new-writer.result c.merge.new.writer c.in-Err.fault c.new-writer.ensures c.in-Err.ensures.err.cause

@@ -14,7 +14,7 @@ returns-in-Ok-clause-ok c =
     (changes_meant (λ k. k.now) (λ v. v.now) c.args.changes.now))) (sym c.into_vec.ensures)
     (strict_archive c.new-writer.result c.update.new.writer c.in-Ok.field-0
     (changed_entries (entries_of text_kind text_kind 5 c.args.map.view) (changes_meant (λ k. k.now) (λ v. v.now) c.args.changes.now))
-    c.new-writer.ensures c.in-Ok.ensures.went.1.base (c.in-Ok.ensures.strict bytes_lent bytes_lent) c.in-Ok.ensures.end)
+    c.new-writer.ensures c.in-Ok.ensures.appended.went.1.base (c.in-Ok.ensures.ok bytes_lent bytes_lent).strict c.in-Ok.ensures.appended.end)
 
 pub returns-in-Ok-clause-in_order : goal.returns-in-Ok-clause-in_order
 returns-in-Ok-clause-in_order c = increase c.args.changes.now c.in-Ok.ensures.in_order
@@ -24,4 +24,4 @@ returns-in-Err-clause-err c =
     subst (λ (f : UpdateFault). FailsChanges (entries_of text_kind text_kind 5 c.args.map.view)
     (changes_meant (λ k. k.now) (λ v. v.now) c.args.changes.now) f) (sym c.change_fault.ensures)
     (fails_changes (entries_of text_kind text_kind 5 c.args.map.view) c.args.changes.now c.update.new.writer c.new-writer.result c.in-Err.fault
-    c.new-writer.ensures c.in-Err.ensures.err)
+    c.new-writer.ensures c.in-Err.ensures.err.cause)

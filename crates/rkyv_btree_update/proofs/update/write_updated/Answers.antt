@@ -1,9 +1,9 @@
 -- The merge is written.
 use Rattle.std.proofs.Common.{length, map, refl, sym, ap, ◌∙◌, arith}
-use Rattle.std.proofs.lemmas.Result.{IfOk-weaker, IfErr-weaker, err_from_is_err_and}
-use Rattle.rkyv_btree_strict.proofs.Migrated.{then_appended, then_begins}
+use Rattle.std.proofs.lemmas.Result.{IfOk-weaker, err_from_is_err_and}
+use Rattle.rkyv_btree_writing_laws.proofs.Kept.{same_begins}
 use Rattle.rkyv_btree_update.proofs.Counted.{counted_none, counted_some}
-use Rattle.rkyv_btree_update.proofs.Ends.{map_ends}
+use Rattle.rkyv_btree_update.proofs.Ends.{map_appended}
 use Rattle.rkyv_btree_update.proofs.Meant.{entries_through, read_meant, shown_increase, shown_updated}
 use Rattle.rkyv_btree_update.proofs.Merged.{can_start, merged_lists}
 use Rattle.rkyv_btree_update.proofs.Writes.{items_are, smallest_built, unbuilt, unrooted, writes_smallest}
@@ -47,7 +47,7 @@ returns-in_default-clause-err g c =
     let old = old_left {g = g.M.ArchivedMap} {m = g.M.Portable} {k = g.K.Portable} {v = g.V.Portable} g.KU.CompareArchived.lent g.VU.CompareArchived.lent key_shown value_shown in
     let new = new_left {g = g.M.ArchivedMap} {m = g.M.Portable} {k = g.K.Portable} {v = g.V.Portable} g.KU.CompareArchived.lent g.VU.CompareArchived.lent key_shown value_shown in
     let entries = shown_of g.K.Portable.kind g.V.Portable.kind g.M.ArchivedMap.E g.KU.CompareArchived.lent g.VU.CompareArchived.lent view in
-    too_many refl (counted_none _ c.requires.counted c.in_default.is) refl
+    record { cause = too_many refl (counted_none _ c.requires.counted c.in_default.is) refl; kept = same_begins (g.W.Writer.state c.args.writer.now) (g.W.Writer.state c.args.writer.now) refl }
 
 pub returns-in_err-root-clause-err : goal.returns-in_err-root-clause-err
 returns-in_err-root-clause-err g c =
@@ -61,8 +61,11 @@ returns-in_err-root-clause-err g c =
     let written = merged_lists g.KU.CompareArchived.order old new c.new-entries.result entries changes c.new-entries.ensures.old c.new-entries.ensures.new in
     let p = err_from_is_err_and c.from_residual.result c.from_residual.ensures.1 in
     rw (p.1, p.2)
-    (unbuilt g.K.Portable.kind g.V.Portable.kind g.row.E g.KU.Archive.archival g.VU.Archive.archival key_shown value_shown (merged g.KU.CompareArchived.order old new) c.new-entries.result (updated g.KU.CompareArchived.order entries changes) written c.in-Some.len (counted_some _ c.requires.counted c.in-Some.is).0
-    (g.W.Writer.state c.args.writer.now) c.in_err-root.field-0.0 (g.W.Writer.state c.serialize_from_ordered_iter.new.writer) c.in_err-root.ensures.err.cause)
+    (record {
+      cause = unbuilt g.K.Portable.kind g.V.Portable.kind g.row.E g.KU.Archive.archival g.VU.Archive.archival key_shown value_shown (merged g.KU.CompareArchived.order old new) c.new-entries.result (updated g.KU.CompareArchived.order entries changes) written c.in-Some.len (counted_some _ c.requires.counted c.in-Some.is).0
+    (g.W.Writer.state c.args.writer.now) c.in_err-root.field-0.0 (g.W.Writer.state c.serialize_from_ordered_iter.new.writer) c.in_err-root.ensures.err.cause;
+      kept = c.in_err-root.ensures.err.kept;
+    })
 
 pub returns-clause-smallest : goal.returns-clause-smallest
 returns-clause-smallest g c keys values =
@@ -100,14 +103,8 @@ returns-clause-err g c =
     let entries = shown_of g.K.Portable.kind g.V.Portable.kind g.M.ArchivedMap.E g.KU.CompareArchived.lent g.VU.CompareArchived.lent view in
     let written = merged_lists g.KU.CompareArchived.order old new c.new-entries.result entries changes c.new-entries.ensures.old c.new-entries.ensures.new in
     unrooted g.K.Portable.kind g.V.Portable.kind g.row.E g.KU.Archive.archival g.VU.Archive.archival key_shown value_shown (merged g.KU.CompareArchived.order old new) c.new-entries.result (updated g.KU.CompareArchived.order entries changes) written c.in-Some.len (counted_some _ c.requires.counted c.in-Some.is).0
-    (g.W.Writer.state c.args.writer.now) c.in_ok-root.root (g.W.Writer.state c.serialize_from_ordered_iter.new.writer) (g.W.Writer.state c.write_root.new.writer) c.write_root.result c.in_ok-root.ensures.ok.written (IfErr-weaker c.write_root.result _ _ (λ fault failed. failed.cause) c.write_root.ensures.err)
+    (g.W.Writer.state c.args.writer.now) c.in_ok-root.root (g.W.Writer.state c.serialize_from_ordered_iter.new.writer) (g.W.Writer.state c.write_root.new.writer) c.write_root.result c.in_ok-root.ensures.ok.written c.in_ok-root.ensures.ok.went c.write_root.ensures.err
 
-pub returns-clause-went : goal.returns-clause-went
-returns-clause-went g c = IfOk-weaker c.write_root.result _ _ (λ at done. then_appended (g.W.Writer.state c.args.writer.now) (g.W.Writer.state c.serialize_from_ordered_iter.new.writer) (g.W.Writer.state c.write_root.new.writer) c.in_ok-root.ensures.ok.went done.went) c.write_root.ensures.ok
-
-pub returns-clause-kept : goal.returns-clause-kept
-returns-clause-kept g c = IfErr-weaker c.write_root.result _ _ (λ fault failed. then_begins (g.W.Writer.state c.args.writer.now) (g.W.Writer.state c.serialize_from_ordered_iter.new.writer) (g.W.Writer.state c.write_root.new.writer) c.in_ok-root.ensures.ok.went failed.kept) c.write_root.ensures.err
-
-pub returns-clause-end : goal.returns-clause-end
-returns-clause-end g c =
-    map_ends c.write_root.result (g.W.Writer.state c.serialize_from_ordered_iter.new.writer) (g.W.Writer.state c.write_root.new.writer) c.in_ok-root.root c.in-Some.len (IfOk-weaker c.write_root.result _ _ (λ at done. done.pos) c.write_root.ensures.ok) (IfOk-weaker c.write_root.result _ _ (λ at done. done.wrote) c.write_root.ensures.ok)
+pub returns-clause-appended : goal.returns-clause-appended
+returns-clause-appended g c =
+    map_appended c.write_root.result (g.W.Writer.state c.args.writer.now) (g.W.Writer.state c.serialize_from_ordered_iter.new.writer) (g.W.Writer.state c.write_root.new.writer) c.in_ok-root.root c.in-Some.len c.in_ok-root.ensures.ok.went c.write_root.ensures.ok
