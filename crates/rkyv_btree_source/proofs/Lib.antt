@@ -10,6 +10,7 @@ pub mod Lacking
 pub mod Pairs
 pub mod Parts
 pub mod Sorted
+pub mod Sourced
 pub mod Spent
 pub mod Taking
 pub mod Texts

@@ -2,4 +2,5 @@
 pub mod Known
 pub mod Reading
 pub mod Reads
+pub mod Sourced
 pub mod mirror

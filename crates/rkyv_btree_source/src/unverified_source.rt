@@ -1,20 +1,12 @@
 //! Maps in a source of bytes that nobody has validated.
-ghost use Rattle.std.specs.BTreeMap.{is_at};
-ghost use Rattle.std.specs.Map.{lookup};
-ghost use Rattle.std.specs.Option.{option_map};
-ghost use Rattle.std.specs.Prelude.{◌≡◌, ◌+◌, ◌≤◌, ◌<◌, ℕ, List, Some, None, Ok, Err, IfOk, IfErr, IsTrue, is_some, length};
-ghost use Rattle.rkyv_btree_base.specs.Increasing.{Increasing};
+ghost use Rattle.std.specs.Prelude.{◌≡◌, ◌+◌, ◌≤◌, ◌<◌, ℕ, List, Some, None, Ok, Err, IfOk, IfErr, IsTrue, length};
 ghost use Rattle.rkyv_btree_base.specs.Layout.{are_fitting, layout_of, inner_size};
 ghost use Rattle.rkyv_btree_base.specs.Map.{map_kind};
 ghost use Rattle.rkyv_btree_base.specs.Refusal.TheVariants.{TooLong};
 ghost use Rattle.rkyv_btree_base.specs.Whole.{own_at};
-ghost use Rattle.rkyv_btree_source.specs.Reading.{IfRead, IfRefused, IsCaused, IsOfSize, most_read};
-ghost use Rattle.rkyv_btree_source.specs.Reads.{EachFits, Lacks, Reads, Takes};
-ghost use Rattle.rkyv_btree_unverified.specs.Lookups.{FindsAt, LookupGives};
-ghost use Rattle.rkyv_btree_unverified.specs.Steps.{value_place};
+ghost use Rattle.rkyv_btree_source.specs.Reading.{IfRead, IfRefused, IsOfSize};
+ghost use Rattle.rkyv_btree_source.specs.Sourced.{IsBounded, LeavesSource, ReadsParts, ReadsValue, ReadsWhether};
 ghost use Rattle.rkyv_btree_view.specs.Lookup.{ByNative};
-ghost use Rattle.rkyv_btree_view.specs.Map.{IsMap};
-ghost use Rattle.rkyv_btree_view.specs.View.{view_value};
 ghost use Rattle.rkyv_btree_source.specs.Known.{AreOf};
 
 use crate::fetch::Fetch;
@@ -153,53 +145,18 @@ impl<S: ReadAt, K: Fetch, V: Fetch, M: ArchivedMap<Key = K, Mapped = V>> Unverif
     where
         K: CompareWith<T>,
         requires { length lent.old ≤ 4294967295 }
-        // What is found reads as the value beside an equal key, which is where the search of the bytes comes to.
-        ensures places { (b : List ℕ) → AreOf (S.known self.old.reader.source) b →
-            ByNative K.kind K.compared_at key (λ comparison. IfOk result (λ found.
-            FindsAt K.kind V.kind M.E b comparison K.Refuses V.Refuses self.old.pos
-            (λ e. V.kind.read b (value_place K.kind V.kind M.E e)) (option_map view_value found))) }
-        ensures refused { (b : List ℕ) → AreOf (S.known self.old.reader.source) b →
-            ByNative K.kind K.compared_at key (λ comparison. IfErr result (IfRefused (λ refusal.
-            LookupGives K.kind V.kind M.E b comparison K.Refuses V.Refuses self.old.pos
-            (Err refusal)))) }
-        // In a map nothing is refused, and this is what std's lookup finds.
-        ensures accepts { (b : List ℕ) → AreOf (S.known self.old.reader.source) b → (m : _) →
-            IsMap K.kind V.kind M.E b self.old.pos m → IfErr result (IfRefused (λ _. ⊥)) }
-        ensures sorted { (b : List ℕ) → AreOf (S.known self.old.reader.source) b → (m : _) →
-            IsMap K.kind V.kind M.E b self.old.pos m → Increasing K.kind.order m →
-            ByNative K.kind K.compared_at key (λ comparison.
-            IfOk result (λ found. option_map view_value found ≡ lookup (is_at comparison) m)) }
-        ensures same { S.known self.new.reader.source ≡ S.known self.old.reader.source }
-        ensures fails { IfErr result (IfRead (S.Fails (S.known self.old.reader.source))) }
-        ensures position { self.new.pos ≡ self.old.pos }
-        ensures budget { self.new.reader.left ≤ self.old.reader.left }
-        // This is what all reads of a lookup take of the budget.
-        ensures spent { self.old.reader.left ≤
-            self.new.reader.left + most_read M.E (self.old.pos + 8) }
-        // No part that is read or needed has more bytes than there are up to the map's end, or in a source
-        // whose bytes are known.
-        ensures caused { IfErr result (IsCaused (self.old.pos + 8)
-            (inner_size (layout_of K.kind V.kind M.E)) (length lent.old) self.new.reader.left) }
-        ensures known { (b : List ℕ) → AreOf (S.known self.old.reader.source) b →
-            IfErr result (IsCaused (length b)
-            (inner_size (layout_of K.kind V.kind M.E)) (length lent.old) self.new.reader.left) }
-        // A lookup that ends takes the bytes of what it reads of the budget, and no others.
-        ensures takes { (b : List ℕ) → AreOf (S.known self.old.reader.source) b →
-            ByNative K.kind K.compared_at key (λ comparison. IfOk result (λ _. (all : ℕ)
-            × Takes K.kind V.kind M.E b K.lengths V.lengths comparison self.old.pos all
-            × (self.old.reader.left ≡ self.new.reader.left + all))) }
-        // Where the budget or the lent buffer is too small, one part that the lookup reads doesn't fit.
-        ensures lacks { (b : List ℕ) → AreOf (S.known self.old.reader.source) b →
-            ByNative K.kind K.compared_at key (λ comparison. IfErr result
-            (Lacks K.kind V.kind M.E b K.lengths V.lengths
-            (Reads K.kind V.kind M.E b K.lengths V.lengths comparison self.old.pos)
-            (inner_size (layout_of K.kind V.kind M.E)) self.old.reader.left (length lent.old))) }
-        // And a lookup that ends had room for all of them.
-        ensures fits { (b : List ℕ) → AreOf (S.known self.old.reader.source) b →
-            ByNative K.kind K.compared_at key (λ comparison. IfOk result (λ _.
-            EachFits K.kind V.kind M.E b K.lengths V.lengths
-            (Reads K.kind V.kind M.E b K.lengths V.lengths comparison self.old.pos)
-            (inner_size (layout_of K.kind V.kind M.E)) (length lent.old))) }
+        ensures same_as { (b : List ℕ) → AreOf (S.known self.old.reader.source) b →
+            ReadsValue K.kind M.E K.Refuses V.Refuses b self.old.pos
+            (ByNative K.kind K.compared_at key) result }
+        ensures reads { (b : List ℕ) → AreOf (S.known self.old.reader.source) b →
+            ReadsParts K.kind V.kind M.E K.lengths V.lengths b self.old.pos
+            (ByNative K.kind K.compared_at key) (length lent.old) self.old.reader.left
+            self.new.reader.left result }
+        ensures bounded { IsBounded M.E (S.known self.old.reader.source) (self.old.pos + 8)
+            (inner_size (layout_of K.kind V.kind M.E)) (length lent.old) self.old.reader.left
+            self.new.reader.left result }
+        ensures source { LeavesSource (S.known self.old.reader.source)
+            (S.known self.new.reader.source) S.Fails self.old.pos self.new.pos result }
     {
         let page_len = inner_size::<K, V, M>();
         if lent.len() < page_len as usize {
@@ -233,53 +190,18 @@ impl<S: ReadAt, K: Fetch, V: Fetch, M: ArchivedMap<Key = K, Mapped = V>> Unverif
     where
         K: CompareWith<T>,
         requires { length lent.old ≤ 4294967295 }
-        // This says whether an equal key is where the search of the bytes comes to.
-        ensures places { (b : List ℕ) → AreOf (S.known self.old.reader.source) b →
-            ByNative K.kind K.compared_at key (λ comparison. IfOk result (λ found. (entry : _)
-            × LookupGives K.kind V.kind M.E b comparison K.Refuses V.Refuses self.old.pos (Ok entry)
-            × (found ≡ is_some entry))) }
-        ensures refused { (b : List ℕ) → AreOf (S.known self.old.reader.source) b →
-            ByNative K.kind K.compared_at key (λ comparison. IfErr result (IfRefused (λ refusal.
-            LookupGives K.kind V.kind M.E b comparison K.Refuses V.Refuses self.old.pos
-            (Err refusal)))) }
-        // In a map nothing is refused, and this is what std's lookup says.
-        ensures accepts { (b : List ℕ) → AreOf (S.known self.old.reader.source) b → (m : _) →
-            IsMap K.kind V.kind M.E b self.old.pos m → IfErr result (IfRefused (λ _. ⊥)) }
-        ensures sorted { (b : List ℕ) → AreOf (S.known self.old.reader.source) b → (m : _) →
-            IsMap K.kind V.kind M.E b self.old.pos m → Increasing K.kind.order m →
-            ByNative K.kind K.compared_at key (λ comparison.
-            IfOk result (λ found. found ≡ is_some (lookup (is_at comparison) m))) }
-        ensures same { S.known self.new.reader.source ≡ S.known self.old.reader.source }
-        ensures fails { IfErr result (IfRead (S.Fails (S.known self.old.reader.source))) }
-        ensures position { self.new.pos ≡ self.old.pos }
-        ensures budget { self.new.reader.left ≤ self.old.reader.left }
-        // This is what all reads of a lookup take of the budget.
-        ensures spent { self.old.reader.left ≤
-            self.new.reader.left + most_read M.E (self.old.pos + 8) }
-        // No part that is read or needed has more bytes than there are up to the map's end, or in a source
-        // whose bytes are known.
-        ensures caused { IfErr result (IsCaused (self.old.pos + 8)
-            (inner_size (layout_of K.kind V.kind M.E)) (length lent.old) self.new.reader.left) }
-        ensures known { (b : List ℕ) → AreOf (S.known self.old.reader.source) b →
-            IfErr result (IsCaused (length b)
-            (inner_size (layout_of K.kind V.kind M.E)) (length lent.old) self.new.reader.left) }
-        // A lookup that ends takes the bytes of what it reads of the budget, and no others.
-        ensures takes { (b : List ℕ) → AreOf (S.known self.old.reader.source) b →
-            ByNative K.kind K.compared_at key (λ comparison. IfOk result (λ _. (all : ℕ)
-            × Takes K.kind V.kind M.E b K.lengths V.lengths comparison self.old.pos all
-            × (self.old.reader.left ≡ self.new.reader.left + all))) }
-        // Where the budget or the lent buffer is too small, one part that the lookup reads doesn't fit.
-        ensures lacks { (b : List ℕ) → AreOf (S.known self.old.reader.source) b →
-            ByNative K.kind K.compared_at key (λ comparison. IfErr result
-            (Lacks K.kind V.kind M.E b K.lengths V.lengths
-            (Reads K.kind V.kind M.E b K.lengths V.lengths comparison self.old.pos)
-            (inner_size (layout_of K.kind V.kind M.E)) self.old.reader.left (length lent.old))) }
-        // And a lookup that ends had room for all of them.
-        ensures fits { (b : List ℕ) → AreOf (S.known self.old.reader.source) b →
-            ByNative K.kind K.compared_at key (λ comparison. IfOk result (λ _.
-            EachFits K.kind V.kind M.E b K.lengths V.lengths
-            (Reads K.kind V.kind M.E b K.lengths V.lengths comparison self.old.pos)
-            (inner_size (layout_of K.kind V.kind M.E)) (length lent.old))) }
+        ensures same_as { (b : List ℕ) → AreOf (S.known self.old.reader.source) b →
+            ReadsWhether K.kind V.kind M.E K.Refuses V.Refuses b self.old.pos
+            (ByNative K.kind K.compared_at key) result }
+        ensures reads { (b : List ℕ) → AreOf (S.known self.old.reader.source) b →
+            ReadsParts K.kind V.kind M.E K.lengths V.lengths b self.old.pos
+            (ByNative K.kind K.compared_at key) (length lent.old) self.old.reader.left
+            self.new.reader.left result }
+        ensures bounded { IsBounded M.E (S.known self.old.reader.source) (self.old.pos + 8)
+            (inner_size (layout_of K.kind V.kind M.E)) (length lent.old) self.old.reader.left
+            self.new.reader.left result }
+        ensures source { LeavesSource (S.known self.old.reader.source)
+            (S.known self.new.reader.source) S.Fails self.old.pos self.new.pos result }
     {
         match self.get_by(key, lent) {
             Err(fault) => Err(fault),

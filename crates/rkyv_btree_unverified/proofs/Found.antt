@@ -1,11 +1,10 @@
 -- What a lookup returns, as its caller reads it.
-use Rattle.std.proofs.Common.{◌≡◌, ℕ, IsSome, IfSome, List, Option, Some, None, Result, Ok, Err, sym, ap, ◌∙◌, subst}
+use Rattle.std.proofs.Common.{◌≡◌, ℕ, IsSome, List, Option, Some, None, Result, Ok, Err, sym, ap, ◌∙◌, subst}
 use Rattle.std.specs.BTreeMap.{is_at}
 use Rattle.std.specs.Map.{lookup_entry}
 use Rattle.std.specs.Option.{option_map}
 use Rattle.std.specs.Prelude.{◌↔◌}
 use Rattle.std.specs.declared.cmp.Ordering.{Ordering}
-use Rattle.std.specs.declared.cmp.Ordering.TheVariants.{Equal}
 use Rattle.rkyv_btree_base.proofs.MapLaws.{map_laws}
 use Rattle.rkyv_btree_base.specs.Kind.{Kind, IsLawful}
 use Rattle.rkyv_btree_base.specs.Layout.{layout_of}
@@ -43,11 +42,6 @@ module _ (K V : Kind) (E : ℕ) (b : List ℕ) (comparison : K.Value → Orderin
   no_error place r e h m = let same = one_lookup K V E b comparison KR VR k v kr vr at (Ok place) (Err e) h m in absurd (cc same)
 
 module _ (K V : Kind) (E : ℕ) (b : List ℕ) (comparison : K.Value → Ordering) where
-  -- what is found is equal, as its place is
-  pub equal_found : (place : Option (ℕ × ℕ)) (found : Option (K.Value × V.Value)) → IfSome place (λ e. comparison_at K V E b comparison e ≡ Equal) → found ≡ option_map (entry_at K V E b) place → IfSome found (λ e. comparison e.0 ≡ Equal)
-  equal_found None found h is = rw is tt
-  equal_found (Some e) found h is = rw is h
-
   module _ (at : ℕ) (place : Option (ℕ × ℕ)) (found : Option (K.Value × V.Value)) (is : found ≡ option_map (entry_at K V E b) place) (searched : place ≡ (searched_map (layout_of K V E) b (comparison_at K V E b comparison) at).0) where
     -- on a map it is what a lookup in a view of it finds
     pub as_checked : found ≡ found_at K V E b at comparison

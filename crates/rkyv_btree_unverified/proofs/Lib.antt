@@ -9,6 +9,7 @@ pub mod Faultless
 pub mod Found
 pub mod Froms
 pub mod Goes
+pub mod Iterated
 pub mod Lent
 pub mod ManyGiven
 pub mod ManyWays
@@ -18,6 +19,7 @@ pub mod OnWays
 pub mod Passes
 pub mod Pending
 pub mod Places
+pub mod Promised
 pub mod Sought
 pub mod Taken
 pub mod Until

@@ -1,30 +1,30 @@
 -- What many lookups give is what each lookup gives.
-use Rattle.std.proofs.Common.{◌≡◌, ◌∙◌, ℕ, ◌<◌, IsTrue, List, length, [], ◌∷◌, Option, Some, None, Result, Ok, refl, sym, ap, arith, subst, inl, inr}
+use Rattle.std.proofs.Common.{◌≡◌, ◌∙◌, ℕ, ◌<◌, IfSome, IsTrue, List, length, [], ◌∷◌, Option, Some, None, Result, Ok, Err, refl, sym, ap, arith, subst, inl, inr}
 use Rattle.std.proofs.lemmas.Option.{slice_get_cases}
 use Rattle.std.specs.BTreeMap.{is_at}
 use Rattle.std.specs.Iterator.{Drains}
 use Rattle.std.specs.List.{AllZip}
-use Rattle.std.specs.Map.{lookup_entry}
 use Rattle.std.specs.Option.{option_map}
+use Rattle.std.specs.Prelude.{IsOk}
 use Rattle.std.specs.declared.cmp.Ordering.{Ordering}
+use Rattle.std.specs.declared.cmp.Ordering.TheVariants.{Equal}
 use Rattle.rkyv_btree_base.specs.Kind.{Kind, IsLawful}
-use Rattle.rkyv_btree_base.specs.Layout.{are_fitting, layout_of}
-use Rattle.rkyv_btree_base.specs.Read.{entry_at}
+use Rattle.rkyv_btree_base.specs.Layout.{are_fitting}
 use Rattle.rkyv_btree_base.specs.Refusal.{Refusal}
 use Rattle.rkyv_btree_base.specs.Refusing.{AreRefusals}
 use Rattle.rkyv_btree_portable.specs.declared.check.Portable
-use Rattle.rkyv_btree_unverified.proofs.Found.{as_checked, sorted_finds}
 use Rattle.rkyv_btree_unverified.proofs.OnMaps.{lookup_is}
+use Rattle.rkyv_btree_unverified.proofs.Promised.{Cuts, Follows, failed, is_equal, is_found, is_sorted, succeeded}
 use Rattle.rkyv_btree_unverified.specs.Ends.{result_of, way_at}
+use Rattle.rkyv_btree_unverified.specs.Given.{GivesKey, GivesValue}
 use Rattle.rkyv_btree_unverified.specs.Lookups.{LookupGives}
-use Rattle.rkyv_btree_unverified.specs.UnverifiedLookups.{IsLookupOf, Shows, YieldsLeft}
+use Rattle.rkyv_btree_unverified.specs.Steps.{key_place, value_place}
+use Rattle.rkyv_btree_unverified.specs.UnverifiedLookups.{Shows, YieldsLeft}
 use Rattle.rkyv_btree_unverified.specs.declared.unverified_many.UnverifiedWay.{UnverifiedWay}
 use Rattle.rkyv_btree_unverified.specs.mirror.Many.{AreWaysOf, EndStands}
-use Rattle.rkyv_btree_view.specs.Lookup.{found_at}
+use Rattle.rkyv_btree_view.proofs.LookedUp.{key_of_entry, value_of_entry}
 use Rattle.rkyv_btree_view.specs.Map.{IsMap}
-use Rattle.rkyv_btree_view.specs.Query.{IsCut}
 use Rattle.rkyv_btree_view.specs.declared.view.View.{View}
-use Rattle.rkyv_btree_walk.specs.mirror.Search.{comparison_at, searched_map}
 
 -- all items of an iterator are those that are left
 pub drained_left : {S X : Type 0} (AreLeft : S → List X → Type 0) (s : S) (xs : List X) → Drains (YieldsLeft AreLeft) s xs → AreLeft s xs
@@ -41,35 +41,57 @@ zip_both S both (x ∷ xs) [] zs p q = absurd p
 zip_both S both (x ∷ xs) (y ∷ ys) [] p q = absurd q
 zip_both S both (x ∷ xs) (y ∷ ys) (z ∷ zs) p q = (both x y z p.0 q.0, zip_both S both xs ys zs p.1 q.1)
 
--- a part of what a function gives
-pub part_mapped : {A B C : Type 0} (part : B → C) (f : A → B) (o : Option A) → option_map part (option_map f o) ≡ option_map (λ a. part (f a)) o
-part_mapped part f None = refl
-part_mapped part f (Some a) = refl
+-- what shows the end of a search is what a lookup gives: a value
+module _ (K : Kind) {B : Type 0} {v : Portable.Ghosts B} (E : ℕ) (b : List ℕ) (KR VR : List ℕ → ℕ → ℕ → ℕ → Refusal → Type 0) (lk : IsLawful K) (lv : IsLawful v.kind) (kr : AreRefusals K KR) (vr : AreRefusals v.kind VR)
+    (fits : IsTrue (are_fitting K v.kind E)) (at : ℕ) {By : ((K.Value → Ordering) → Type 0) → Type 0} (follows : Follows By) (cuts : By (Cuts K b)) where
+  pub given_value : (end : Result (Option (ℕ × ℕ)) Refusal) (r : Result (Option (View B v)) Refusal) → By (λ c. LookupGives K v.kind E b c KR VR at end) → ((m : List (K.Value × v.kind.Value)) → IsMap K v.kind E b at m → IsOk end)
+      → Shows K v.kind E b (value_place K v.kind E) (λ e. e.1) end r → GivesValue K E KR VR b at By r
+  given_value (Err e) r given accepts s = rw s (record {
+    fails = failed K v.kind E b KR VR lk lv kr vr at follows e given accepts;
+    places = follows.both _ _ _ (λ c h g. tt) given given;
+    buffer = tt;
+    found = λ m is. follows.both _ _ _ (λ c h g. tt) given given;
+    sorted = λ m is rises. follows.both _ _ _ (λ c h g. tt) given given;
+  })
+  given_value (Ok place) r given accepts s = rw s.1 (record {
+    fails = succeeded K v.kind E b KR VR lk lv kr vr at follows place s.0 given;
+    places = follows.both _ _ _ (λ c h g. (place, h, s.3)) given given;
+    buffer = s.2;
+    found = λ m is. follows.both _ _ _ (λ c h g. s.4 ∙ ap (option_map (λ e. e.1)) (is_found K v.kind E b KR VR lk lv kr vr at fits place c m is h)) given given;
+    sorted = λ m is rises. follows.both _ _ _ (λ c h cut. s.4 ∙ ap (option_map (λ e. e.1)) (is_sorted K v.kind E b KR VR lk lv kr vr at fits place c m is h rises cut) ∙ value_of_entry (is_at c) m) given cuts;
+  })
 
-module _ (K V : Kind) (E : ℕ) (b : List ℕ) (comparison : K.Value → Ordering) (KR VR : List ℕ → ℕ → ℕ → ℕ → Refusal → Type 0)
-    (k : IsLawful K) (v : IsLawful V) (kr : AreRefusals K KR) (vr : AreRefusals V VR) (fits : IsTrue (are_fitting K V E)) (at : ℕ)
-    (cut : K.Value → Ordering) (is_cut : IsCut K.order cut) (agree : (p : ℕ) → comparison (K.read b p) ≡ cut (K.read b p)) where
-  -- what the search of a map finds
-  abbrev end : Option (ℕ × ℕ)
-  end = (searched_map (layout_of K V E) b (comparison_at K V E b comparison) at).0
+-- the key of an equal entry is equal
+key_of : {A B : Type 0} (c : A → Ordering) (o : Option (A × B)) → IfSome o (λ e. c e.0 ≡ Equal) → IfSome (option_map (λ e. e.0) o) (λ key. c key ≡ Equal)
+key_of c None h = tt
+key_of c (Some e) h = h
 
-  module _ {X : Type 0} {x : Portable.Ghosts X} (place : ℕ × ℕ → ℕ) (part : K.Value × V.Value → x.kind.Value) (in_list : List (K.Value × V.Value) → Option x.kind.Value)
-      (listed : (m : List (K.Value × V.Value)) → option_map part (lookup_entry (is_at comparison) m) ≡ in_list m) where
-    -- what shows what a lookup gives is what a lookup returns
-    pub is_lookup_of : (given : Result (Option (ℕ × ℕ)) Refusal) (r : Result (Option (View X x)) Refusal) → LookupGives K V E b comparison KR VR at given → Shows K V E b place part given r
-        → IsLookupOf K V E b place part comparison KR VR at in_list r
-    is_lookup_of given r gives shows =
-        let found_is : option_map (entry_at K V E b) end ≡ found_at K V E b at comparison = as_checked K V E b comparison at end _ refl refl in
-        let on_map : (m : List (K.Value × V.Value)) → IsMap K V E b at m → Shows K V E b place part (Ok end) r =
-        λ m is. subst (λ (g : Result (Option (ℕ × ℕ)) Refusal). Shows K V E b place part g r) (lookup_is K V E b comparison KR VR k v kr vr fits at m is given gives) shows in
-        record {
-          gives = (given, gives, shows);
-          accepts = λ m is. rw (on_map m is).1 refl;
-          found = λ m is. let there = on_map m is in rw there.1 (there.4 ∙ ap (option_map part) found_is);
-          sorted = λ m is rises.
-              let there = on_map m is in
-              rw there.1 (there.4 ∙ ap (option_map part) (sorted_finds K V E b comparison at end _ refl refl k v m is cut is_cut agree rises) ∙ listed m);
-        }
+-- and a key
+module _ {A : Type 0} {k : Portable.Ghosts A} (V : Kind) (E : ℕ) (b : List ℕ) (KR VR : List ℕ → ℕ → ℕ → ℕ → Refusal → Type 0) (lk : IsLawful k.kind) (lv : IsLawful V) (kr : AreRefusals k.kind KR) (vr : AreRefusals V VR)
+    (fits : IsTrue (are_fitting k.kind V E)) (at : ℕ) {By : ((k.kind.Value → Ordering) → Type 0) → Type 0} (follows : Follows By) (cuts : By (Cuts k.kind b)) where
+  pub given_key : (end : Result (Option (ℕ × ℕ)) Refusal) (r : Result (Option (View A k)) Refusal) → By (λ c. LookupGives k.kind V E b c KR VR at end) → ((m : List (k.kind.Value × V.Value)) → IsMap k.kind V E b at m → IsOk end)
+      → Shows k.kind V E b (key_place k.kind V E) (λ e. e.0) end r → GivesKey V E KR VR b at By r
+  given_key (Err e) r given accepts s = rw s (record {
+    fails = failed k.kind V E b KR VR lk lv kr vr at follows e given accepts;
+    equal = follows.both _ _ _ (λ c h g. tt) given given;
+    places = follows.both _ _ _ (λ c h g. tt) given given;
+    buffer = tt;
+    found = λ m is. follows.both _ _ _ (λ c h g. tt) given given;
+    sorted = λ m is rises. follows.both _ _ _ (λ c h g. tt) given given;
+  })
+  given_key (Ok place) r given accepts s = rw s.1 (record {
+    fails = succeeded k.kind V E b KR VR lk lv kr vr at follows place s.0 given;
+    equal = follows.both _ _ _ (λ c h g. rw s.4 (key_of c _ (is_equal k.kind V E b KR VR lk lv kr vr at place c h))) given given;
+    places = follows.both _ _ _ (λ c h g. (place, h, s.3)) given given;
+    buffer = s.2;
+    found = λ m is. follows.both _ _ _ (λ c h g. s.4 ∙ ap (option_map (λ e. e.0)) (is_found k.kind V E b KR VR lk lv kr vr at fits place c m is h)) given given;
+    sorted = λ m is rises. follows.both _ _ _ (λ c h cut. s.4 ∙ ap (option_map (λ e. e.0)) (is_sorted k.kind V E b KR VR lk lv kr vr at fits place c m is h rises cut) ∙ key_of_entry (is_at c) m) given cuts;
+  })
+
+-- on a map a search has no error
+pub no_error_on_map : (K V : Kind) (E : ℕ) (b : List ℕ) (KR VR : List ℕ → ℕ → ℕ → ℕ → Refusal → Type 0) → IsLawful K → IsLawful V → AreRefusals K KR → AreRefusals V VR → IsTrue (are_fitting K V E) → (at : ℕ) (c : K.Value → Ordering) (end : Result (Option (ℕ × ℕ)) Refusal)
+    → LookupGives K V E b c KR VR at end → (m : List (K.Value × V.Value)) → IsMap K V E b at m → IsOk end
+no_error_on_map K V E b KR VR k v kr vr fits at c end given m is = rw (lookup_is K V E b c KR VR k v kr vr fits at m is end given) refl
 
 -- what searches ended with stands
 pub searched_stand : {N : Type 0} (K V : Kind) (E : ℕ) (compared_at : N → List ℕ → ℕ → Ordering) (b : List ℕ) (KR VR : List ℕ → ℕ → ℕ → ℕ → Refusal → Type 0) (at : ℕ) (ways : List UnverifiedWay) (keys : List N)

@@ -1,6 +1,8 @@
 -- What lookups promise in bytes that nobody has validated.
 pub mod Ends
 pub mod EntriesFrom
+pub mod Given
+pub mod Iterating
 pub mod Left
 pub mod Lookups
 pub mod Steps

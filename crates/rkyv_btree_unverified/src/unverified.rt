@@ -1,24 +1,21 @@
 //! Maps that nobody has validated.
-ghost use Rattle.std.specs.BTreeMap.{is_at};
-ghost use Rattle.std.specs.Map.{lookup, lookup_entry};
 ghost use Rattle.std.specs.Option.{option_map};
-ghost use Rattle.std.specs.Prelude.{◌≡◌, ◌↔◌, ◌≤◌, ◌<◌, ◌+◌, ◌-◌, ◌*◌, Err, Ok, IfErr, IfOk, IfSome, IsOk, IsSome, IsTrue, is_some, length, ⊤};
-ghost use Rattle.std.specs.declared.cmp.Ordering.TheVariants.{Equal};
+ghost use Rattle.std.specs.Prelude.{◌≡◌, ◌↔◌, ◌≤◌, ◌<◌, ◌+◌, ◌-◌, ◌*◌, Err, Ok, IfErr, IfOk, IfSome, IsOk, IsTrue, length, ⊤};
 ghost use Rattle.rkyv_btree_base.specs.Layout.{are_fitting, layout_of};
 ghost use Rattle.rkyv_btree_base.specs.Map.{map_kind};
-ghost use Rattle.rkyv_btree_base.specs.Read.{entry_at, map_tree, read_map};
+ghost use Rattle.rkyv_btree_base.specs.Read.{entry_at, map_tree};
 ghost use Rattle.rkyv_btree_base.specs.Refusal.{Refusal};
 ghost use Rattle.rkyv_btree_base.specs.Refusal.TheVariants.{TooLong};
 ghost use Rattle.rkyv_btree_base.specs.Refusals.{RefusesMap, map_len};
 ghost use Rattle.rkyv_btree_base.specs.Refusing.{Misplaced};
 ghost use Rattle.rkyv_btree_base.specs.Whole.{own_at};
-ghost use Rattle.rkyv_btree_base.specs.Increasing.{Increasing};
-ghost use Rattle.rkyv_btree_unverified.specs.Lookups.{FindsAt, LookupGives, LookupGivesWithin};
-ghost use Rattle.rkyv_btree_unverified.specs.Steps.{entry_places, places, value_place};
-ghost use Rattle.rkyv_btree_view.specs.Lookup.{found_at, ByComparison, ByNative};
+ghost use Rattle.rkyv_btree_unverified.specs.Given.{ByKey, GivesEntry, GivesEntryWith, GivesValue, GivesWhether};
+ghost use Rattle.rkyv_btree_unverified.specs.Lookups.{LookupGivesWithin};
+ghost use Rattle.rkyv_btree_unverified.specs.Steps.{entry_places, places};
+ghost use Rattle.rkyv_btree_view.specs.Lookup.{ByComparison, ByNative};
 ghost use Rattle.rkyv_btree_view.specs.Map.{IsMap};
 ghost use Rattle.rkyv_btree_view.specs.View.{entries_of, view_value, view_entry};
-ghost use Rattle.rkyv_btree_walk.specs.Search.{comparisons, shown_value, AnyHit, OrderedBy};
+ghost use Rattle.rkyv_btree_walk.specs.Search.{comparisons, shown_value};
 ghost use Rattle.rkyv_btree_walk.specs.mirror.Node.{RunStands};
 
 use crate::unverified_search::search;
@@ -169,44 +166,11 @@ impl<'a, K: CheckBytes, V: CheckBytes, M: ArchivedMap<Key = K, Mapped = V>> Unve
         cmp: C,
     ) -> Result<Option<(View<'a, K>, View<'a, V>)>, Refusal>
         requires { C.IsAlwaysCallable cmp }
-        // On all bytes what is found is equal, and stands where the search comes to.
-        ensures equal { ByComparison (C.post cmp) (shown_value K.kind W.Shows) key.now (λ comparison.
-            IfOk result (λ found. IfSome (option_map view_entry found) (λ e. comparison e.0 ≡ Equal))) }
-        ensures places { ByComparison (C.post cmp) (shown_value K.kind W.Shows) key.now (λ comparison.
-            IfOk result (λ found.
-            FindsAt K.kind V.kind M.E self.entry.buf.now comparison K.Refuses V.Refuses self.entry.pos
-            (entry_places K.kind V.kind M.E) (option_map places found))) }
-        ensures buffer { IfOk result (λ found. IfSome found (λ e.
-            (e.0.buf.now ≡ self.entry.buf.now) × (e.1.buf.now ≡ self.entry.buf.now))) }
-        // On a map there is no error, and this is what a lookup in a view of it finds.
-        ensures accepts { (m : _) → IsMap K.kind V.kind M.E self.entry.buf.now self.entry.pos m →
-            IsOk result }
-        ensures found { (m : _) → IsMap K.kind V.kind M.E self.entry.buf.now self.entry.pos m →
-            ByComparison (C.post cmp) (shown_value K.kind W.Shows) key.now (λ comparison.
-            IfOk result (λ found. option_map view_entry found
-            ≡ found_at K.kind V.kind M.E self.entry.buf.now self.entry.pos comparison)) }
-        ensures complete { (m : _) → IsMap K.kind V.kind M.E self.entry.buf.now self.entry.pos m →
-            ByComparison (C.post cmp) (shown_value K.kind W.Shows) key.now (λ comparison.
-            IfOk result (λ found. OrderedBy (λ e. comparison e.0) m →
-            (IsSome found ↔ AnyHit (λ e. comparison e.0) m))) }
-        // Each error has its cause, and each cause its error.
-        ensures refused { ByComparison (C.post cmp) (shown_value K.kind W.Shows) key.now (λ comparison.
-            IfErr result (λ refusal.
-            LookupGives K.kind V.kind M.E self.entry.buf.now comparison K.Refuses V.Refuses
-            self.entry.pos (Err refusal))) }
-        ensures all_refused { ByComparison (C.post cmp) (shown_value K.kind W.Shows) key.now (λ comparison.
-            (refusal : Refusal) →
-            LookupGives K.kind V.kind M.E self.entry.buf.now comparison K.Refuses V.Refuses
-            self.entry.pos (Err refusal) → result ≡ Err refusal) }
+        ensures { GivesEntryWith M.E K.Refuses V.Refuses self.entry.buf.now
+            self.entry.pos (ByComparison (C.post cmp) (shown_value K.kind W.Shows) key.now) result }
     {
-        let compare = |query: &Q, key: W| Compared::of(cmp(query, key));
         let (mut steps, mut nodes) = (StepCounter::new(), StepCounter::new());
-        match search::<Q, K, V, M, W, _>(
-            self.buf, self.pos, key, &compare, &mut steps, &mut nodes, false,
-        ) {
-            Err(refusal) => Err(refusal),
-            Ok(found) => Ok(self.entry_found(found)),
-        }
+        self.get_key_value_counted::<Q, W, C>(key, cmp, &mut steps, &mut nodes)
     }
 
     /// Returns what `get_key_value_with` returns. It adds one to `steps` for each key that it reads, and one to `nodes` for each
@@ -245,35 +209,8 @@ impl<'a, K: CheckBytes, V: CheckBytes, M: ArchivedMap<Key = K, Mapped = V>> Unve
             IfOk result (λ _. steps.new ≡ steps.old + comparisons (λ e. comparison e.0)
             (entry_at K.kind V.kind M.E self.entry.buf.now)
             (map_tree (layout_of K.kind V.kind M.E) self.entry.buf.now self.entry.pos))) }
-        // On all bytes what is found is equal, and stands where the search comes to.
-        ensures equal { ByComparison (C.post cmp) (shown_value K.kind W.Shows) key.now (λ comparison.
-            IfOk result (λ found. IfSome (option_map view_entry found) (λ e. comparison e.0 ≡ Equal))) }
-        ensures places { ByComparison (C.post cmp) (shown_value K.kind W.Shows) key.now (λ comparison.
-            IfOk result (λ found.
-            FindsAt K.kind V.kind M.E self.entry.buf.now comparison K.Refuses V.Refuses self.entry.pos
-            (entry_places K.kind V.kind M.E) (option_map places found))) }
-        ensures buffer { IfOk result (λ found. IfSome found (λ e.
-            (e.0.buf.now ≡ self.entry.buf.now) × (e.1.buf.now ≡ self.entry.buf.now))) }
-        // On a map there is no error, and this is what a lookup in a view of it finds.
-        ensures accepts { (m : _) → IsMap K.kind V.kind M.E self.entry.buf.now self.entry.pos m →
-            IsOk result }
-        ensures found { (m : _) → IsMap K.kind V.kind M.E self.entry.buf.now self.entry.pos m →
-            ByComparison (C.post cmp) (shown_value K.kind W.Shows) key.now (λ comparison.
-            IfOk result (λ found. option_map view_entry found
-            ≡ found_at K.kind V.kind M.E self.entry.buf.now self.entry.pos comparison)) }
-        ensures complete { (m : _) → IsMap K.kind V.kind M.E self.entry.buf.now self.entry.pos m →
-            ByComparison (C.post cmp) (shown_value K.kind W.Shows) key.now (λ comparison.
-            IfOk result (λ found. OrderedBy (λ e. comparison e.0) m →
-            (IsSome found ↔ AnyHit (λ e. comparison e.0) m))) }
-        // Each error has its cause, and each cause its error.
-        ensures refused { ByComparison (C.post cmp) (shown_value K.kind W.Shows) key.now (λ comparison.
-            IfErr result (λ refusal.
-            LookupGives K.kind V.kind M.E self.entry.buf.now comparison K.Refuses V.Refuses
-            self.entry.pos (Err refusal))) }
-        ensures all_refused { ByComparison (C.post cmp) (shown_value K.kind W.Shows) key.now (λ comparison.
-            (refusal : Refusal) →
-            LookupGives K.kind V.kind M.E self.entry.buf.now comparison K.Refuses V.Refuses
-            self.entry.pos (Err refusal) → result ≡ Err refusal) }
+        ensures gives { GivesEntryWith M.E K.Refuses V.Refuses self.entry.buf.now
+            self.entry.pos (ByComparison (C.post cmp) (shown_value K.kind W.Shows) key.now) result }
     {
         let compare = |query: &Q, key: W| Compared::of(cmp(query, key));
         match search::<Q, K, V, M, W, _>(self.buf, self.pos, key, &compare, steps, nodes, false) {
@@ -301,35 +238,8 @@ impl<
     ) -> Result<Option<(View<'a, K>, View<'a, V>)>, Refusal>
     where
         K: CompareWith<T>,
-        // On all bytes what is found is equal, and stands where the search comes to.
-        ensures equal { ByNative K.kind K.compared_at key (λ comparison.
-            IfOk result (λ found. IfSome (option_map view_entry found) (λ e. comparison e.0 ≡ Equal))) }
-        ensures places { ByNative K.kind K.compared_at key (λ comparison.
-            IfOk result (λ found.
-            FindsAt K.kind V.kind M.E self.entry.buf.now comparison K.Refuses V.Refuses self.entry.pos
-            (entry_places K.kind V.kind M.E) (option_map places found))) }
-        ensures buffer { IfOk result (λ found. IfSome found (λ e.
-            (e.0.buf.now ≡ self.entry.buf.now) × (e.1.buf.now ≡ self.entry.buf.now))) }
-        // On a map there is no error, and this is what a lookup in a view of it finds.
-        ensures accepts { (m : _) → IsMap K.kind V.kind M.E self.entry.buf.now self.entry.pos m →
-            IsOk result }
-        ensures found { (m : _) → IsMap K.kind V.kind M.E self.entry.buf.now self.entry.pos m →
-            ByNative K.kind K.compared_at key (λ comparison.
-            IfOk result (λ found. option_map view_entry found
-            ≡ found_at K.kind V.kind M.E self.entry.buf.now self.entry.pos comparison)) }
-        ensures sorted { (m : _) → IsMap K.kind V.kind M.E self.entry.buf.now self.entry.pos m →
-            Increasing K.kind.order m →
-            ByNative K.kind K.compared_at key (λ comparison.
-            IfOk result (λ found. option_map view_entry found ≡ lookup_entry (is_at comparison) m)) }
-        // Each error has its cause, and each cause its error.
-        ensures refused { ByNative K.kind K.compared_at key (λ comparison.
-            IfErr result (λ refusal.
-            LookupGives K.kind V.kind M.E self.entry.buf.now comparison K.Refuses V.Refuses
-            self.entry.pos (Err refusal))) }
-        ensures all_refused { ByNative K.kind K.compared_at key (λ comparison.
-            (refusal : Refusal) →
-            LookupGives K.kind V.kind M.E self.entry.buf.now comparison K.Refuses V.Refuses
-            self.entry.pos (Err refusal) → result ≡ Err refusal) }
+        ensures { GivesEntry M.E K.Refuses V.Refuses self.entry.buf.now
+            self.entry.pos (ByNative K.kind K.compared_at key) result }
     {
         let all = K::is_plain();
         let compare = |query: &T, key: View<K>| K::compared(query, &key);
@@ -350,33 +260,8 @@ impl<
     pub fn get_by<T: Drop>(self, key: T) -> Result<Option<View<'a, V>>, Refusal>
     where
         K: CompareWith<T>,
-        // On all bytes what is found is the value beside an equal key, which stands where the search comes to.
-        ensures places { ByNative K.kind K.compared_at key (λ comparison.
-            IfOk result (λ found.
-            FindsAt K.kind V.kind M.E self.entry.buf.now comparison K.Refuses V.Refuses self.entry.pos
-            (value_place K.kind V.kind M.E) (option_map (λ value. value.pos) found))) }
-        ensures buffer { IfOk result (λ found. IfSome found (λ value. value.buf.now
-            ≡ self.entry.buf.now)) }
-        // On a map there is no error, and this is what a lookup in a view of it finds.
-        ensures accepts { (m : _) → IsMap K.kind V.kind M.E self.entry.buf.now self.entry.pos m →
-            IsOk result }
-        ensures found { (m : _) → IsMap K.kind V.kind M.E self.entry.buf.now self.entry.pos m →
-            ByNative K.kind K.compared_at key (λ comparison.
-            IfOk result (λ found. option_map view_value found ≡ option_map (λ e.
-            e.1) (found_at K.kind V.kind M.E self.entry.buf.now self.entry.pos comparison))) }
-        ensures sorted { (m : _) → IsMap K.kind V.kind M.E self.entry.buf.now self.entry.pos m →
-            Increasing K.kind.order m →
-            ByNative K.kind K.compared_at key (λ comparison.
-            IfOk result (λ found. option_map view_value found ≡ lookup (is_at comparison) m)) }
-        // Each error has its cause, and each cause its error.
-        ensures refused { ByNative K.kind K.compared_at key (λ comparison.
-            IfErr result (λ refusal.
-            LookupGives K.kind V.kind M.E self.entry.buf.now comparison K.Refuses V.Refuses
-            self.entry.pos (Err refusal))) }
-        ensures all_refused { ByNative K.kind K.compared_at key (λ comparison.
-            (refusal : Refusal) →
-            LookupGives K.kind V.kind M.E self.entry.buf.now comparison K.Refuses V.Refuses
-            self.entry.pos (Err refusal) → result ≡ Err refusal) }
+        ensures { GivesValue K.kind M.E K.Refuses V.Refuses self.entry.buf.now
+            self.entry.pos (ByNative K.kind K.compared_at key) result }
     {
         match self.get_key_value_by(key) {
             Err(refusal) => Err(refusal),
@@ -393,30 +278,8 @@ impl<
     pub fn contains_by<T: Drop>(self, key: T) -> Result<bool, Refusal>
     where
         K: CompareWith<T>,
-        // On all bytes this says whether an equal key stands where the search comes to.
-        ensures places { ByNative K.kind K.compared_at key (λ comparison.
-            IfOk result (λ found. (entry : _) × LookupGives K.kind V.kind M.E self.entry.buf.now
-            comparison K.Refuses V.Refuses self.entry.pos (Ok entry) × (found ≡ is_some entry))) }
-        // On a map there is no error, and this is what a lookup in a view of it finds.
-        ensures accepts { (m : _) → IsMap K.kind V.kind M.E self.entry.buf.now self.entry.pos m →
-            IsOk result }
-        ensures found { (m : _) → IsMap K.kind V.kind M.E self.entry.buf.now self.entry.pos m →
-            ByNative K.kind K.compared_at key (λ comparison.
-            IfOk result (λ found. found
-            ≡ is_some (found_at K.kind V.kind M.E self.entry.buf.now self.entry.pos comparison))) }
-        ensures sorted { (m : _) → IsMap K.kind V.kind M.E self.entry.buf.now self.entry.pos m →
-            Increasing K.kind.order m →
-            ByNative K.kind K.compared_at key (λ comparison.
-            IfOk result (λ found. found ≡ is_some (lookup (is_at comparison) m))) }
-        // Each error has its cause, and each cause its error.
-        ensures refused { ByNative K.kind K.compared_at key (λ comparison.
-            IfErr result (λ refusal.
-            LookupGives K.kind V.kind M.E self.entry.buf.now comparison K.Refuses V.Refuses
-            self.entry.pos (Err refusal))) }
-        ensures all_refused { ByNative K.kind K.compared_at key (λ comparison.
-            (refusal : Refusal) →
-            LookupGives K.kind V.kind M.E self.entry.buf.now comparison K.Refuses V.Refuses
-            self.entry.pos (Err refusal) → result ≡ Err refusal) }
+        ensures { GivesWhether K.kind V.kind M.E K.Refuses V.Refuses self.entry.buf.now
+            self.entry.pos (ByNative K.kind K.compared_at key) result }
     {
         match self.get_by(key) {
             Err(refusal) => Err(refusal),
@@ -440,35 +303,8 @@ impl<
         self,
         key: View<'_, K>,
     ) -> Result<Option<(View<'a, K>, View<'a, V>)>, Refusal>
-        // On all bytes what is found is equal, and stands where the search comes to.
-        ensures equal { let comparison = K.kind.order (view_value key.entry) in
-            IfOk result (λ found. IfSome (option_map view_entry found) (λ e. comparison e.0 ≡ Equal)) }
-        ensures places { let comparison = K.kind.order (view_value key.entry) in
-            IfOk result (λ found.
-            FindsAt K.kind V.kind M.E self.entry.buf.now comparison K.Refuses V.Refuses self.entry.pos
-            (entry_places K.kind V.kind M.E) (option_map places found)) }
-        ensures buffer { IfOk result (λ found. IfSome found (λ e.
-            (e.0.buf.now ≡ self.entry.buf.now) × (e.1.buf.now ≡ self.entry.buf.now))) }
-        // On a map there is no error, and this is what a lookup in a view of it finds.
-        ensures accepts { (m : _) → IsMap K.kind V.kind M.E self.entry.buf.now self.entry.pos m →
-            IsOk result }
-        ensures found { (m : _) → IsMap K.kind V.kind M.E self.entry.buf.now self.entry.pos m →
-            let comparison = K.kind.order (view_value key.entry) in
-            IfOk result (λ found. option_map view_entry found
-            ≡ found_at K.kind V.kind M.E self.entry.buf.now self.entry.pos comparison) }
-        ensures sorted { (m : _) → IsMap K.kind V.kind M.E self.entry.buf.now self.entry.pos m →
-            Increasing K.kind.order m →
-            let comparison = K.kind.order (view_value key.entry) in
-            IfOk result (λ found. option_map view_entry found ≡ lookup_entry (is_at comparison) m) }
-        // Each error has its cause, and each cause its error.
-        ensures refused { let comparison = K.kind.order (view_value key.entry) in
-            IfErr result (λ refusal.
-            LookupGives K.kind V.kind M.E self.entry.buf.now comparison K.Refuses V.Refuses
-            self.entry.pos (Err refusal)) }
-        ensures all_refused { let comparison = K.kind.order (view_value key.entry) in
-            (refusal : Refusal) →
-            LookupGives K.kind V.kind M.E self.entry.buf.now comparison K.Refuses V.Refuses
-            self.entry.pos (Err refusal) → result ≡ Err refusal }
+        ensures { GivesEntry M.E K.Refuses V.Refuses self.entry.buf.now
+            self.entry.pos (ByKey K.kind (view_value key.entry)) result }
     {
         let compare = |query: &View<'_, K>, key: View<K>| Compared::of(K::compare(query, &key));
         let (mut steps, mut nodes) = (StepCounter::new(), StepCounter::new());
@@ -486,33 +322,8 @@ impl<
     ///
     /// The first fault in what the search reads. No memory is allocated.
     pub fn get(self, key: View<'_, K>) -> Result<Option<View<'a, V>>, Refusal>
-        // On all bytes what is found is the value beside an equal key, which stands where the search comes to.
-        ensures places { let comparison = K.kind.order (view_value key.entry) in
-            IfOk result (λ found.
-            FindsAt K.kind V.kind M.E self.entry.buf.now comparison K.Refuses V.Refuses self.entry.pos
-            (value_place K.kind V.kind M.E) (option_map (λ value. value.pos) found)) }
-        ensures buffer { IfOk result (λ found. IfSome found (λ value. value.buf.now
-            ≡ self.entry.buf.now)) }
-        // On a map there is no error, and this is what a lookup in a view of it finds.
-        ensures accepts { (m : _) → IsMap K.kind V.kind M.E self.entry.buf.now self.entry.pos m →
-            IsOk result }
-        ensures found { (m : _) → IsMap K.kind V.kind M.E self.entry.buf.now self.entry.pos m →
-            let comparison = K.kind.order (view_value key.entry) in
-            IfOk result (λ found. option_map view_value found ≡ option_map (λ e.
-            e.1) (found_at K.kind V.kind M.E self.entry.buf.now self.entry.pos comparison)) }
-        ensures sorted { (m : _) → IsMap K.kind V.kind M.E self.entry.buf.now self.entry.pos m →
-            Increasing K.kind.order m →
-            let comparison = K.kind.order (view_value key.entry) in
-            IfOk result (λ found. option_map view_value found ≡ lookup (is_at comparison) m) }
-        // Each error has its cause, and each cause its error.
-        ensures refused { let comparison = K.kind.order (view_value key.entry) in
-            IfErr result (λ refusal.
-            LookupGives K.kind V.kind M.E self.entry.buf.now comparison K.Refuses V.Refuses
-            self.entry.pos (Err refusal)) }
-        ensures all_refused { let comparison = K.kind.order (view_value key.entry) in
-            (refusal : Refusal) →
-            LookupGives K.kind V.kind M.E self.entry.buf.now comparison K.Refuses V.Refuses
-            self.entry.pos (Err refusal) → result ≡ Err refusal }
+        ensures { GivesValue K.kind M.E K.Refuses V.Refuses self.entry.buf.now
+            self.entry.pos (ByKey K.kind (view_value key.entry)) result }
     {
         match self.get_key_value(key) {
             Err(refusal) => Err(refusal),
@@ -527,30 +338,8 @@ impl<
     ///
     /// The first fault in what the search reads. No memory is allocated.
     pub fn contains_key(self, key: View<'_, K>) -> Result<bool, Refusal>
-        // On all bytes this says whether an equal key stands where the search comes to.
-        ensures places { let comparison = K.kind.order (view_value key.entry) in
-            IfOk result (λ found. (entry : _) × LookupGives K.kind V.kind M.E self.entry.buf.now
-            comparison K.Refuses V.Refuses self.entry.pos (Ok entry) × (found ≡ is_some entry)) }
-        // On a map there is no error, and this is what a lookup in a view of it finds.
-        ensures accepts { (m : _) → IsMap K.kind V.kind M.E self.entry.buf.now self.entry.pos m →
-            IsOk result }
-        ensures found { (m : _) → IsMap K.kind V.kind M.E self.entry.buf.now self.entry.pos m →
-            let comparison = K.kind.order (view_value key.entry) in
-            IfOk result (λ found. found
-            ≡ is_some (found_at K.kind V.kind M.E self.entry.buf.now self.entry.pos comparison)) }
-        ensures sorted { (m : _) → IsMap K.kind V.kind M.E self.entry.buf.now self.entry.pos m →
-            Increasing K.kind.order m →
-            let comparison = K.kind.order (view_value key.entry) in
-            IfOk result (λ found. found ≡ is_some (lookup (is_at comparison) m)) }
-        // Each error has its cause, and each cause its error.
-        ensures refused { let comparison = K.kind.order (view_value key.entry) in
-            IfErr result (λ refusal.
-            LookupGives K.kind V.kind M.E self.entry.buf.now comparison K.Refuses V.Refuses
-            self.entry.pos (Err refusal)) }
-        ensures all_refused { let comparison = K.kind.order (view_value key.entry) in
-            (refusal : Refusal) →
-            LookupGives K.kind V.kind M.E self.entry.buf.now comparison K.Refuses V.Refuses
-            self.entry.pos (Err refusal) → result ≡ Err refusal }
+        ensures { GivesWhether K.kind V.kind M.E K.Refuses V.Refuses self.entry.buf.now
+            self.entry.pos (ByKey K.kind (view_value key.entry)) result }
     {
         match self.get(key) {
             Err(refusal) => Err(refusal),

@@ -2,8 +2,10 @@
 ghost use Rattle.std.specs.Iterator.{Drains, IsFinite};
 ghost use Rattle.std.specs.List.{AllZip};
 ghost use Rattle.std.specs.Prelude.{◌≡◌, ◌≤◌, ◌<◌, ◌+◌, ℕ, [], IfSome, OnSome, length};
+ghost use Rattle.rkyv_btree_base.specs.Scalars.{unit_kind};
 ghost use Rattle.rkyv_btree_unverified.specs.Ends.{result_of, way_at};
-ghost use Rattle.rkyv_btree_unverified.specs.UnverifiedLookups.{IsKeyLookup, IsValueLookup, Shows, YieldsLeft};
+ghost use Rattle.rkyv_btree_unverified.specs.Given.{GivesKey, GivesValue};
+ghost use Rattle.rkyv_btree_unverified.specs.UnverifiedLookups.{Shows, YieldsLeft};
 ghost use Rattle.rkyv_btree_unverified.specs.Steps.{key_place, value_place};
 ghost use Rattle.rkyv_btree_unverified.specs.mirror.Many.{AreWaysOf, EndStands};
 ghost use Rattle.rkyv_btree_view.specs.Lookup.{ByNative};
@@ -311,9 +313,8 @@ impl<
         // Each item is what `get_by` returns for its key.
         ensures yields { (items : _) →
             Drains ⟦<UnverifiedLookups<'a, 'k, M, T> as Iterator>⟧.next_gives result items →
-            AllZip (λ key item. ByNative K.kind K.compared_at key (λ comparison.
-            IsValueLookup K.kind M.E self.entry.buf.now comparison K.Refuses V.Refuses
-            self.entry.pos item)) keys.now items }
+            AllZip (λ key item. GivesValue K.kind M.E K.Refuses V.Refuses self.entry.buf.now
+            self.entry.pos (ByNative K.kind K.compared_at key) item) keys.now items }
         ensures count { lookups_left result ≡ length keys.now }
         ensures ends { IsFinite
             (⟦<UnverifiedLookups<'a, 'k, M, T> as Iterator>⟧.remaining result) }
@@ -341,9 +342,9 @@ impl<'a, K: CheckBytes, const E: usize> Unverified<'a, ArchivedBTreeSet<K, E>> {
         ensures yields { (items : _) →
             Drains ⟦<UnverifiedKeyLookups<'a, 'k, ArchivedBTreeSet<K, E>, T> as Iterator>⟧.next_gives
             result items →
-            AllZip (λ key item. ByNative K.kind K.compared_at key (λ comparison.
-            IsKeyLookup E self.entry.buf.now comparison K.Refuses
-            ⟦<() as CheckBytes>⟧.Refuses self.entry.pos item)) keys.now items }
+            AllZip (λ key item. GivesKey unit_kind E K.Refuses ⟦<() as CheckBytes>⟧.Refuses
+            self.entry.buf.now self.entry.pos (ByNative K.kind K.compared_at key) item)
+            keys.now items }
         ensures count { key_lookups_left result ≡ length keys.now }
         ensures ends { IsFinite
             (⟦<UnverifiedKeyLookups<'a, 'k, ArchivedBTreeSet<K, E>, T> as Iterator>⟧.remaining result) }

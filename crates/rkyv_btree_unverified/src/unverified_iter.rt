@@ -1,15 +1,13 @@
 //! Iterators over the entries of maps that nobody has validated.
-ghost use Rattle.std.specs.Prelude.{◌≡◌, ◌≤◌, ◌*◌, ◌/◌, ℕ, Ok, IsTrue, length, map};
-ghost use Rattle.std.specs.Iterator.{IsFinite};
-ghost use Rattle.rkyv_btree_base.specs.Layout.{are_fitting, layout_of, leaf_size};
-ghost use Rattle.rkyv_btree_unverified.specs.Walks.{Fails, IsFaultless};
+ghost use Rattle.std.specs.Prelude.{◌≡◌, ◌/◌, ℕ, Ok, IsTrue, map};
+ghost use Rattle.rkyv_btree_base.specs.Layout.{are_fitting, leaf_size};
+ghost use Rattle.rkyv_btree_unverified.specs.Walks.{IsFaultless};
 ghost use Rattle.rkyv_btree_unverified.specs.mirror.Walked.{IsCounted, HasLeft, IsTaken, places_of};
 ghost use Rattle.rkyv_btree_unverified.specs.mirror.Faultless.{FaultlessLeft};
 ghost use Rattle.rkyv_btree_unverified.specs.laws.Walked.{counted-prop, left-prop, faultless-prop};
 ghost use Rattle.rkyv_btree_unverified.specs.Steps.{places, entry_places};
-ghost use Rattle.rkyv_btree_view.specs.Map.{IsMap};
 ghost use Rattle.rkyv_btree_view.specs.View.{view_entry};
-ghost use Rattle.rkyv_btree_base.specs.Read.{entry_at, read_map};
+ghost use Rattle.rkyv_btree_base.specs.Read.{entry_at};
 
 use crate::unverified::{Unverified, UnverifiedEntries};
 use crate::unverified_node::leaf_size;
@@ -98,7 +96,8 @@ impl<
     V: CheckBytes,
     M: ArchivedMap<Key = K, Mapped = V> + UnverifiedEntries,
 > Unverified<'a, M> {
-    ghost use Rattle.rkyv_btree_unverified.specs.UnverifiedIter.{buffer_of, position_of, entries_left, most_left, Agrees, IfNoError, ShowsItems};
+    ghost use Rattle.rkyv_btree_unverified.specs.Iterating.{IsAtMap, IteratesAll};
+    ghost use Rattle.rkyv_btree_unverified.specs.UnverifiedIter.{buffer_of, position_of, entries_left, most_left};
 
     /// Returns an iterator over the entries, in order. It validates each node, key and value when it comes to it. No memory is
     /// allocated, by the iterator either.
@@ -116,26 +115,11 @@ impl<
     /// }
     /// ```
     pub fn iter(self) -> UnverifiedIter<'a, M>
-        ensures buffer { buffer_of result ≡ self.entry.buf.now }
-        ensures position { position_of result ≡ self.entry.pos }
-        // On all bytes it ends, after no more entries than the leaves that fit into the buffer can have.
-        ensures most { most_left result
-            ≤ M.E * (length self.entry.buf.now / leaf_size (layout_of K.kind V.kind M.E)) }
-        ensures ends { IsFinite (⟦<UnverifiedIter<'a, M> as Iterator>⟧.remaining result) }
-        // The items are the entries to which the pointers lead, in order, to their end or up to an error.
-        ensures whole { entries_left result
-            ≡ read_map K.kind V.kind M.E self.entry.buf.now self.entry.pos }
-        ensures agrees { Agrees ⟦<UnverifiedIter<'a, M> as Iterator>⟧.next_gives
-            (Fails K.kind V.kind M.E self.entry.buf.now K.Refuses V.Refuses self.entry.pos)
-            view_entry result (read_map K.kind V.kind M.E self.entry.buf.now self.entry.pos) }
-        // If no item is an error, nothing to which the pointers lead is at fault.
-        ensures faultless { IfNoError ⟦<UnverifiedIter<'a, M> as Iterator>⟧.next_gives result
-            (IsFaultless K.kind V.kind M.E self.entry.buf.now self.entry.pos) }
-        // On a map the items are its entries, and no error.
-        ensures yields { (m : _) → IsMap K.kind V.kind M.E self.entry.buf.now self.entry.pos m →
-            ShowsItems ⟦<UnverifiedIter<'a, M> as Iterator>⟧.next_gives view_entry result m }
-        ensures entries { (m : _) → IsMap K.kind V.kind M.E self.entry.buf.now self.entry.pos m →
-            entries_left result ≡ m }
+        ensures at { IsAtMap K.kind V.kind M.E self.entry.buf.now self.entry.pos (buffer_of result)
+            (position_of result) (most_left result) }
+        ensures items { IteratesAll K.kind V.kind M.E K.Refuses V.Refuses self.entry.buf.now
+            self.entry.pos ⟦<UnverifiedIter<'a, M> as Iterator>⟧ view_entry (λ m. m) result
+            (entries_left result) }
     {
         UnverifiedIter {
             buf: self.buf,

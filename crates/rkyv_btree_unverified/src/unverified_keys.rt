@@ -1,11 +1,6 @@
 //! Iterators over the keys of sets that nobody has validated.
-ghost use Rattle.std.specs.Prelude.{◌≡◌, ◌≤◌, ◌*◌, ◌/◌, length};
-ghost use Rattle.std.specs.Iterator.{IsFinite};
-ghost use Rattle.rkyv_btree_base.specs.Layout.{layout_of, leaf_size};
-ghost use Rattle.rkyv_btree_base.specs.Read.{read_map};
+ghost use Rattle.std.specs.Prelude.{◌≡◌, ◌/◌};
 ghost use Rattle.rkyv_btree_base.specs.Scalars.{unit_kind};
-ghost use Rattle.rkyv_btree_unverified.specs.Walks.{Fails, IsFaultless};
-ghost use Rattle.rkyv_btree_view.specs.Map.{IsMap};
 ghost use Rattle.rkyv_btree_view.specs.View.{view_value};
 ghost use Rattle.std.specs.Map.{keys_of};
 
@@ -62,7 +57,7 @@ impl<'a, K: CheckBytes, V: CheckBytes, M: ArchivedMap<Key = K, Mapped = V>> Fuse
     for UnverifiedKeys<'a, M> {}
 
 impl<'a, K: CheckBytes, const E: usize> Unverified<'a, ArchivedBTreeSet<K, E>> {
-    ghost use Rattle.rkyv_btree_unverified.specs.UnverifiedIter.{Agrees, IfNoError, ShowsItems};
+    ghost use Rattle.rkyv_btree_unverified.specs.Iterating.{IsAtMap, IteratesAll};
     ghost use Rattle.rkyv_btree_unverified.specs.UnverifiedKeys.{key_buffer_of, key_position_of, most_keys_left, unverified_keys_left};
 
     /// Returns an iterator over the keys, in order. It validates each node and each key when it comes to it. No memory is allocated, by
@@ -72,30 +67,12 @@ impl<'a, K: CheckBytes, const E: usize> Unverified<'a, ArchivedBTreeSet<K, E>> {
     /// comes after all of them. Keys before an error are valid, but the bytes may be no set. If no item is an error, nothing to which the
     /// pointers lead is at fault.
     pub fn iter(self) -> UnverifiedKeys<'a, ArchivedBTreeMap<K, (), E>>
-        ensures buffer { key_buffer_of result ≡ self.entry.buf.now }
-        ensures position { key_position_of result ≡ self.entry.pos }
-        // On all bytes it ends, after no more keys than the leaves that fit into the buffer can have.
-        ensures most { most_keys_left result
-            ≤ E * (length self.entry.buf.now / leaf_size (layout_of K.kind unit_kind E)) }
-        ensures ends { IsFinite (⟦<UnverifiedKeys<'a, ArchivedBTreeMap<K, (), E>> as Iterator>⟧.remaining result) }
-        // The items are the keys to which the pointers lead, in order, to their end or up to an error.
-        ensures whole { unverified_keys_left result
-            ≡ keys_of (read_map K.kind unit_kind E self.entry.buf.now self.entry.pos) }
-        ensures agrees { Agrees ⟦<UnverifiedKeys<'a, ArchivedBTreeMap<K, (), E>> as Iterator>⟧.next_gives
-            (Fails K.kind unit_kind E self.entry.buf.now K.Refuses
-            ⟦<() as CheckBytes>⟧.Refuses self.entry.pos)
-            view_value result
-            (keys_of (read_map K.kind unit_kind E self.entry.buf.now self.entry.pos)) }
-        // If no item is an error, nothing to which the pointers lead is at fault.
-        ensures faultless { IfNoError
-            ⟦<UnverifiedKeys<'a, ArchivedBTreeMap<K, (), E>> as Iterator>⟧.next_gives result
-            (IsFaultless K.kind unit_kind E self.entry.buf.now self.entry.pos) }
-        // On a set the items are its keys, and no error.
-        ensures yields { (m : _) → IsMap K.kind unit_kind E self.entry.buf.now self.entry.pos m →
-            ShowsItems ⟦<UnverifiedKeys<'a, ArchivedBTreeMap<K, (), E>> as Iterator>⟧.next_gives
-            view_value result (keys_of m) }
-        ensures keys { (m : _) → IsMap K.kind unit_kind E self.entry.buf.now self.entry.pos m →
-            unverified_keys_left result ≡ keys_of m }
+        ensures at { IsAtMap K.kind unit_kind E self.entry.buf.now self.entry.pos
+            (key_buffer_of result) (key_position_of result) (most_keys_left result) }
+        ensures items { IteratesAll K.kind unit_kind E K.Refuses ⟦<() as CheckBytes>⟧.Refuses
+            self.entry.buf.now self.entry.pos
+            ⟦<UnverifiedKeys<'a, ArchivedBTreeMap<K, (), E>> as Iterator>⟧ view_value keys_of result
+            (unverified_keys_left result) }
     {
         UnverifiedKeys {
             entries: self.as_map().iter(),

@@ -1,18 +1,11 @@
 //! Ranges of the entries of maps that nobody has validated.
-ghost use Rattle.std.specs.Prelude.{◌≡◌, ◌≤◌, ◌*◌, ◌/◌, IfErr, IfOk, IsOk, IsTrue, length};
-ghost use Rattle.std.specs.Iterator.{IsFinite};
-ghost use Rattle.rkyv_btree_base.specs.Increasing.{Increasing};
-ghost use Rattle.rkyv_btree_base.specs.Layout.{are_fitting, layout_of, leaf_size};
-ghost use Rattle.rkyv_btree_base.specs.Read.{read_map};
-ghost use Rattle.rkyv_btree_unverified.specs.EntriesFrom.{entries_between, is_past_place};
-ghost use Rattle.rkyv_btree_unverified.specs.Walks.{Fails, WalkRefuses};
+ghost use Rattle.std.specs.Prelude.{◌≡◌, ◌/◌, IfOk, IsTrue};
+ghost use Rattle.rkyv_btree_base.specs.Layout.{are_fitting, leaf_size};
+ghost use Rattle.rkyv_btree_unverified.specs.EntriesFrom.{is_past_place};
 ghost use Rattle.rkyv_btree_unverified.specs.laws.Walked.{counted-prop};
 ghost use Rattle.rkyv_btree_unverified.specs.mirror.Walked.{IsCounted};
 ghost use Rattle.std.specs.declared.ops.Bound.TheVariants.{Unbounded};
-ghost use Rattle.rkyv_btree_view.specs.Map.{IsMap};
-ghost use Rattle.rkyv_btree_view.specs.Range.{ByNativeBounds};
 ghost use Rattle.rkyv_btree_view.specs.View.{view_entry};
-ghost use Rattle.rkyv_btree_walk.specs.Bounds.{IsRun, OrderedFor, entries_within};
 
 use crate::unverified::{Unverified, UnverifiedEntries};
 use crate::unverified_iter::entry;
@@ -116,7 +109,7 @@ impl<
     V: CheckBytes,
     M: ArchivedMap<Key = K, Mapped = V> + UnverifiedEntries,
 > Unverified<'a, M> {
-    ghost use Rattle.rkyv_btree_unverified.specs.UnverifiedIter.{Agrees, ShowsItems};
+    ghost use Rattle.rkyv_btree_unverified.specs.Iterating.{BeginsRange, IsAtMap, IteratesBetween};
     ghost use Rattle.rkyv_btree_unverified.specs.UnverifiedRange.{key_range, range_buffer_of, range_position_of, most_range_left, unverified_range_left};
 
     /// Returns an iterator over the entries whose keys are in a range of native values, as `3..=9` or `"b"..`, in order. It validates each
@@ -134,62 +127,17 @@ impl<
     ) -> Result<UnverifiedRange<'a, M, T, R>, Refusal>
     where
         K: CompareWith<T>,
-        ensures buffer { IfOk result (λ entries. range_buffer_of entries ≡ self.entry.buf.now) }
-        ensures position { IfOk result (λ entries. range_position_of entries ≡ self.entry.pos) }
+        ensures begins { BeginsRange K.kind V.kind M.E K.Refuses V.Refuses self.entry.buf.now
+            self.entry.pos result }
         ensures range { IfOk result (λ entries. key_range entries ≡ range) }
-        // On all bytes it ends, after no more entries than the leaves that fit into the buffer can have.
-        ensures most { IfOk result (λ entries. most_range_left entries
-            ≤ M.E * (length self.entry.buf.now / leaf_size (layout_of K.kind V.kind M.E))) }
-        ensures ends { IfOk result (λ entries.
-            IsFinite (⟦<UnverifiedRange<'a, M, T, R> as Iterator>⟧.remaining entries)) }
-        // An error has its cause, and the bytes are no map.
-        ensures refused { IfErr result
-            (WalkRefuses K.kind V.kind M.E self.entry.buf.now K.Refuses V.Refuses self.entry.pos) }
-        ensures accepts { (m : _) → IsMap K.kind V.kind M.E self.entry.buf.now self.entry.pos m →
-            IsOk result }
-        // Of the entries to which the pointers lead these are left, in any order of the keys.
-        ensures left { R.has_bounds range → IfOk result (λ entries.
-            unverified_range_left K.compared_at R.end_bound entries
-            ≡ entries_between K.kind V.kind M.E K.compared_at self.entry.buf.now
-            (R.start_bound range) (R.end_bound range) self.entry.pos) }
-        // The items are these, to their end or up to an error.
-        ensures agrees { R.has_bounds range → IfOk result (λ entries.
-            Agrees ⟦<UnverifiedRange<'a, M, T, R> as Iterator>⟧.next_gives
-            (Fails K.kind V.kind M.E self.entry.buf.now K.Refuses V.Refuses self.entry.pos)
-            view_entry entries
-            (entries_between K.kind V.kind M.E K.compared_at self.entry.buf.now
-            (R.start_bound range) (R.end_bound range) self.entry.pos)) }
-        // They are a contiguous run of all.
-        ensures run { IfOk result (λ entries. IsRun
-            (unverified_range_left K.compared_at R.end_bound entries)
-            (read_map K.kind V.kind M.E self.entry.buf.now self.entry.pos)) }
-        // Between no bounds they are all.
-        ensures whole { R.has_bounds range →
-            R.start_bound range ≡ Unbounded → R.end_bound range ≡ Unbounded →
-            IfOk result (λ entries. unverified_range_left K.compared_at R.end_bound entries
-            ≡ read_map K.kind V.kind M.E self.entry.buf.now self.entry.pos) }
-        // If the keys increase, they are all in the range.
-        ensures sorted { R.has_bounds range → ByNativeBounds K.kind K.compared_at
-            (R.start_bound range) (R.end_bound range) (λ lo hi.
-            Increasing K.kind.order (read_map K.kind V.kind M.E self.entry.buf.now self.entry.pos) →
-            IfOk result (λ entries. unverified_range_left K.compared_at R.end_bound entries
-            ≡ entries_within lo hi
-            (read_map K.kind V.kind M.E self.entry.buf.now self.entry.pos))) }
-        // So they are if the entries are ordered for both bounds.
-        ensures within { R.has_bounds range → ByNativeBounds K.kind K.compared_at
-            (R.start_bound range) (R.end_bound range) (λ lo hi.
-            OrderedFor lo (read_map K.kind V.kind M.E self.entry.buf.now self.entry.pos) →
-            OrderedFor hi (read_map K.kind V.kind M.E self.entry.buf.now self.entry.pos) →
-            IfOk result (λ entries. unverified_range_left K.compared_at R.end_bound entries
-            ≡ entries_within lo hi
-            (read_map K.kind V.kind M.E self.entry.buf.now self.entry.pos))) }
-        // On a map there is no error, and these are its entries.
-        ensures reads { (m : _) → IsMap K.kind V.kind M.E self.entry.buf.now self.entry.pos m →
-            read_map K.kind V.kind M.E self.entry.buf.now self.entry.pos ≡ m }
-        ensures yields { (m : _) → IsMap K.kind V.kind M.E self.entry.buf.now self.entry.pos m →
-            R.has_bounds range → IfOk result (λ entries.
-            ShowsItems ⟦<UnverifiedRange<'a, M, T, R> as Iterator>⟧.next_gives view_entry entries
-            (unverified_range_left K.compared_at R.end_bound entries)) }
+        ensures at { IfOk result (λ entries. IsAtMap K.kind V.kind M.E self.entry.buf.now
+            self.entry.pos (range_buffer_of entries) (range_position_of entries)
+            (most_range_left entries)) }
+        ensures items { IfOk result (λ entries. IteratesBetween K.kind V.kind M.E K.Refuses
+            V.Refuses self.entry.buf.now self.entry.pos
+            ⟦<UnverifiedRange<'a, M, T, R> as Iterator>⟧ view_entry (λ m. m) entries
+            (unverified_range_left K.compared_at R.end_bound entries) K.compared_at
+            (R.has_bounds range) (R.start_bound range) (R.end_bound range)) }
     {
         let mut walk = UnverifiedWalk {
             path: ArrayVec::new(),

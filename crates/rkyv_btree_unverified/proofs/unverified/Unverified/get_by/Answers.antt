@@ -1,30 +1,12 @@
 -- The value of the entry found.
-use Rattle.std.proofs.Common.{◌∙◌, ap}
-use Rattle.std.specs.BTreeMap.{is_at}
-use Rattle.std.specs.Option.{option_map}
-use Rattle.rkyv_btree_view.proofs.LookedUp.{value_of_entry}
-use Rattle.rkyv_btree_unverified.proofs.Found.{passed_on, not_both}
+use Rattle.rkyv_btree_unverified.proofs.Promised.{by_native, gives_value}
 use Rattle.rkyv_btree_unverified.proofs.unverified.Unverified.get_by.Goals as goal
 
-pub returns-in-Err-clause-all_refused : goal.returns-in-Err-clause-all_refused
-returns-in-Err-clause-all_refused g c f p e h = passed_on c.in-Err.refusal e (c.in-Err.ensures.all_refused f p e h)
+pub returns-in-Err : goal.returns-in-Err
+returns-in-Err g c = gives_value (by_native g.K.Portable.kind g.K.CompareWith.compared_at c.args.key) _ c.in-Err.ensures
 
-pub returns-in-Ok-None-clause-found : goal.returns-in-Ok-None-clause-found
-returns-in-Ok-None-clause-found g c m h f p = ap (option_map (λ e. e.1)) (rw c.in-Ok-None.field-0-is at (c.in-Ok-None.ensures.found m h f p))
+pub returns-in-Ok-None : goal.returns-in-Ok-None
+returns-in-Ok-None g c = rw c.in-Ok-None.field-0-is at (gives_value (by_native g.K.Portable.kind g.K.CompareWith.compared_at c.args.key) _ c.in-Ok-None.ensures)
 
-pub returns-in-Ok-None-clause-sorted : goal.returns-in-Ok-None-clause-sorted
-returns-in-Ok-None-clause-sorted g c m h rises f p =
-    ap (option_map (λ e. e.1)) (rw c.in-Ok-None.field-0-is at (c.in-Ok-None.ensures.sorted m h rises f p)) ∙ value_of_entry (is_at (f c.args.key)) m
-
-pub returns-in-Ok-None-clause-all_refused : goal.returns-in-Ok-None-clause-all_refused
-returns-in-Ok-None-clause-all_refused g c f p e h = not_both c.in-Ok-None.field-0 _ e (c.in-Ok-None.ensures.all_refused f p e h)
-
-pub returns-in-Ok-Some-clause-found : goal.returns-in-Ok-Some-clause-found
-returns-in-Ok-Some-clause-found g c m h f p = ap (option_map (λ e. e.1)) (rw c.in-Ok-Some.field-0-is at (c.in-Ok-Some.ensures.found m h f p))
-
-pub returns-in-Ok-Some-clause-sorted : goal.returns-in-Ok-Some-clause-sorted
-returns-in-Ok-Some-clause-sorted g c m h rises f p =
-    ap (option_map (λ e. e.1)) (rw c.in-Ok-Some.field-0-is at (c.in-Ok-Some.ensures.sorted m h rises f p)) ∙ value_of_entry (is_at (f c.args.key)) m
-
-pub returns-in-Ok-Some-clause-all_refused : goal.returns-in-Ok-Some-clause-all_refused
-returns-in-Ok-Some-clause-all_refused g c f p e h = not_both c.in-Ok-Some.field-0 _ e (c.in-Ok-Some.ensures.all_refused f p e h)
+pub returns-in-Ok-Some : goal.returns-in-Ok-Some
+returns-in-Ok-Some g c = rw c.in-Ok-Some.field-0-is at (gives_value (by_native g.K.Portable.kind g.K.CompareWith.compared_at c.args.key) _ c.in-Ok-Some.ensures)

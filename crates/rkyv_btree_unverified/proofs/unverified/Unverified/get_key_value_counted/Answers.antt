@@ -1,35 +1,26 @@
--- What is found at a place is what the views there read, and a lookup returns one thing.
-use Rattle.std.proofs.Common.{refl, rules}
+-- What is found at a place is what the views there read.
+use Rattle.std.proofs.Common.{rules}
 use Rattle.rkyv_btree_base.proofs.Sizes.{room_of}
-use Rattle.rkyv_btree_unverified.proofs.Found.{same_error, no_error, equal_found, as_checked, complete_on}
-use Rattle.rkyv_btree_view.specs.View.{view_entry}
+use Rattle.rkyv_btree_unverified.proofs.Promised.{by_comparison, entry_with_failed, entry_with_found}
+use Rattle.rkyv_btree_walk.specs.Search.{shown_value}
 use Rattle.rkyv_btree_unverified.proofs.unverified.Unverified.get_key_value_counted.Goals as goal
 
-pub returns-in-Err-clause-refused : goal.returns-in-Err-clause-refused
-returns-in-Err-clause-refused g c f p = c.in-Err.ensures.gives f (λ q w r e. let by = p q w in search rules)
+pub returns-in-Err-clause-gives : goal.returns-in-Err-clause-gives
+returns-in-Err-clause-gives g c =
+    let E = g.M.ArchivedMap.E in let fits = c.args.self.fitting in
+    let k = g.met.K.Portable.laws in let v = g.met.V.Portable.laws in
+    let room = room_of g.K.Portable.kind g.V.Portable.kind E k v fits in
+    entry_with_failed E c.args.self.buf.now g.K.CheckBytes.Refuses g.V.CheckBytes.Refuses k v (g.met.K.CheckBytes.refusals room.key) (g.met.V.CheckBytes.refusals room.value) fits c.args.self.pos (by_comparison (λ q w o. g.C.Fn.post c.args.cmp (q, (w, tt)) o) (shown_value g.K.Portable.kind g.W.Shows) c.args.key.now) c.in-Err.refusal
+    (λ f p. c.in-Err.ensures.gives f (λ q w r e. let by = p q w in search rules)) c.in-Err.ensures.accepts
 
-pub returns-in-Err-clause-all_refused : goal.returns-in-Err-clause-all_refused
-returns-in-Err-clause-all_refused g c f p e h =
-    let room = room_of g.K.Portable.kind g.V.Portable.kind g.M.ArchivedMap.E g.met.K.Portable.laws g.met.V.Portable.laws c.args.self.fitting in
-    same_error g.K.Portable.kind g.V.Portable.kind g.M.ArchivedMap.E c.args.self.buf.now (f c.args.key.now) g.K.CheckBytes.Refuses g.V.CheckBytes.Refuses g.met.K.Portable.laws g.met.V.Portable.laws (g.met.K.CheckBytes.refusals room.key) (g.met.V.CheckBytes.refusals room.value) c.args.self.pos c.in-Err.refusal e (c.in-Err.ensures.gives f (λ q w r e. let by = p q w in search rules)) h
-
-pub returns-clause-equal : goal.returns-clause-equal
-returns-clause-equal g c f p = equal_found g.K.Portable.kind g.V.Portable.kind g.M.ArchivedMap.E c.args.self.buf.now (f c.args.key.now) c.in-Ok.found _ (c.in-Ok.ensures.equal f (λ q w r e. let by = p q w in search rules)) c.entry_found.ensures.value
-
-pub returns-clause-places : goal.returns-clause-places
-returns-clause-places g c f p = (c.in-Ok.found, c.in-Ok.ensures.gives f (λ q w r e. let by = p q w in search rules), c.entry_found.ensures.places)
-
-pub returns-clause-found : goal.returns-clause-found
-returns-clause-found g c m h f p = as_checked g.K.Portable.kind g.V.Portable.kind g.M.ArchivedMap.E c.args.self.buf.now (f c.args.key.now) c.args.self.pos c.in-Ok.found _ c.entry_found.ensures.value (c.in-Ok.ensures.found m h f (λ q w r e. let by = p q w in search rules))
-
-pub returns-clause-all_refused : goal.returns-clause-all_refused
-returns-clause-all_refused g c f p e h =
-    let room = room_of g.K.Portable.kind g.V.Portable.kind g.M.ArchivedMap.E g.met.K.Portable.laws g.met.V.Portable.laws c.args.self.fitting in
-    no_error g.K.Portable.kind g.V.Portable.kind g.M.ArchivedMap.E c.args.self.buf.now (f c.args.key.now) g.K.CheckBytes.Refuses g.V.CheckBytes.Refuses g.met.K.Portable.laws g.met.V.Portable.laws (g.met.K.CheckBytes.refusals room.key) (g.met.V.CheckBytes.refusals room.value) c.args.self.pos c.in-Ok.found _ e (c.in-Ok.ensures.gives f (λ q w r e. let by = p q w in search rules)) h
-
-pub returns-clause-complete : goal.returns-clause-complete
-returns-clause-complete g c m h f p =
-    complete_on g.K.Portable.kind g.V.Portable.kind g.M.ArchivedMap.E c.args.self.buf.now (f c.args.key.now) c.args.self.pos c.in-Ok.found _ c.entry_found.ensures.value (c.in-Ok.ensures.found m h f (λ q w r e. let by = p q w in search rules)) g.met.K.Portable.laws g.met.V.Portable.laws m h c.entry_found.result view_entry refl
+pub returns-clause-gives : goal.returns-clause-gives
+returns-clause-gives g c =
+    let E = g.M.ArchivedMap.E in let fits = c.args.self.fitting in
+    let k = g.met.K.Portable.laws in let v = g.met.V.Portable.laws in
+    let room = room_of g.K.Portable.kind g.V.Portable.kind E k v fits in
+    entry_with_found E c.args.self.buf.now g.K.CheckBytes.Refuses g.V.CheckBytes.Refuses k v (g.met.K.CheckBytes.refusals room.key) (g.met.V.CheckBytes.refusals room.value) fits c.args.self.pos (by_comparison (λ q w o. g.C.Fn.post c.args.cmp (q, (w, tt)) o) (shown_value g.K.Portable.kind g.W.Shows) c.args.key.now) c.in-Ok.found c.entry_found.result
+    (λ f p. c.in-Ok.ensures.gives f (λ q w r e. let by = p q w in search rules))
+    c.entry_found.ensures.value c.entry_found.ensures.buffer c.entry_found.ensures.places
 
 pub returns-clause-counts : goal.returns-clause-counts
 returns-clause-counts g c m h f p = c.in-Ok.ensures.counts m h f (λ q w r e. let by = p q w in search rules)

@@ -1,12 +1,15 @@
 -- Before a walk begins all entries are left, and the nodes of a map fit into the buffer.
-use Rattle.std.proofs.Common.{◌∙◌, arith, refl}
+use Rattle.std.proofs.Common.{arith, refl}
 use Rattle.rkyv_btree_base.proofs.Sizes.{room_of}
 use Rattle.rkyv_btree_base.specs.Layout.{layout_of}
-use Rattle.rkyv_btree_unverified.proofs.Along.{all_agree, along_entries, entries_faultless, shown_all}
+use Rattle.rkyv_btree_unverified.proofs.Along.{along_entries, entries_faultless}
 use Rattle.rkyv_btree_unverified.proofs.Chains.{no_way}
 use Rattle.rkyv_btree_unverified.proofs.Counted.{map_nodes}
 use Rattle.rkyv_btree_unverified.proofs.Faultless.{all_faultless}
+use Rattle.rkyv_btree_unverified.proofs.Iterated.{iterates_all}
 use Rattle.rkyv_btree_unverified.proofs.OnWalks.{map_is_read, whole_rest}
+use Rattle.rkyv_btree_unverified.specs.UnverifiedIter.{entries_left}
+use Rattle.rkyv_btree_view.specs.View.{view_entry}
 use Rattle.rkyv_btree_unverified.proofs.unverified.Unverified.iter.Goals as goal
 
 pub nonzero_div-result : goal.nonzero_div-result
@@ -28,16 +31,13 @@ invariant_of-result g c = record {
   faultless = λ left. all_faultless g.K.Portable.kind g.V.Portable.kind g.M.ArchivedMap.E c.args.self.buf.now c.args.self.pos (rw c.new.ensures at left.pending);
 }
 
-pub returns-clause-agrees : goal.returns-clause-agrees
-returns-clause-agrees g c items drains = all_agree _ _ _ _ _ _ (along_entries g.K.CheckBytes.Refuses g.V.CheckBytes.Refuses c.args.self.buf.now c.args.self.pos) _ items (refl, refl) drains
+pub returns-clause-at : goal.returns-clause-at
+returns-clause-at g c = record { buffer = refl; position = refl; most = omega arith }
 
-pub returns-clause-faultless : goal.returns-clause-faultless
-returns-clause-faultless g c = entries_faultless g.K.CheckBytes.Refuses g.V.CheckBytes.Refuses c.args.self.buf.now c.args.self.pos _ (refl, refl) (λ over. cc over)
-
-pub returns-clause-entries : goal.returns-clause-entries
-returns-clause-entries g c m h = map_is_read g.K.Portable.kind g.V.Portable.kind g.M.ArchivedMap.E c.args.self.buf.now g.met.K.Portable.laws g.met.V.Portable.laws c.args.self.pos m h
-
-pub returns-clause-yields : goal.returns-clause-yields
-returns-clause-yields g c m h items drains =
-    let r = shown_all _ _ _ _ (returns-clause-agrees g c items drains) (λ e why. why.no_map m h) in
-    (r.0, r.1, r.2 ∙ returns-clause-entries g c m h)
+pub returns-clause-items : goal.returns-clause-items
+returns-clause-items g c =
+    let K = g.K.Portable.kind in let V = g.V.Portable.kind in let E = g.M.ArchivedMap.E in
+    let b = c.args.self.buf.now in let at = c.args.self.pos in
+    let KR = g.K.CheckBytes.Refuses in let VR = g.V.CheckBytes.Refuses in
+    iterates_all K V E KR VR b at _ view_entry (λ m. m) entries_left _ _ (along_entries KR VR b at) _ tt (refl, refl) refl
+    (entries_faultless KR VR b at _ (refl, refl) (λ over. cc over)) (λ m h. map_is_read K V E b g.met.K.Portable.laws g.met.V.Portable.laws at m h)

@@ -1,7 +1,7 @@
 -- The key of the entry stands at its place, and reads what the entry has.
 use Rattle.std.proofs.Common.{◌∙◌, ap, refl}
 use Rattle.std.specs.Option.{option_map}
-use Rattle.rkyv_btree_unverified.proofs.ManyGiven.{part_mapped}
+use Rattle.rkyv_btree_unverified.proofs.Promised.{part_mapped}
 use Rattle.rkyv_btree_unverified.specs.Steps.{entry_places}
 use Rattle.rkyv_btree_view.proofs.ManyFound.{if_some}
 use Rattle.rkyv_btree_unverified.proofs.unverified.Unverified.key_found.Goals as goal

@@ -1,22 +1,19 @@
 -- Each item shows what a lookup gives.
 use Rattle.std.proofs.Common.{List, sym, subst}
-use Rattle.std.specs.BTreeMap.{is_at}
 use Rattle.std.specs.List.{AllZip}
 use Rattle.std.specs.Prelude.{ℕ, Option, Result}
-use Rattle.std.specs.List.{find}
-use Rattle.std.specs.Map.{keys_of}
 use Rattle.rkyv_btree_base.specs.Refusing.{RefusesWhole}
 use Rattle.rkyv_btree_base.specs.Scalars.{unit_kind}
 use Rattle.rkyv_btree_base.specs.laws.Refusing.{whole_refusals}
 use Rattle.rkyv_btree_base.specs.laws.Scalars.{unit_laws}
 use Rattle.rkyv_btree_base.proofs.Sizes.{room_of}
 use Rattle.rkyv_btree_base.specs.Refusal.{Refusal}
-use Rattle.rkyv_btree_unverified.proofs.ManyGiven.{drained_left, is_lookup_of, zip_both}
+use Rattle.rkyv_btree_unverified.proofs.ManyGiven.{drained_left, given_key, no_error_on_map, zip_both}
+use Rattle.rkyv_btree_unverified.proofs.Promised.{by_native}
+use Rattle.rkyv_btree_unverified.specs.Given.{GivesKey}
 use Rattle.rkyv_btree_unverified.specs.Lookups.{LookupGives}
-use Rattle.rkyv_btree_unverified.specs.Steps.{key_place}
-use Rattle.rkyv_btree_unverified.specs.UnverifiedLookups.{IsKeyLookup}
 use Rattle.rkyv_btree_unverified.specs.UnverifiedLookupsLeft.{AreKeyLookups}
-use Rattle.rkyv_btree_view.proofs.LookedUp.{natives_agree, key_of_entry}
+use Rattle.rkyv_btree_view.proofs.LookedUp.{natives_agree}
 use Rattle.rkyv_btree_view.specs.Lookup.{ByNative}
 use Rattle.rkyv_btree_unverified.proofs.unverified_get_many.Unverified+ArchivedBTreeSet+K+E.get_many_by.Goals as goal
 
@@ -26,13 +23,15 @@ returns-clause-yields g c items drains =
     let b = c.args.self.buf.now in let at = c.args.self.pos in
     let KR = g.K.CheckBytes.Refuses in let VR = RefusesWhole unit_kind in
     let law = g.met.K.CompareWith.compares in
-    let room = room_of K V E g.met.K.Portable.laws unit_laws c.args.self.fitting in
+    let k = g.met.K.Portable.laws in let fits = c.args.self.fitting in
+    let room = room_of K V E k unit_laws fits in
+    let kr = g.met.K.CheckBytes.refusals room.key in
     let left = rw (c.of.ensures.map, c.of.ensures.keys, c.of.ensures.none) at (drained_left (AreKeyLookups g.K.CompareWith.compared_at KR VR) _ items drains) in
     let Given : g.row.T.Denot → Result (Option (ℕ × ℕ)) Refusal → Type 0 =
     λ key end. ByNative K g.K.CompareWith.compared_at key (λ comparison. LookupGives K V E b comparison KR VR at end) in
     let given : AllZip Given c.args.keys.now left.0 = subst (λ (found : List (Result (Option (ℕ × ℕ)) Refusal)). AllZip Given c.args.keys.now found) (sym left.1.1) left.1.2 in
-    zip_both (λ key item. ByNative K g.K.CompareWith.compared_at key (λ comparison. IsKeyLookup E b comparison KR VR at item))
-    (λ key end item gives shows f p.
-    is_lookup_of K V E b (f key) KR VR g.met.K.Portable.laws unit_laws (g.met.K.CheckBytes.refusals room.key) (whole_refusals unit_laws) c.args.self.fitting at
-    (law.compared key) (law.cuts key) (natives_agree law f p key b) (key_place K V E) (λ e. e.0) (λ m. find (is_at (f key)) (keys_of m)) (λ m. key_of_entry (is_at (f key)) m) end item (gives f p) shows)
+    zip_both (λ key item. GivesKey V E KR VR b at (ByNative K g.K.CompareWith.compared_at key) item)
+    (λ key end item gives shows.
+    given_key V E b KR VR k unit_laws kr (whole_refusals unit_laws) fits at (by_native K g.K.CompareWith.compared_at key) (λ f p. (law.compared key, law.cuts key, natives_agree law f p key b)) end item gives
+    (no_error_on_map K V E b KR VR k unit_laws kr (whole_refusals unit_laws) fits at (law.compared key) end (gives law.compared law.by_value)) shows)
     c.args.keys.now left.0 items given left.2
