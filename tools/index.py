@@ -20,7 +20,7 @@ HEAD = """# Index of contracts
 the contracts promise.
 
 - **Requires** and **Ensures** name the clauses; `·` is a clause without a name. An `impl` lists the ghost members that it defines.
-  In parentheses are the promises of a clause that states a record: the record's fields.
+  In parentheses are the promises of a clause that states a record: the record's fields. So it is of a field that states one.
 - **Definitions** are those of this repository that the clauses cite. The last section says which file has each.
 - **Refused edits** are changes of the function that the prover must refuse. Their files are in the crate's folder `wrong`, with the
   module and the function before the name.
@@ -189,10 +189,11 @@ def files_of_definitions():
 
 
 def records_of(file):
-    """Returns the records of a file of definitions: by name, the fields."""
+    """Returns the records of a file of definitions: by name, the cell's text of the fields, each with those of the record that it states."""
     found = {}
     for name, body in re.findall(r"^ *pub record (\w+).*\n((?: .*\n)*)", file.read_text(), re.M):
-        found[name] = re.findall(r"^ *pub (\w+) :", body.split("pub record")[0], re.M)
+        fields = re.findall(r"^ *pub (\w+) : (\w*)", body.split("pub record")[0], re.M)
+        found[name] = ", ".join(with_fields(field, found.get(stated, "")) for field, stated in fields)
     return found
 
 
@@ -204,11 +205,16 @@ def marked(names):
     return ", ".join(f"`{name}`" if name != "·" else name for name in names)
 
 
+def with_fields(name, fields):
+    """Returns the cell's text of a promise, with that of its fields in parentheses if it has some."""
+    return marked([name]) + (f" ({fields})" if fields else "")
+
+
 def promised(one, fields_of):
     """Returns a cell with the promises of a function: its clauses, each with the fields of the record that it states."""
-    fields = [next((marked(fields_of(name)) for name in names if fields_of(name)), "") for names in one.states]
+    fields = [next((fields_of(name) for name in names if fields_of(name)), "") for names in one.states]
     fields = fields or [""] * len(one.ensures)
-    return ", ".join(marked([name]) + (f" ({more})" if more else "") for name, more in zip(one.ensures, fields))
+    return ", ".join(with_fields(name, more) for name, more in zip(one.ensures, fields))
 
 
 def page():
@@ -237,7 +243,7 @@ def page():
                 if file:
                     places.setdefault(file, set()).add(cited)
             imports = named[one]
-            promises = promised(one, lambda name: records.get(files.get(imports.get(name)), {}).get(name, []))
+            promises = promised(one, lambda name: records.get(files.get(imports.get(name)), {}).get(name, ""))
             lines.append(row([title, marked(one.requires), promises, marked(sorted(one.cites)), marked(one.edits)]))
         lines.append("")
     lines += ["## Definitions\n", row(["File", "Definitions that contracts cite"]), row(["---"] * 2)]

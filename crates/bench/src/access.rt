@@ -5,6 +5,7 @@ use anyhow::ensure;
 use rkyv_btree::map::access;
 use rkyv_btree::strict::access_strict;
 use rkyv_btree_base::layout;
+use rkyv_btree_base::map::ArchivedBTreeMap;
 use rkyv_btree_base::numbers::ArchivedU32;
 
 /// Returns whether there is a map at `root`.
@@ -18,7 +19,7 @@ fn is_map(bytes: &[u8], root: u32) -> bool {
 #[inline(never)]
 fn is_strict_map(bytes: &[u8], root: u32) -> bool {
     layout::fits::<ArchivedU32, ArchivedU32, 5>()
-        && access_strict::<ArchivedU32, ArchivedU32, 5>(bytes, root).is_ok()
+        && access_strict::<ArchivedBTreeMap<ArchivedU32, ArchivedU32, 5>>(bytes, root).is_ok()
 }
 
 /// Times the validation of the map at `root`, and the strict validation.

@@ -84,7 +84,7 @@ fn check<'a>(
     let map = map::access::<ArchivedText, ArchivedU32, 5>(bytes, root)?;
     tell(rt, "check", start.elapsed(rt)?, count)?;
     let start = Instant::now(rt)?;
-    access_strict::<ArchivedText, ArchivedU32, 5>(bytes, root)?;
+    access_strict::<Map>(bytes, root)?;
     tell(rt, "strict check", start.elapsed(rt)?, count)?;
     Ok(map)
 }

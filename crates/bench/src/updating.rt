@@ -8,6 +8,7 @@ use rkyv_btree::compare::ViewOrd;
 use rkyv_btree::strict::{StrictView, access_strict};
 use rkyv_btree_base::archive::{Archive, Serialize};
 use rkyv_btree_base::layout;
+use rkyv_btree_base::map::ArchivedBTreeMap;
 use rkyv_btree_base::numbers::ArchivedU32;
 use rkyv_btree_base::place::VecWriter;
 use rkyv_btree_base::text::ArchivedText;
@@ -90,7 +91,7 @@ fn measure_numbers(report: &Report, alloc: Global) -> anyhow::Result<()> {
     let mut writer = VecWriter::new(alloc);
     let root = write(alloc, entries.as_slice(), &mut writer)?;
     ensure!(layout::fits::<ArchivedU32, ArchivedU32, 5>(), "too large");
-    let old = access_strict::<ArchivedU32, ArchivedU32, 5>(writer.bytes(), root)?;
+    let old = access_strict::<ArchivedBTreeMap<ArchivedU32, ArchivedU32, 5>>(writer.bytes(), root)?;
     let mut changes = Vec::new(alloc);
     let mut number = 0u32;
     for index in indices(alloc, report.count)?.as_slice() {
@@ -117,7 +118,10 @@ fn measure_texts(report: &Report, alloc: Global, texts: &[(String, u32)]) -> any
         changes.push((key.as_str(), change_of(number)))?;
         number = number.wrapping_add(1);
     }
-    let old = access_strict::<ArchivedText, ArchivedU32, 5>(writer.bytes(), root)?;
+    let old = access_strict::<ArchivedBTreeMap<ArchivedText, ArchivedU32, 5>>(
+        writer.bytes(),
+        root,
+    )?;
     measure_map(report, alloc, "update of texts", old, changes.as_slice())
 }
 

@@ -8,7 +8,6 @@ pub mod JsonTexts
 pub mod Listed
 pub mod Merges
 pub mod Ordering
-pub mod PrefixOrder
 pub mod RoundTrip
 pub mod Sorted
 pub mod SortedChanges

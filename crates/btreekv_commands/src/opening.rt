@@ -47,7 +47,7 @@ pub fn strict_count(archive: &[u8]) -> Result<usize, ProgramFault>
     ensures ok { IfOk result (λ count. CountsStrict archive.now count) }
     ensures err { IfErr result (IsOpenFault (RefusesStrictArchive archive.now)) }
 {
-    match open_strict::<ArchivedText, ArchivedText, 5>(archive) {
+    match open_strict::<Texts>(archive) {
         Ok(map) => Ok(map.len()),
         Err(refusal) => Err(ProgramFault::Refused(refusal)),
     }
@@ -66,7 +66,7 @@ pub(crate) fn open_increasing(
         IsStrictArchive archive.now (entries_of text_kind text_kind 5 map.view)) }
     ensures err { IfErr result (RefusesStrictArchive archive.now) }
 {
-    match open_strict::<ArchivedText, ArchivedText, 5>(archive) {
+    match open_strict::<Texts>(archive) {
         Ok(map) => Ok(map),
         Err(refusal) => Err(refusal),
     }

@@ -1,31 +1,17 @@
 //! Entries whose keys begin with a text.
-ghost use Rattle.std.specs.Prelude.{◌≡◌};
 ghost use Rattle.std.specs.Iterator.{IsFinite};
 ghost use Rattle.rkyv_btree_view.specs.Items.{ShowsAll};
 ghost use Rattle.rkyv_btree_view.specs.Range.{range_left};
 ghost use Rattle.rkyv_btree_view.specs.View.{entries_of, view_entry};
 ghost use Rattle.rkyv_btree_base.specs.Text.{text_kind};
-ghost use Rattle.btreekv_commands.specs.Prefixes.{HasPrefix, prefix_cmp};
+ghost use Rattle.btreekv_commands.specs.Prefixes.{HasPrefix};
 
 use crate::opening::Texts;
 use rkyv_btree_base::text::ArchivedText;
+use rkyv_btree_strict::prefix::compare_prefix;
 use rkyv_btree_view::range::Range;
 use rkyv_btree_view::view::View;
-use std::cmp::Ordering;
 use std::ops::Bound;
-
-/// Compares a prefix with as many first bytes of a key.
-fn compare_prefix(prefix: &str, key: &str) -> Ordering
-    ensures { result ≡ prefix_cmp prefix.now key.now }
-{
-    let prefix = prefix.as_bytes();
-    let key = key.as_bytes();
-    if prefix.len() < key.len() {
-        prefix.cmp(&key[..prefix.len()])
-    } else {
-        prefix.cmp(key)
-    }
-}
 
 /// Returns an iterator over the entries whose keys begin with a text, in order. If the keys don't increase, its items are
 /// some contiguous run of entries.

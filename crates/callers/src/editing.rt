@@ -15,6 +15,13 @@ pub fn set_price(bytes: &mut [u8], name: &str, price: u64) -> Result<bool, Refus
     Ok(map.set_by(name, price))
 }
 
+/// Overwrites the price of a name in bytes from elsewhere, and returns whether the name is there.
+pub fn set_price_strict(bytes: &mut [u8], name: &str, price: u64) -> Result<bool, Refusal> {
+    sizes_fit::<Prices>();
+    let mut map = open_strict_mut::<Prices>(bytes)?;
+    Ok(map.set_by(name, price))
+}
+
 /// Adds to the price of a name, and returns the old price.
 pub fn raise_price(bytes: &mut [u8], name: &str, amount: u64) -> Result<Option<u64>, Refusal> {
     let mut map = open_prices(bytes)?;

@@ -26,8 +26,16 @@ pub fn price(map: View<'_, Prices>, name: &str) -> Option<u64> {
 /// Validates the bytes and the order of their keys, and returns the price of a name.
 pub fn price_in_strict(bytes: &[u8], name: &str) -> Result<Option<u64>> {
     sizes_fit::<Prices>();
-    let map = open_strict::<ArchivedText, ArchivedU64, 5>(bytes)?;
+    let map = open_strict::<Prices>(bytes)?;
     Ok(map.get_native_by(name))
+}
+
+/// Validates the bytes and the order of their keys, and adds up the prices of the names that begin with `prefix`.
+pub fn total_of_prefix(bytes: &[u8], prefix: &str) -> Result<u64> {
+    sizes_fit::<Prices>();
+    let map = open_strict::<Prices>(bytes)?;
+    let named = map.with_prefix(prefix);
+    Ok(named.fold(0, |sum: u64, entry| sum.wrapping_add(entry.1.to_native())))
 }
 
 /// Returns the price of a name. Only what the lookup reads is validated.

@@ -1,14 +1,14 @@
 //! The callers, run once each on a list of two prices.
 
 use crate::building::{Squares, archive_of, squares, word_lengths};
-use crate::editing::{double_all, double_along, raise_price, set_price};
+use crate::editing::{double_all, double_along, raise_price, set_price, set_price_strict};
 use crate::merging::merge;
 use crate::reading::{
     Prices, count, first_above, first_longer, price_in, price_in_strict, price_unverified,
-    price_with, total, total_between, total_between_unverified, total_of, total_unverified,
+    price_with, total, total_between, total_between_unverified, total_of, total_of_prefix,
+    total_unverified,
 };
 use rkyv_btree::prelude::*;
-use rkyv_btree::set::open_strict as open_strict_set;
 use std::alloc::Global;
 use std::collections::BTreeSet;
 use std::convert::AsStr;
@@ -44,14 +44,16 @@ fn prices_are_read(rt: HostRuntime) -> Result<(), Fail> {
 #[test]
 fn prices_are_edited(rt: HostRuntime) -> Result<(), Fail> {
     let mut bytes = two(rt.alloc())?;
-    let there = set_price(bytes.as_mut_slice(), "pear", 6)?;
+    let there = set_price(bytes.as_mut_slice(), "pear", 1)?;
+    let again = set_price_strict(bytes.as_mut_slice(), "pear", 6)?;
     let old = raise_price(bytes.as_mut_slice(), "pear", 4)?;
     double_all(bytes.as_mut_slice())?;
     double_along(bytes.as_mut_slice())?;
-    assert!(rt; there);
+    assert!(rt; there && again);
     assert_eq!(rt; old, Some(6));
     assert_eq!(rt; price_in(bytes.as_slice(), "pear")?, Some(40));
     assert_eq!(rt; price_in_strict(bytes.as_slice(), "pear")?, Some(40));
+    assert_eq!(rt; total_of_prefix(bytes.as_slice(), "pe")?, 40);
     assert_eq!(rt; price_unverified(bytes.as_slice(), "pear")?, Some(40));
     assert_eq!(rt; total_unverified(bytes.as_slice())?, 52);
     assert_eq!(rt; total_between_unverified(bytes.as_slice(), "b", "q")?, 40);
@@ -88,12 +90,12 @@ fn counts_are_merged(rt: HostRuntime) -> Result<(), Fail> {
     ];
     let (right, _) = archive_of(alloc, &more)?;
     sizes_fit::<Prices>();
-    let one = open_strict::<ArchivedText, ArchivedU64, 5>(left.as_slice())?;
-    let other = open_strict::<ArchivedText, ArchivedU64, 5>(right.as_slice())?;
+    let one = open_strict::<Prices>(left.as_slice())?;
+    let other = open_strict::<Prices>(right.as_slice())?;
     let mut writer = VecWriter::new(alloc);
     merge(alloc, one, other, &mut writer)?;
     let bytes = writer.into_vec();
-    let map = open_strict::<ArchivedText, ArchivedU64, 5>(bytes.as_slice())?;
+    let map = open_strict::<Prices>(bytes.as_slice())?;
     assert_eq!(rt; map.len(), 4);
     assert_eq!(rt; map.get_native_by("apple"), Some(3));
     assert_eq!(rt; map.get_native_by("fig"), Some(7));
@@ -117,7 +119,7 @@ fn sets_are_read(rt: HostRuntime) -> Result<(), Fail> {
     let bytes = three(rt.alloc())?;
     sizes_fit::<Numbers>();
     let set = open::<Numbers>(bytes.as_slice())?;
-    let strict = open_strict_set::<ArchivedU32, 5>(bytes.as_slice())?;
+    let strict = open_strict::<Numbers>(bytes.as_slice())?;
     let mut sum = 0u32;
     for number in set {
         sum = sum.wrapping_add(number.to_native());
@@ -160,7 +162,7 @@ fn sets_are_read_unverified(rt: HostRuntime) -> Result<(), Fail> {
 fn strict_prices_are_read(rt: HostRuntime) -> Result<(), Fail> {
     let bytes = two(rt.alloc())?;
     sizes_fit::<Prices>();
-    let map = open_strict::<ArchivedText, ArchivedU64, 5>(bytes.as_slice())?;
+    let map = open_strict::<Prices>(bytes.as_slice())?;
     let mut sum = 0u64;
     for (_, price) in map {
         sum = sum.wrapping_add(price.to_native());

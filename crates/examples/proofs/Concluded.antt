@@ -1,5 +1,5 @@
 -- What a caller concludes for the headline, over the definitions alone.
-use Rattle.std.proofs.Common.{◌≡◌, ℕ, ◌≤◌, List, length, map, Option, Some, None, Bor, sym, ap, ◌∙◌, slice_get, true, arith}
+use Rattle.std.proofs.Common.{◌≡◌, ℕ, ◌≤◌, List, length, map, Option, Some, None, Bor, sym, ap, ◌∙◌, slice_get, true}
 use Rattle.std.proofs.lemmas.List.{length-map}
 use Rattle.std.proofs.lemmas.Option.{slice_get-map}
 use Rattle.std.specs.Option.{option_map}

@@ -11,6 +11,7 @@ ghost use Rattle.rkyv_btree.specs.Bounds.{entries_within};
 ghost use Rattle.examples.specs.Strict.{IsPriceFile};
 
 use rkyv_btree::base::fault::Fault;
+use rkyv_btree::base::map::ArchivedBTreeMap;
 use rkyv_btree::base::numbers::ArchivedU32;
 use rkyv_btree::base::refusal::Refusal;
 use rkyv_btree::base::text::ArchivedText;
@@ -22,12 +23,15 @@ use std::alloc::{AllocError, Global};
 use std::collections::BTreeMap;
 use std::ops::Bound;
 
+/// A file of names and their prices.
+type Prices = ArchivedBTreeMap<ArchivedText, ArchivedU32, 5>;
+
 /// Returns the price of a name in a file.
 pub fn price_in(bytes: &[u8], name: &str) -> Result<Option<u32>, Refusal>
     ensures { IfOk result (λ price. (prices : List (List ℕ × ℕ)) × IsPriceFile bytes.now prices
         × (price ≡ lookup (is_at (slice_cmp nat_cmp name.now)) prices)) }
 {
-    let prices = open_strict::<ArchivedText, ArchivedU32, 5>(bytes)?;
+    let prices = open_strict::<Prices>(bytes)?;
     let price = prices.get_by(name);
     Ok(price.map(|price: View<ArchivedU32>| price.to_native()))
 }
@@ -38,7 +42,7 @@ pub fn first_price_from(bytes: &[u8], low: &str) -> Result<Option<u32>, Refusal>
         × (price ≡ option_map (λ e. e.1)
         (slice_get (entries_within (Included (slice_cmp nat_cmp low.now)) Unbounded prices) 0))) }
 {
-    let prices = open_strict::<ArchivedText, ArchivedU32, 5>(bytes)?;
+    let prices = open_strict::<Prices>(bytes)?;
     match prices
         .range_by(Bound::Included(low), Bound::Unbounded)
         .next()
@@ -58,7 +62,7 @@ pub fn file_of(alloc: Global, prices: &BTreeMap<String, u32>) -> Result<Vec<u8>,
     // The contract of `len` says that the keys of the map increase.
     let _len = prices.len();
     let file = to_archive(alloc, prices)?;
-    if open_strict::<ArchivedText, ArchivedU32, 5>(file.as_slice()).is_err() {
+    if open_strict::<Prices>(file.as_slice()).is_err() {
         unreachable!();
     }
     Ok(file)

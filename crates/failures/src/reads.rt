@@ -86,10 +86,10 @@ fn validate<R: Print>(rt: &R, buf: &[u8]) -> anyhow::Result<()> {
     tell(rt, "verify_strict", strict == left)?;
     let number = View::<ArchivedU32>::check(buf, 4)?;
     tell(rt, "View::check", number.to_native() == 1)?;
-    let opened = open_strict::<ArchivedU32, ArchivedU32, 5>(buf)?;
+    let opened = open_strict::<Numbers>(buf)?;
     tell(rt, "open_strict", opened.len() == 17)?;
     let (_, part) = buf.split_last().context("no bytes")?;
-    let refused = open_strict::<ArchivedU32, ArchivedU32, 5>(part);
+    let refused = open_strict::<Numbers>(part);
     tell(rt, "open_strict of a part", refused.is_err())?;
     Ok(())
 }
@@ -191,9 +191,9 @@ fn read_others<R: Print>(rt: &R, alloc: Global, archives: &Archives) -> anyhow::
         set.contains_by(7) && !set.contains_by(8),
     )?;
     tell(rt, "eq_set", set.eq_set(&archives.set))?;
-    let strict = rkyv_btree::set::open_strict::<ArchivedU32, 5>(&archives.keys)?;
+    let strict = open_strict::<ArchivedBTreeSet<ArchivedU32, 5>>(&archives.keys)?;
     tell(rt, "open_strict of a set", strict.contains_by(3))?;
-    let texts = open_strict::<ArchivedText, ArchivedI32, 5>(&archives.texts)?;
+    let texts = open_strict::<ArchivedBTreeMap<ArchivedText, ArchivedI32, 5>>(&archives.texts)?;
     let (key, value) = texts.get_key_value_by("baz").context("no text")?;
     tell(rt, "as_str", key.as_str() == "baz")?;
     let number: i32 = ArchivedI32::deserialize(alloc, &value)?;

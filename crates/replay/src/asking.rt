@@ -157,7 +157,7 @@ pub(crate) fn strict<K: CheckBytes + ViewOrd + Shown, V: CheckBytes + Shown, con
     let mut input = Input { rest: case };
     let pos = input.number()?;
     ensure!(layout::fits::<K, V, E>(), "the map doesn't fit");
-    match access_strict::<K, V, E>(input.rest, pos) {
+    match access_strict::<ArchivedBTreeMap<K, V, E>>(input.rest, pos) {
         Ok(map) => {
             show_map::<K, V, E>(alloc, &map.as_view(), out)?;
             show_found::<K, V, E>(map, out)?;

@@ -39,7 +39,7 @@ fn take_archive<'a, K: CheckBytes + ViewOrd, V: CheckBytes, const E: usize>(
 ) -> anyhow::Result<(&'a [u8], StrictView<'a, K, V, E>)> {
     ensure!(layout::fits::<K, V, E>(), "the map doesn't fit");
     let bytes = input.bytes()?;
-    let map = open_strict::<K, V, E>(bytes)?;
+    let map = open_strict::<ArchivedBTreeMap<K, V, E>>(bytes)?;
     Ok((bytes, map))
 }
 

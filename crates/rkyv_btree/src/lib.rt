@@ -114,7 +114,7 @@ pub mod seal {
 
 /// Archived sets, read in place.
 pub mod set {
-    pub use rkyv_btree_strict::strict_set::{StrictSetView, access_strict, open_strict};
+    pub use rkyv_btree_strict::strict_set::StrictSetView;
     pub use rkyv_btree_view::set_view::{Iter, Range, access, access_valid};
 }
 
@@ -138,7 +138,9 @@ pub mod std_types {
 /// Maps whose keys increase: their validation and their views.
 pub mod strict {
     pub use rkyv_btree_strict::migrate::migrate;
-    pub use rkyv_btree_strict::strict::{access_strict, open_strict, verify_strict};
+    pub use rkyv_btree_strict::strict::{
+        CheckStrict, access_strict, open_strict, open_strict_mut, verify_strict,
+    };
     pub use rkyv_btree_strict::strict_map::{Strict, StrictView};
 }
 
@@ -191,7 +193,7 @@ pub mod prelude {
     pub use rkyv_btree_seal::map_seal::{MapSeal, access_mut};
     pub use rkyv_btree_seal::range_cursor::RangeSeal;
     pub use rkyv_btree_seal::seal::Seal;
-    pub use rkyv_btree_strict::strict::{access_strict, open_strict};
+    pub use rkyv_btree_strict::strict::{CheckStrict, access_strict, open_strict, open_strict_mut};
     pub use rkyv_btree_strict::strict_map::{Strict, StrictView};
     pub use rkyv_btree_unverified::unverified::Unverified;
     pub use rkyv_btree_unverified::unverified_get_many::{UnverifiedKeyLookups, UnverifiedLookups};

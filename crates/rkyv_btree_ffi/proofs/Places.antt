@@ -1,5 +1,5 @@
 -- Nodes that pointers lead to, and cursors that are places in a map.
-use Rattle.std.proofs.Common.{◌≡◌, ℕ, zero, suc, ◌+◌, ◌≤◌, ◌<◌, ◌∙◌, List, [], ◌∷◌, ◌++◌, length, get_or, map, take, IfSome, IsTrue, refl, sym, ap, subst, arith, Option, Some, None}
+use Rattle.std.proofs.Common.{◌≡◌, ℕ, zero, suc, ◌+◌, ◌≤◌, ◌<◌, ◌∙◌, List, [], ◌∷◌, length, get_or, map, take, IfSome, IsTrue, refl, sym, ap, subst, arith, Option, Some, None}
 use mathlib.Core.HLevel.{⊥_prop}
 use mathlib.Core.Logic.{∥∥₁_map, ∥∥₁_elim}
 use Rattle.std.proofs.Math.ListN.{get_or-map}

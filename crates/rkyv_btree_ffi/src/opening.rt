@@ -40,7 +40,7 @@ fn opened_strict<K: CheckBytes + ViewOrd, V: CheckBytes>(bytes: &[u8]) -> Result
     requires { IsTrue (are_fitting K.kind V.kind 5) }
     ensures { OpensStrictMap K.kind V.kind bytes.now result }
 {
-    match open_strict::<K, V, 5>(bytes) {
+    match open_strict::<ArchivedBTreeMap<K, V, 5>>(bytes) {
         Ok(map) => Ok(map.view.pos),
         Err(refusal) => Err(refusal),
     }

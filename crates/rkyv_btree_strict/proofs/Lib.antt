@@ -3,3 +3,5 @@ pub mod Checked
 pub mod Ordered
 pub mod Stays
 pub mod Migrated
+pub mod Opened
+pub mod PrefixOrder

@@ -3,3 +3,5 @@ pub mod Stays
 pub mod Migrated
 pub mod Strict
 pub mod mirror
+pub mod StrictOpening
+pub mod Prefix

@@ -1,6 +1,5 @@
 -- Strict maps: accepted maps whose keys increase.
 use Rattle.std.specs.Prelude.{◌≡◌, ℕ, List}
-use Rattle.std.specs.declared.cmp.Ordering.{Ordering}
 use Rattle.rkyv_btree_base.specs.Kind.{Kind}
 use Rattle.rkyv_btree_base.specs.Refusal.{Refusal}
 use Rattle.rkyv_btree_base.specs.Refusal.TheVariants.{OutOfOrder}

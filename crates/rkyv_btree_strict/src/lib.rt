@@ -3,6 +3,7 @@
 
 pub mod migrate;
 mod order;
+pub mod prefix;
 pub mod strict;
 pub mod strict_laws;
 pub mod strict_map;

@@ -4,27 +4,16 @@ ghost use Rattle.std.specs.Iterator.{IsFinite};
 ghost use Rattle.std.specs.List.{find};
 ghost use Rattle.std.specs.List.Sorted.{IsStrictlySortedBy};
 ghost use Rattle.std.specs.Option.{option_map};
-ghost use Rattle.std.specs.Prelude.{◌≡◌, ◌≤◌, ◌↔◌, [], length, map, is_some, IsTrue, IsOk, IfOk, Err};
+ghost use Rattle.std.specs.Prelude.{◌≡◌, ◌≤◌, ◌↔◌, [], length, map, is_some, IsTrue};
 ghost use Rattle.std.specs.Range.Bound.{bound_map};
-ghost use Rattle.rkyv_btree_base.specs.Layout.{are_fitting};
-ghost use Rattle.rkyv_btree_base.specs.Map.{map_kind};
-ghost use Rattle.rkyv_btree_base.specs.Refusal.{Refusal};
-ghost use Rattle.rkyv_btree_base.specs.Scalars.{unit_kind};
-ghost use Rattle.rkyv_btree_base.specs.Whole.{IsArchiveOf, own_at};
-ghost use Rattle.rkyv_btree_convert.specs.Whole.{IsUnopened};
-ghost use Rattle.rkyv_btree_base.specs.Increasing.{Increasing};
-ghost use Rattle.rkyv_btree_strict.specs.Strict.{IsStrictMap, RefusesStrict};
 ghost use Rattle.rkyv_btree_view.specs.Items.{ShowsAll};
 ghost use Rattle.rkyv_btree_view.specs.Lookup.{ByNative};
 ghost use Rattle.rkyv_btree_view.specs.ManyLookups.{key_looked_up_in};
 ghost use Rattle.rkyv_btree_view.specs.Set.{keys_of};
-ghost use Rattle.rkyv_btree_view.specs.View.{view_value, entries_of};
+ghost use Rattle.rkyv_btree_view.specs.View.{view_value};
 ghost use Rattle.rkyv_btree_walk.specs.Bounds.{keys_within};
 
-use crate::strict::{access_strict as access_map, open_strict as open_map};
 use crate::strict_map::{Strict, StrictView};
-use rkyv_btree_base::check::CheckBytes;
-use rkyv_btree_base::refusal::Refusal;
 use rkyv_btree_base::set::ArchivedBTreeSet;
 use rkyv_btree_view::compare::ViewOrd;
 use rkyv_btree_view::compare_native::CompareWith;
@@ -36,60 +25,6 @@ use std::ops::{Bound, RangeBounds};
 
 /// A set in a buffer whose keys increase. `access_strict`, `open_strict` and `StrictSetView::of` make one.
 pub type StrictSetView<'a, K, const E: usize> = Strict<'a, ArchivedBTreeSet<K, E>>;
-
-/// Returns the view of the set at position `pos`, if the bytes mean a set whose keys increase.
-///
-/// # Errors
-///
-/// As of `verify_strict`. No memory is allocated.
-pub fn access_strict<'a, K: CheckBytes + ViewOrd, const E: usize>(
-    buf: &'a [u8],
-    pos: u32,
-) -> Result<StrictSetView<'a, K, E>, Refusal>
-    requires { IsTrue (are_fitting K.kind unit_kind E) }
-    ensures buffer { IfOk result (λ set. set.view.buf.now ≡ buf.now) }
-    ensures position { IfOk result (λ set. set.view.pos ≡ pos) }
-    // The result is a view exactly for a set whose keys increase, and the view reads its list.
-    ensures accepts { IsOk result ↔ ((m : _) × IsStrictMap K.kind unit_kind E buf.now pos m) }
-    ensures entries { IfOk result (λ set.
-        IsStrictMap K.kind unit_kind E buf.now pos (entries_of K.kind unit_kind E set.view)) }
-    // The result is an error exactly for bytes with that error.
-    ensures refuses { (e : Refusal) →
-        (result ≡ Err e) ↔ RefusesStrict K.kind unit_kind E buf.now 0 pos pos e }
-{
-    match access_map::<K, (), E>(buf, pos) {
-        Ok(map) => Ok(StrictSetView::of(map)),
-        Err(refusal) => Err(refusal),
-    }
-}
-
-/// Returns the view of the set whose own bytes are the last of `bytes`, if these are an archive of a set whose keys increase.
-///
-/// # Errors
-///
-/// Every error of `open` comes before `Refusal::OutOfOrder`. No memory is allocated.
-pub fn open_strict<'a, K: CheckBytes + ViewOrd, const E: usize>(
-    bytes: &'a [u8],
-) -> Result<StrictSetView<'a, K, E>, Refusal>
-    requires { IsTrue (are_fitting K.kind unit_kind E) }
-    ensures buffer { IfOk result (λ set. set.view.buf.now ≡ bytes.now) }
-    ensures position { IfOk result (λ set.
-        set.view.pos ≡ own_at (map_kind K.kind unit_kind E) bytes.now) }
-    // The result is a view exactly for an archive of a set whose keys increase, and the view reads its list.
-    ensures accepts { IsOk result ↔ ((m : _) ×
-        IsArchiveOf (map_kind K.kind unit_kind E) bytes.now m × Increasing K.kind.order m) }
-    ensures entries { IfOk result (λ set.
-        IsArchiveOf (map_kind K.kind unit_kind E) bytes.now (entries_of K.kind unit_kind E set.view)
-        × Increasing K.kind.order (entries_of K.kind unit_kind E set.view)) }
-    // The result is an error exactly for bytes with that error.
-    ensures refuses { (e : Refusal) → (result ≡ Err e) ↔
-        IsUnopened (map_kind K.kind unit_kind E) (RefusesStrict K.kind unit_kind E) bytes.now e }
-{
-    match open_map::<K, (), E>(bytes) {
-        Ok(map) => Ok(StrictSetView::of(map)),
-        Err(refusal) => Err(refusal),
-    }
-}
 
 impl<'a, K: ViewOrd, const E: usize> Strict<'a, ArchivedBTreeSet<K, E>> {
     /// Returns a strict map whose values are `()` as the set of its keys.

@@ -3,14 +3,15 @@
 use crate::read::number;
 use crate::same::{same, shown};
 use crate::views::hashed;
-use rkyv_btree::set::{access, access_strict, open_strict};
-use rkyv_btree::strict;
+use rkyv_btree::set::access;
+use rkyv_btree::strict::{access_strict, open_strict};
 use rkyv_btree::unverified::Unverified;
 use rkyv_btree::view::View;
 use rkyv_btree_base::archive::{Archive, Serialize};
 use rkyv_btree_base::check::{CheckBytes, Portable};
 use rkyv_btree_base::fault::Fault;
 use rkyv_btree_base::layout;
+use rkyv_btree_base::map::ArchivedBTreeMap;
 use rkyv_btree_base::numbers::ArchivedU32;
 use rkyv_btree_base::place::VecWriter;
 use rkyv_btree_base::refusal::Refusal;
@@ -162,7 +163,7 @@ fn keys_of_a_set_are_found(rt: HostRuntime) -> Result<(), Fail> {
     )?;
     built_strictly(&rt, rt.alloc(), &[2, 2], Err(1))?;
     built_strictly(&rt, rt.alloc(), &[1, 3, 2], Err(2))?;
-    let strict = access_strict::<ArchivedU32, 2>(writer.bytes(), pos)?;
+    let strict = access_strict::<ArchivedBTreeSet<ArchivedU32, 2>>(writer.bytes(), pos)?;
     for key in strict.iter() {
         same(&rt, strict.contains_key(key), true);
         same(&rt, strict.get(key).map(number), Some(key.to_native()));
@@ -173,7 +174,7 @@ fn keys_of_a_set_are_found(rt: HostRuntime) -> Result<(), Fail> {
         (strict.get_by(4).is_none(), strict.contains_by(7)),
         (true, true),
     );
-    let map = strict::access_strict::<ArchivedU32, (), 2>(writer.bytes(), pos)?;
+    let map = access_strict::<ArchivedBTreeMap<ArchivedU32, (), 2>>(writer.bytes(), pos)?;
     same(&rt, (map.is_empty(), map.len()), (false, 4));
     same(
         &rt,
@@ -181,7 +182,10 @@ fn keys_of_a_set_are_found(rt: HostRuntime) -> Result<(), Fail> {
         (true, false),
     );
     let unordered = archive::<u32, _, 2>(&rt, rt.alloc(), &[1, 5, 3, 7], &mut writer)?;
-    let refused = access_strict::<ArchivedU32, 2>(writer.bytes(), unordered).err();
+    let refused = access_strict::<ArchivedBTreeSet<ArchivedU32, 2>>(
+        writer.bytes(),
+        unordered,
+    ).err();
     same(&rt, refused, Some(Refusal::OutOfOrder { index: 2 }));
     Ok(())
 }
@@ -200,7 +204,7 @@ fn a_range_between_archived_keys(rt: HostRuntime) -> Result<(), Fail> {
     let mut within = set.range_by(Bound::Excluded(5), Bound::Unbounded);
     same(&rt, within.next().map(number), Some(7));
     assert!(rt; within.next().is_none());
-    let strict = access_strict::<ArchivedU32, 2>(writer.bytes(), pos)?;
+    let strict = access_strict::<ArchivedBTreeSet<ArchivedU32, 2>>(writer.bytes(), pos)?;
     same(
         &rt,
         strict
@@ -217,7 +221,7 @@ fn a_range_between_archived_keys(rt: HostRuntime) -> Result<(), Fail> {
             .map(number),
         Some(5),
     );
-    let again = open_strict::<ArchivedU32, 2>(writer.bytes())?;
+    let again = open_strict::<ArchivedBTreeSet<ArchivedU32, 2>>(writer.bytes())?;
     same(&rt, again.as_view().pos, pos);
     Ok(())
 }

@@ -9,7 +9,6 @@ ghost use Rattle.rkyv_btree_update.specs.Updated.{last_word};
 
 use anyhow::Result;
 use rkyv_btree::prelude::*;
-use rkyv_btree::set;
 use rkyv_btree_update::change::Change;
 use rkyv_btree_update::diff::diff;
 use rkyv_btree_update::update::{merge, update};
@@ -32,7 +31,7 @@ pub fn changed_prices<'a>(
     changes: &[(&'a str, Change<u32>)],
 ) -> Result<Vec<u8>> {
     sizes_fit::<Prices>();
-    let old = open_strict::<ArchivedText, ArchivedU32, 5>(bytes)?;
+    let old = open_strict::<Prices>(bytes)?;
     let mut writer = VecWriter::new(alloc);
     update(alloc, old, changes, &mut writer)?;
     Ok(writer.into_vec())
@@ -41,15 +40,15 @@ pub fn changed_prices<'a>(
 /// Returns the price of a name, if it is there.
 pub fn price_of(bytes: &[u8], name: &str) -> Result<Option<u32>> {
     sizes_fit::<Prices>();
-    let prices = open_strict::<ArchivedText, ArchivedU32, 5>(bytes)?;
+    let prices = open_strict::<Prices>(bytes)?;
     Ok(prices.get_native_by(name))
 }
 
 /// Returns the archive of two price lists. Of a name in both the price is that of the second list.
 pub fn merged_prices(alloc: Global, first: &[u8], second: &[u8]) -> Result<Vec<u8>> {
     sizes_fit::<Prices>();
-    let first = open_strict::<ArchivedText, ArchivedU32, 5>(first)?;
-    let second = open_strict::<ArchivedText, ArchivedU32, 5>(second)?;
+    let first = open_strict::<Prices>(first)?;
+    let second = open_strict::<Prices>(second)?;
     let mut writer = VecWriter::new(alloc);
     merge::<_, _, &str, u32, _, 5>(alloc, first, second, &mut writer)?;
     Ok(writer.into_vec())
@@ -62,8 +61,8 @@ pub fn price_changes<'a>(
     new: &'a [u8],
 ) -> Result<Vec<(&'a str, Change<u32>)>> {
     sizes_fit::<Prices>();
-    let old = open_strict::<ArchivedText, ArchivedU32, 5>(old)?;
-    let new = open_strict::<ArchivedText, ArchivedU32, 5>(new)?;
+    let old = open_strict::<Prices>(old)?;
+    let new = open_strict::<Prices>(new)?;
     let mut changes = Vec::new(alloc);
     for change in diff(old, new) {
         changes.push(change)?;
@@ -78,7 +77,7 @@ pub fn changed_names<'a>(
     changes: &[(&'a str, Change<()>)],
 ) -> Result<Vec<u8>> {
     sizes_fit::<Names>();
-    let old = set::open_strict::<ArchivedText, 5>(bytes)?;
+    let old = open_strict::<Names>(bytes)?;
     let mut writer = VecWriter::new(alloc);
     update(alloc, old.as_map(), changes, &mut writer)?;
     Ok(writer.into_vec())
@@ -87,7 +86,7 @@ pub fn changed_names<'a>(
 /// Returns whether a set has a name.
 pub fn has_name(bytes: &[u8], name: &str) -> Result<bool> {
     sizes_fit::<Names>();
-    let names = set::open_strict::<ArchivedText, 5>(bytes)?;
+    let names = open_strict::<Names>(bytes)?;
     Ok(names.contains_by(name))
 }
 
@@ -105,7 +104,7 @@ pub fn value_after(
     sizes_fit::<Numbers>();
     let mut writer = VecWriter::new(alloc);
     let pos = update(alloc, old, changes, &mut writer)?;
-    match access_strict::<ArchivedU32, ArchivedU32, 5>(writer.bytes(), pos) {
+    match access_strict::<Numbers>(writer.bytes(), pos) {
         Ok(map) => Ok(map.get_native_by(key)),
         Err(_) => unreachable!(),
     }

@@ -3,6 +3,6 @@ use Rattle.btreekv_commands.proofs.opening.strict_count.Goals as goal
 
 pub returns-in-Err-clause-err : goal.returns-in-Err-clause-err
 returns-in-Err-clause-err c = record {
-  first = (c.in-Err.ensures.refuses _).0 refl;
-  none = λ entries is increase. absurd (cc (c.in-Err.ensures.accepts.1 (entries, is, increase)));
+  first = (c.in-Err.ensures.exact.refuses _).0 refl;
+  none = λ entries is increase. absurd (cc (c.in-Err.ensures.exact.accepts.1 (entries, (is, increase))));
 }

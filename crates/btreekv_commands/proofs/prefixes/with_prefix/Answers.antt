@@ -3,8 +3,8 @@ use Rattle.std.proofs.Common.{◌∙◌, rules}
 use Rattle.std.proofs.lemmas.List.Elements.{filter_agree}
 use Rattle.rkyv_btree_base.specs.Text.{text_kind}
 use Rattle.rkyv_btree_view.specs.View.{entries_of}
-use Rattle.btreekv_commands.specs.Prefixes.{prefix_cmp}
-use Rattle.btreekv_commands.proofs.PrefixOrder.{equal_begins, ordered}
+use Rattle.rkyv_btree_strict.proofs.PrefixOrder.{equal_begins, ordered}
+use Rattle.rkyv_btree_strict.specs.Prefix.{prefix_cmp}
 use Rattle.btreekv_commands.proofs.prefixes.with_prefix.Goals as goal
 
 pub returns-clause-has_prefix : goal.returns-clause-has_prefix

@@ -1,5 +1,5 @@
 -- A strict range is a filter of the list.
-use Rattle.std.proofs.Common.{◌≡◌, ◌∙◌, List, ap, arith, refl, sym}
+use Rattle.std.proofs.Common.{◌≡◌, ◌∙◌, List, ap, refl, sym}
 use Rattle.std.specs.Cmp.Lexicographic.{slice_cmp}
 use Rattle.std.specs.Option.{option_map}
 use Rattle.std.specs.Ordering.{nat_cmp}
@@ -13,7 +13,7 @@ use Rattle.examples.proofs.strict.first_price_from.Goals as goal
 
 pub open_strict-requires : goal.open_strict-requires
 unfolding are_fitting inner_size round_up len_at node_size values_at keys_at node_align align
-open_strict-requires c = (omega arith, refl)
+open_strict-requires c = refl
 
 -- the second part of the first of some entries
 first : {A B : Type 0} → List (A × B) → Option B

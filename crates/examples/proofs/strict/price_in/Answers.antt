@@ -1,5 +1,5 @@
 -- A strict view finds what std's lookup finds.
-use Rattle.std.proofs.Common.{◌∙◌, arith, refl, rules}
+use Rattle.std.proofs.Common.{◌∙◌, refl, rules}
 use Rattle.std.specs.Cmp.Lexicographic.{slice_cmp}
 use Rattle.std.specs.Ordering.{nat_cmp}
 use Rattle.rkyv_btree.specs.View.{entries_of, view_value}
@@ -12,7 +12,7 @@ use Rattle.examples.proofs.strict.price_in.Goals as goal
 
 pub open_strict-requires : goal.open_strict-requires
 unfolding are_fitting inner_size round_up len_at node_size values_at keys_at node_align align
-open_strict-requires c = (omega arith, refl)
+open_strict-requires c = refl
 
 pub returns : goal.returns
 returns c =

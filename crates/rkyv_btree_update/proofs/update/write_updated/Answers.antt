@@ -63,7 +63,7 @@ returns-in_err-root-clause-err g c =
     rw (p.1, p.2)
     (record {
       cause = unbuilt g.K.Portable.kind g.V.Portable.kind g.row.E g.KU.Archive.archival g.VU.Archive.archival key_shown value_shown (merged g.KU.CompareArchived.order old new) c.new-entries.result (updated g.KU.CompareArchived.order entries changes) written c.in-Some.len (counted_some _ c.requires.counted c.in-Some.is).0
-    (g.W.Writer.state c.args.writer.now) c.in_err-root.field-0.0 (g.W.Writer.state c.serialize_from_ordered_iter.new.writer) c.in_err-root.ensures.err.cause;
+          (g.W.Writer.state c.args.writer.now) c.in_err-root.field-0.0 (g.W.Writer.state c.serialize_from_ordered_iter.new.writer) c.in_err-root.ensures.err.cause;
       kept = c.in_err-root.ensures.err.kept;
     })
 

@@ -16,7 +16,7 @@ unreachable-requires c =
     let list = updated nat_cmp (entries_of u32_kind u32_kind 5 c.args.old.view) (changes_meant (λ n. n) (λ n. n) c.args.changes.now) in
     let strict = (c.in_ok-pos.ensures.ok number_lent number_lent).strict [] (rw c.new-writer.ensures refl) in
     let there = subst (λ b. IsStrictMap u32_kind u32_kind 5 b c.in_ok-pos.pos list) (sym c.bytes.ensures) strict in
-    absurd (cc (rw c.in-Err.is at (c.access_strict.ensures.accepts.1 (list, there))))
+    absurd (cc (rw c.in-Err.is at (c.access_strict.ensures.exact.accepts.1 (list, there))))
 
 pub returns : goal.returns
 returns c =

@@ -8,9 +8,8 @@ use Rattle.std.specs.Ordering.{nat_cmp, ordering_then, is_le, is_ge}
 use Rattle.std.specs.declared.cmp.Ordering.{Ordering}
 use Rattle.std.specs.declared.cmp.Ordering.TheVariants.{Less, Equal, Greater}
 use Rattle.rkyv_btree_walk.specs.Search.{OrderedBy}
-use Rattle.btreekv_commands.specs.Lines.{Entry}
-use Rattle.btreekv_commands.specs.Opening.{KeysIncrease}
-use Rattle.btreekv_commands.specs.Prefixes.{prefix_cmp}
+use Rattle.rkyv_btree_base.specs.Increasing.{Increasing}
+use Rattle.rkyv_btree_strict.specs.Prefix.{prefix_cmp}
 
 -- the order of two numbers before a third
 
@@ -91,33 +90,33 @@ equal_begins (a ∷ p) (b ∷ k) =
     unequal : (a ≡ b → ⊥) → nat_eq a b ≡ false
     unequal h = grind (arith, nat_tests)
 
-module _ (p : List ℕ) where
-  abbrev at : Entry → Ordering
+module _ {B : Type 0} (p : List ℕ) where
+  abbrev at : List ℕ × B → Ordering
   at e = prefix_cmp p e.0
 
-  abbrev Below : List ℕ → List Entry → Type 0
+  abbrev Below : List ℕ → List (List ℕ × B) → Type 0
   Below k es = AllByRecursion (λ y. slice_cmp nat_cmp k y ≡ Less) (map (λ e. e.0) es)
 
-  none : (P : Entry → Type 0) → All P []
+  none : (P : List ℕ × B → Type 0) → All P []
   none P i d less = absurd (omega arith)
 
-  more : (P : Entry → Type 0) (x : Entry) (xs : List Entry) → P x → All P xs → All P (x ∷ xs)
+  more : (P : List ℕ × B → Type 0) (x : List ℕ × B) (xs : List (List ℕ × B)) → P x → All P xs → All P (x ∷ xs)
   more P x xs h all zero d less = h
   more P x xs h all (suc i) d less = all i d (omega arith)
 
-  all_past : (k : List ℕ) (es : List Entry) → prefix_cmp p k ≡ Less → Below k es → All (λ e. at e ≡ Less) es
+  all_past : (k : List ℕ) (es : List (List ℕ × B)) → prefix_cmp p k ≡ Less → Below k es → All (λ e. at e ≡ Less) es
   all_past k [] less below = none _
   all_past k (e ∷ es) less below = more (λ e. at e ≡ Less) e es (past p k e.0 below.0 less) (all_past k es less below.1)
 
   -- after a key with the prefix no key is before it
-  none_before : (k : List ℕ) (xs greater equal less : List Entry) → prefix_cmp p k ≡ Equal → Below k xs → xs ≡ greater ++ equal ++ less → All (λ e. at e ≡ Greater) greater → greater ≡ []
+  none_before : (k : List ℕ) (xs greater equal less : List (List ℕ × B)) → prefix_cmp p k ≡ Equal → Below k xs → xs ≡ greater ++ equal ++ less → All (λ e. at e ≡ Greater) greater → greater ≡ []
   none_before k xs [] equal less same below parts g = refl
   none_before k [] (z ∷ zs) equal less same below parts g = absurd (cc parts)
   none_before k (x ∷ xs) (z ∷ zs) equal less same below parts g =
       let first : x ≡ z = cc in
       absurd (beside p k x.0 below.0 same (ap at first ∙ g 0 z (omega arith)))
 
-  pub ordered : (es : List Entry) → KeysIncrease es → OrderedBy at es
+  pub ordered : (es : List (List ℕ × B)) → Increasing (slice_cmp nat_cmp) es → OrderedBy at es
   unfolding IsStrictlySortedBy
   ordered [] h = ([], [], [], refl, none _, none _, none _)
   ordered (x ∷ xs) h =
@@ -126,7 +125,7 @@ module _ (p : List ℕ) where
         | Equal ↦ λ e. (
             let r = ordered xs h.1 in
             let no = none_before x.0 xs r.0 r.1 r.2 e h.0 r.3 r.4 in
-            ([], x ∷ r.1, r.2, ap (λ (zs : List Entry). x ∷ zs) (r.3 ∙ ap (λ (zs : List Entry). zs ++ r.1 ++ r.2) no), none _, more (λ e. at e ≡ Equal) x r.1 e r.5, r.6)
+            ([], x ∷ r.1, r.2, ap (λ (zs : List (List ℕ × B)). x ∷ zs) (r.3 ∙ ap (λ (zs : List (List ℕ × B)). zs ++ r.1 ++ r.2) no), none _, more (λ e. at e ≡ Equal) x r.1 e r.5, r.6)
             )
-        | Greater ↦ λ e. let r = ordered xs h.1 in (x ∷ r.0, r.1, r.2, ap (λ (zs : List Entry). x ∷ zs) r.3, more (λ e. at e ≡ Greater) x r.0 e r.4, r.5, r.6)
+        | Greater ↦ λ e. let r = ordered xs h.1 in (x ∷ r.0, r.1, r.2, ap (λ (zs : List (List ℕ × B)). x ∷ zs) r.3, more (λ e. at e ≡ Greater) x r.0 e r.4, r.5, r.6)
       ] refl
