@@ -106,7 +106,7 @@ python() {
     local installed=$PWD/$build/python
     rm -rf "$installed"
     PYTHONDONTWRITEBYTECODE=1 PYTHONPATH=bindings/python python3 -m unittest -q test_rkyv_btree &&
-        python3 -m pip install --quiet --disable-pip-version-check --no-index --target "$installed" bindings/python &&
+        PIP_ROOT_USER_ACTION=ignore python3 -m pip install --quiet --disable-pip-version-check --no-index --target "$installed" bindings/python &&
         (cd / && env -u RKYV_BTREE_LIB PYTHONPATH="$installed" python3 -c '
 import pathlib, rkyv_btree
 from importlib.metadata import version
