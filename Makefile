@@ -44,7 +44,7 @@ bench: program maps
 bindings:
 	@tools/bindings.sh
 
-# The man pages of the programs, made of their pages.
+# The man pages of the programs, made of their page.
 man:
 	@tools/man.py
 
@@ -52,9 +52,11 @@ man:
 reference:
 	@mkdir -p out && tools/reference.py --html out/reference.html && echo "written: out/reference.html"
 
-# The drawing of the format, made of the program's archive of 17 entries.
+# The drawings of the format and of a lookup, made of the program's archives of 17 and of 215 entries; and that of the crates, made of crates.txt.
 drawing: program
 	@awk 'BEGIN { for (i = 1; i <= 17; i++) print i, 10 * i }' | $(PROGRAM) build | tools/drawing.py > docs/format.svg
+	@awk 'BEGIN { for (i = 1; i <= 215; i++) print i, 10 * i }' | $(PROGRAM) build | tools/drawing.py 100 > docs/lookup.svg
+	@tools/house.py
 
 # btreearc alone, which bench and drawing need.
 program:

@@ -47,6 +47,11 @@ get_btreekv() { "$program" get "$1" "$work/btreekv"; }
 update_btreekv() { "$program" update "$work/btreekv" "$work/changes" -o "$work/btreekv.new"; }
 measure btreekv btreekv
 
+build_validated() { "$program" build --strict "$work/lines" > "$work/validated"; }
+get_validated() { "$program" get --validate "$1" "$work/validated"; }
+update_validated() { update_btreekv; }
+measure 'btreekv, all validated' validated
+
 build_sqlite() {
     sqlite3 "$work/sqlite" 'create table pairs (key text primary key, value text) without rowid' \
         '.mode tabs' ".import $work/lines pairs"
@@ -138,8 +143,8 @@ fi
     printf '\n## Beside other files of keys and values\n\n'
     printf '`bench/peers.sh` measured this and wrote it: %s pairs of texts, keys sorted, in one run' "$count"
     printf ' on a machine with %s processors under a load of %s.\n' "$(nproc)" "$(cut -d ' ' -f 1 /proc/loadavg)"
-    printf 'A lookup is a process of its own, %s of them. That of `btreekv` reads and validates the whole archive;' "$lookups"
-    printf ' a lookup without validation is measured above.\n'
+    printf 'A lookup is a process of its own, %s of them. That of `btreekv` validates what it reads;' "$lookups"
+    printf ' with `--validate` it reads and validates the whole archive first.\n'
     printf 'An update writes a new file with %s changes: sqlite3 and LMDB change a copy in one transaction, and cdb is written anew from the lines.\n' "$(wc -l < "$work/changes")"
     if [[ -n $started ]]; then printf 'A process of Python that does nothing took %s microseconds.\n' "$started"; fi
     if ((${#left_out[@]})); then printf 'Left out, because it is not installed: %s.\n' "$(IFS=,; echo "${left_out[*]}" | sed 's/,/, /g')"; fi

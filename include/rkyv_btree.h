@@ -35,6 +35,7 @@ enum {
     RKYV_BTREE_NOT_FOUND = 18,
     RKYV_BTREE_BAD_CURSOR = 19,
     RKYV_BTREE_BAD_VALUE = 20,
+    RKYV_BTREE_MISSING = 21,
     /* The entries have no archive. */
     RKYV_BTREE_LENGTH_OVERFLOW = 32,
     RKYV_BTREE_POSITION_OVERFLOW = 33,
@@ -58,7 +59,7 @@ enum {
     RKYV_BTREE_TEXT_TO_TEXT = 9
 };
 
-/* Why bytes were refused. */
+/* Why bytes were refused, or why entries have no archive. */
 typedef struct {
     uint32_t code;    /* the code that the call returned */
     int64_t at;       /* a position in the buffer, or 0 */
@@ -77,6 +78,23 @@ typedef struct {
     rkyv_btree_item key;
     rkyv_btree_item value;
 } rkyv_btree_entry;
+
+/* A piece of an archive: `len` bytes from position `pos` on, which a buffer has from `start` on. */
+typedef struct {
+    uint32_t pos;
+    uint32_t start;
+    uint32_t len;
+} rkyv_btree_piece;
+
+/* Keys or values one after the other, as a table has a column. Numbers have 4 or 8 bytes, as their type has, the least first. Texts are
+ * UTF-8 in one buffer, and have offsets of 4 or 8 bytes: where each begins, and then where the last ends. */
+typedef struct {
+    const uint8_t *data; /* the numbers, or the bytes of all texts */
+    size_t data_len;
+    const uint8_t *offsets; /* of numbers NULL */
+    size_t offsets_len;     /* how many bytes the offsets have, of numbers 0 */
+    uint32_t offset_size;   /* 4 or 8; of numbers it isn't read */
+} rkyv_btree_column;
 
 /* A map in a buffer of the caller's. It must be initialized, by {0} or by a call, and is written by calls alone. While it is open,
  * the buffer doesn't change. */
@@ -132,6 +150,18 @@ uint32_t rkyv_btree_find_number(uint32_t type, const uint8_t *data, size_t data_
 uint32_t rkyv_btree_find_text(uint32_t type, const uint8_t *data, size_t data_len, const uint8_t *key, size_t key_len,
                               rkyv_btree_entry *entry, rkyv_btree_refusal *why);
 
+/* Finds the value of a key in an archive of `size` bytes of which some pieces are in memory, in `data`. It validates what it reads,
+ * as the two calls above do, in the bytes that the pieces have. A value that is a text is written to `buffer`, and `value` has its place there.
+ * RKYV_BTREE_MISSING if the lookup needs bytes that no piece has whole: `found` many from position `at` on. Add a piece with them, and call
+ * again. RKYV_BTREE_NO_ROOM if `buffer` has fewer than `found` bytes, which the lookup needs so far. RKYV_BTREE_BAD_ITEM if the key is no
+ * key of the type: a text for a number or the other way round, a number past 32 bits, or a text that isn't UTF-8. */
+uint32_t rkyv_btree_find_number_in(uint32_t type, uint64_t size, const rkyv_btree_piece *pieces, size_t pieces_len, const uint8_t *data,
+                                   size_t data_len, uint64_t key, uint8_t *buffer, size_t buffer_len, rkyv_btree_item *value,
+                                   rkyv_btree_refusal *why);
+uint32_t rkyv_btree_find_text_in(uint32_t type, uint64_t size, const rkyv_btree_piece *pieces, size_t pieces_len, const uint8_t *data,
+                                 size_t data_len, const uint8_t *key, size_t key_len, uint8_t *buffer, size_t buffer_len,
+                                 rkyv_btree_item *value, rkyv_btree_refusal *why);
+
 /* Sets a cursor before the first entry, or before the first entry whose key isn't less than a key. */
 uint32_t rkyv_btree_first(const rkyv_btree_map *map, rkyv_btree_cursor *cursor);
 uint32_t rkyv_btree_seek_number(const rkyv_btree_map *map, uint64_t key, rkyv_btree_cursor *cursor);
@@ -148,18 +178,30 @@ uint32_t rkyv_btree_next(const rkyv_btree_map *map, rkyv_btree_cursor *cursor, r
 /* Opens the map of the whole archive in the buffer, whose values can then be overwritten. After a refusal the map is closed. */
 uint32_t rkyv_btree_open_edit(rkyv_btree_edit *edit, uint32_t type, rkyv_btree_refusal *why);
 
+/* Opens the map of an edited map's buffer for reading, and validates nothing. It reads until the next call writes a value: after that, call
+ * this again. */
+uint32_t rkyv_btree_read_edit(rkyv_btree_map *map, const rkyv_btree_edit *edit);
+
 /* Overwrites the value of the entry with a key. RKYV_BTREE_BAD_VALUE if the values are texts, or narrower than the value. */
 uint32_t rkyv_btree_set_number(rkyv_btree_edit *edit, uint64_t key, uint64_t value);
 uint32_t rkyv_btree_set_text(rkyv_btree_edit *edit, const uint8_t *key, size_t key_len, uint64_t value);
 
 /* Builds the archive of entries, whose texts are in one buffer, in their order; or only if the keys increase. Where the archive has
  * more bytes than there is room for, nothing is written to `out`, and the call returns RKYV_BTREE_NO_ROOM. Both then and on success
- * `archive_len` is how many bytes the archive has. After another code neither is written. RKYV_BTREE_BAD_ITEM if a number has more than
- * 32 bits where the type has 32, or a text isn't UTF-8 or not within `texts`. RKYV_BTREE_NOT_INCREASING if the keys must increase. */
+ * `archive_len` is how many bytes the archive has. After another code but RKYV_BTREE_BAD_TYPE `why` has the cause, and nothing else is
+ * written. RKYV_BTREE_BAD_ITEM if a number has more than 32 bits where the type has 32, or a text isn't UTF-8 or not within `texts`.
+ * RKYV_BTREE_NOT_INCREASING if the keys must increase. In `why` the index of the first such entry is `found`. */
 uint32_t rkyv_btree_build(uint32_t type, const rkyv_btree_entry *entries, size_t entries_len, const uint8_t *texts,
-                          size_t texts_len, uint8_t *out, size_t out_len, size_t *archive_len);
+                          size_t texts_len, uint8_t *out, size_t out_len, size_t *archive_len, rkyv_btree_refusal *why);
 uint32_t rkyv_btree_build_strict(uint32_t type, const rkyv_btree_entry *entries, size_t entries_len, const uint8_t *texts,
-                                 size_t texts_len, uint8_t *out, size_t out_len, size_t *archive_len);
+                                 size_t texts_len, uint8_t *out, size_t out_len, size_t *archive_len, rkyv_btree_refusal *why);
+
+/* The same of the first `len` entries of two columns. RKYV_BTREE_BAD_ITEM if a column is shorter, if the offsets of a text aren't within
+ * its buffer, or the second is before the first, or if a text isn't UTF-8. */
+uint32_t rkyv_btree_build_arrays(uint32_t type, size_t len, const rkyv_btree_column *keys, const rkyv_btree_column *values,
+                                 uint8_t *out, size_t out_len, size_t *archive_len, rkyv_btree_refusal *why);
+uint32_t rkyv_btree_build_arrays_strict(uint32_t type, size_t len, const rkyv_btree_column *keys, const rkyv_btree_column *values,
+                                        uint8_t *out, size_t out_len, size_t *archive_len, rkyv_btree_refusal *why);
 
 /* Writes the text of a code, as much of it as there is room for, and returns how many bytes the whole text has. It ends with a 0 if
  * it fits. */

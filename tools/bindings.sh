@@ -1,8 +1,8 @@
 #!/usr/bin/env bash
-# Builds the static library and the shared one into bindings/build, and builds and tests the bindings over them: C with cc, Rust with
-# cargo, Python with python3. Then it installs the library into a folder of its own, and the programs if they are built, and builds C over
-# that with pkg-config. It says which it left out because its compiler isn't there; where the environment has CI=true, that is a failure.
-# It downloads nothing. RT is rt's command, if not rt.
+# Builds the static library and the shared one into bindings/build, and builds and tests the bindings over them: C with cc, and again with
+# sanitizers and under valgrind; Rust with cargo, Python with python3. Then it installs the library into a folder of its own, and the programs
+# if they are built, and builds C over that with pkg-config. It says which it left out because its compiler isn't there; where the environment
+# has CI=true, that is a failure. It downloads nothing. RT is rt's command, if not rt.
 #
 #     tools/bindings.sh [--after-ci | LIBRARY]
 #
@@ -80,15 +80,50 @@ names() {
 }
 try names names
 
+# Compiles the test and the examples into a folder, by a compiler and its flags.
 compiled() {
-    cc -std=c11 -Wall -Wextra -Wpedantic -Werror -O2 -Iinclude -o "$build/$1" "bindings/c/$1.c" "$build/librkyv_btree.a"
+    local folder=$1 name
+    shift
+    mkdir -p "$folder"
+    for name in test lookup edit; do
+        "$@" -std=c11 -Wall -Wextra -Wpedantic -Werror -Iinclude -o "$folder/$name" "bindings/c/$name.c" "$build/librkyv_btree.a" || return
+    done
 }
 
 c() {
-    compiled test && compiled lookup && compiled edit && bindings/c/readme.sh "$build" &&
-        (cd "$build" && ./test) && bindings/c/examples.sh "$build"
+    compiled "$build" cc -O2 && bindings/c/readme.sh "$build" && (cd "$build" && ./test) && bindings/c/examples.sh "$build"
 }
 try C c
+
+# The library's own code has no checks of a sanitizer: these see the calls and the blocks of memory. valgrind sees the library's code too. Without
+# these tools both are left out, with CI=true too.
+sanitizers=(-g -O1 -fno-omit-frame-pointer -fsanitize=address,undefined -fno-sanitize-recover=all)
+sanitized() {
+    local folder=$build/sanitized
+    compiled "$folder" "$1" "${sanitizers[@]}" && (cd "$folder" && ./test) && bindings/c/examples.sh "$folder"
+}
+sanitizing() {
+    local compiler
+    for compiler in clang cc; do
+        echo 'int main(void) { return 0; }' | "$compiler" "${sanitizers[@]}" -x c -o "$build/empty" - 2> /dev/null && "$build/empty" || continue
+        try "C with sanitizers" sanitized "$compiler"
+        return
+    done
+    echo "bindings: C with sanitizers left out: neither clang nor cc has them" >&2
+}
+sanitizing
+
+# A short run: valgrind takes about a hundred times as long.
+watched() {
+    local folder=$build/watched
+    compiled "$folder" cc -g -O1 &&
+        (cd "$folder" && valgrind --quiet --error-exitcode=99 --leak-check=full --show-leak-kinds=all --errors-for-leak-kinds=all ./test short)
+}
+if command -v valgrind > /dev/null; then
+    try "C under valgrind" watched
+else
+    echo "bindings: C under valgrind left out: there is no valgrind" >&2
+fi
 
 # The crate as cargo packages it is built over the library that the variable names, since it lies in another folder then.
 rust() {
@@ -105,10 +140,10 @@ fi
 python() {
     local installed=$PWD/$build/python
     rm -rf "$installed"
-    PYTHONDONTWRITEBYTECODE=1 PYTHONPATH=bindings/python python3 -m unittest -q test_rkyv_btree &&
+    PYTHONDONTWRITEBYTECODE=1 PYTHONPATH=bindings/python python3 -m unittest -q test_rkyv_btree test_remote &&
         PIP_ROOT_USER_ACTION=ignore python3 -m pip install --quiet --disable-pip-version-check --no-index --target "$installed" bindings/python &&
         (cd / && env -u RKYV_BTREE_LIB PYTHONPATH="$installed" python3 -c '
-import pathlib, rkyv_btree
+import pathlib, rkyv_btree, rkyv_btree.shards
 from importlib.metadata import version
 assert version("rkyv-btree") == rkyv_btree.__version__
 assert (pathlib.Path(rkyv_btree.__file__).parent / "librkyv_btree.so").exists()
@@ -116,6 +151,35 @@ assert rkyv_btree.Map(rkyv_btree.build("text", "u32", [("pear", 5)]), "text", "u
 }
 if has Python python3; then
     try Python python
+fi
+
+# Data sets of many archives, by the first Python that has fsspec and Dask: Debian's packages are those of /usr/bin/python3. Without them
+# their tests are left out, with CI=true too.
+sharded() {
+    PYTHONDONTWRITEBYTECODE=1 PYTHONPATH=bindings/python PYTHONWARNINGS=ignore::DeprecationWarning "$1" -m unittest -q test_shards
+}
+shards() {
+    local interpreter
+    for interpreter in python3 /usr/bin/python3; do
+        "$interpreter" -c "import fsspec, dask, distributed" 2> /dev/null || continue
+        try "Python's shards" sharded "$interpreter"
+        return
+    done
+    echo "bindings: Python's shards over fsspec and Dask left out: python3 has no fsspec, dask and distributed" >&2
+    try "Python's shards" sharded python3
+}
+if command -v python3 > /dev/null; then
+    shards
+fi
+
+# Lookups over a server of HTTP. Without nginx they are left out, with CI=true too.
+served() {
+    PYTHONDONTWRITEBYTECODE=1 PYTHONPATH=bindings/python python3 -m unittest -q test_nginx
+}
+if command -v python3 > /dev/null && PATH=$PATH:/usr/sbin type -P nginx > /dev/null; then
+    try "Python over nginx" served
+else
+    echo "bindings: Python over nginx left out: there is no nginx" >&2
 fi
 
 if has "the installed library" pkg-config; then

@@ -15,7 +15,7 @@ import tempfile
 import time
 
 ROOT = pathlib.Path(__file__).resolve().parent.parent
-CALLS = ("View::get_by", "ArchivedBTreeMap::serialize_from_ordered_iter", "Unverified::range_of")
+CALLS = ("View::get_by", "BuildMap::serialize_from_ordered_iter", "Unverified::range_of")
 SEARCH = """(() => {
     const field = document.getElementById("search");
     field.value = %s;

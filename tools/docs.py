@@ -2,10 +2,10 @@
 """Compares the documents with the repository: tools/docs.py
 
 Each `rust` block of a document, and of a doc comment, is text of a source file of a crate in crates.txt, word for word; each `antt`
-block is text of such a crate's definitions or proofs; each `output` block is what such a program has to print. A signature in running text, `fn name(..)`,
-is one of the sources. Each call of docs/PROMISES.md is in the index with its clauses. Links between documents lead somewhere, and
-files that are named in running text are there. README.md has at most 120 lines. The man pages are what tools/man.py makes. The last line
-is `1 passed, 0 failed`, or `0 passed, 1 failed` after what is wrong.
+block is text of such a crate's definitions or proofs; each `output` block is what such a program has to print. A signature in running text,
+`fn name(..)`, is one of the sources. Each call of docs/GUARANTEES.md is in the index with its clauses, and each wrong body of docs/TESTING.md in its crate. Links between documents lead somewhere, and
+files that are named in running text are there. README.md has at most 110 lines. The man pages are what tools/man.py makes, and the drawing of the
+crates what tools/house.py makes. The last line is `1 passed, 0 failed`, or `0 passed, 1 failed` after what is wrong.
 """
 import pathlib
 import re
@@ -13,10 +13,12 @@ import subprocess
 import sys
 import textwrap
 
+from index import promise_rows
+
 ROOT = pathlib.Path(__file__).resolve().parent.parent
 PAGES = [ROOT / name for name in ("README.md", "CONTRIBUTING.md", "CHANGELOG.md", "bench/README.md")]
 SOURCES = {"rust": "src/**/*.rt", "antt": "**/*.antt", "output": "stdout"}
-LONGEST_README = 120
+LONGEST_README = 110
 
 
 def texts(kind):
@@ -38,6 +40,8 @@ def is_in(block, text):
     """Tells whether the lines of a block stand in a text one after another, all indented by as much or not at all."""
     wanted, given = lines_of(textwrap.dedent(block)), lines_of(text)
     for start in range(len(given) - len(wanted) + 1):
+        if given[start].lstrip() != wanted[0].lstrip():
+            continue
         part = "\n".join(given[start:start + len(wanted)])
         if textwrap.dedent(part).splitlines() == wanted:
             return True
@@ -96,21 +100,30 @@ def wrong_names(text, plain):
 
 
 def wrong_promises():
-    """Yields the calls of docs/PROMISES.md that the index has not, or not with these clauses."""
+    """Yields the calls of docs/GUARANTEES.md that the index has not, or not with these clauses."""
     index = {}
     for line in (ROOT / "docs" / "PROOFS.md").read_text().splitlines():
         cells = line.split("|")
         title = re.match(r"\| \*?`(?:trait |impl \w+ for )?([^`]+)`", line)
         if title and len(cells) == 7:
             index.setdefault(title[1], set()).update(re.findall(r"`([^`]+)`", cells[3]))
-    for row in re.findall(r"^\|.*\|$", (ROOT / "docs" / "PROMISES.md").read_text(), re.M)[2:]:
-        for part in row.strip("| ").split(" | ")[-1].split(";"):
+    for cells in promise_rows():
+        for part in cells[-1].split(";"):
             calls, _, clauses = part.partition(": ")
             for call in re.findall(r"`([\w:]+)`", calls):
                 found = [index[title] for title in index if f"::{title}".endswith(f"::{call.removeprefix('btreearc_commands::')}")]
                 missed = set(re.findall(r"`(\w+)`", clauses)) - set().union(*found)
                 if not found or missed:
-                    yield f"docs/PROMISES.md: the index has no `{call}` with {', '.join(sorted(missed)) or 'a contract'}"
+                    yield f"docs/GUARANTEES.md: the index has no `{call}` with {', '.join(sorted(missed)) or 'a contract'}"
+
+
+def wrong_edits():
+    """Yields the wrong bodies that docs/TESTING.md names and no crate has."""
+    text = (ROOT / "docs" / "TESTING.md").read_text()
+    for crate, cell in re.findall(r"^\| (\w+) \| ((?:`\w+\.\w+\.\w+`(?:, )?)+) \|", text, re.M):
+        for name in re.findall(r"`([^`]+)`", cell):
+            if not (ROOT / "crates" / f"rkyv_btree_{crate}" / "wrong" / f"{name}.edit").exists():
+                yield f"docs/TESTING.md: the crate {crate} has no wrong body `{name}`"
 
 
 def faults():
@@ -125,10 +138,13 @@ def faults():
         for fault in wrong_blocks(comments(source), known):
             yield f"a doc comment: {fault}"
     yield from wrong_promises()
+    yield from wrong_edits()
     if len((ROOT / "README.md").read_text().splitlines()) > LONGEST_README:
         yield f"README.md: more than {LONGEST_README} lines"
     if subprocess.run([ROOT / "tools" / "man.py", "--check"], check=False).returncode:
         yield "a man page is stale; run make man"
+    if subprocess.run([ROOT / "tools" / "house.py", "--check"], check=False).returncode:
+        yield "the drawing of the crates is stale; run tools/house.py"
 
 
 def main():

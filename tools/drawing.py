@@ -1,8 +1,9 @@
 #!/usr/bin/env python3
 """Draws an archive of btreearc, as a tree and as bytes: tools/drawing.py < ARCHIVE > docs/format.svg
+Draws how a lookup goes down in one: tools/drawing.py KEY < ARCHIVE > docs/lookup.svg
 
-The archive has a root with leaves below it, of u32 to u32 with 5 entries a node. Every number and each place in the drawing is read
-from its bytes, as docs/FORMAT.md defines them. `make drawing` has btreearc build the archive of 17 entries.
+The archive is of u32 to u32 with 5 entries a node; for the first drawing it has a root with leaves below it. Every number and each place in a
+drawing is read from its bytes, as docs/FORMAT.md defines them. `make drawing` has btreearc build archives of 17 and of 215 entries.
 """
 import struct
 import sys
@@ -40,8 +41,32 @@ class Archive:
         offset = struct.unpack_from("<i", self.data, at)[0]
         return None if offset == 1 else at + offset
 
-    def pointer_at(self, index):
-        return self.root + POINTERS + 4 * index
+    def pointer_at(self, index, node=None):
+        return (self.root if node is None else node) + POINTERS + 4 * index
+
+    def is_inner(self, node):
+        return self.data[node] == 1
+
+    def way(self, key):
+        """Yields each node to which a lookup goes, with its entries, how many of their keys are compared, and the child that comes next."""
+        node = self.root
+        while node is not None:
+            entries = self.entries(node, ENTRIES if self.is_inner(node) else self.number(node + LENGTH))
+            before = sum(1 for other, _ in entries if other < key)
+            found = before < len(entries) and entries[before][0] == key
+            child = None if found or not self.is_inner(node) else self.target(self.pointer_at(before, node))
+            yield node, entries, min(before + 1, len(entries)), child
+            node = child
+
+    def nodes(self, node=None):
+        """Yields the position and the size of each node."""
+        node = self.root if node is None else node
+        inner = self.is_inner(node)
+        yield node, (POINTERS + 4 * (ENTRIES + 1) if inner else LENGTH + 4)
+        for index in range(ENTRIES + 1) if inner else ():
+            child = self.target(self.pointer_at(index, node))
+            if child is not None:
+                yield from self.nodes(child)
 
     def entries(self, node, count):
         """Returns the keys and values of a node."""
@@ -150,13 +175,67 @@ def legend():
         x += 62 + 6.6 * len(name)
 
 
-def drawing(archive):
-    yield (f'<svg xmlns="http://www.w3.org/2000/svg" viewBox="0 0 {WIDTH} {TALL}" width="{WIDTH}" height="{TALL}" '
+def step(archive, key, level, node, entries, compared, child):
+    """Draws a node of a lookup's way: which keys are compared, and to which child it goes."""
+    wide, gap, top = 76, 14, 78 + 112 * level
+    left = LEFT + 130 + 40 * level
+    name = "root" if level == 0 else "inner node" if archive.is_inner(node) else "leaf"
+    size = dict(archive.nodes())[node]
+    yield text(left - 20, top + 14, name, 12, "end", "#77747f")
+    yield text(left - 20, top + 30, f"at {node}", 12, "end", "#77747f")
+    yield box(left - 8, top - 8, ENTRIES * wide + (ENTRIES + 1) * gap + 16, 60, "none", round_by=8)
+    for index, (other, value) in enumerate(entries):
+        at, seen = left + gap + index * (wide + gap), index < compared
+        sign = "=" if other == key else ">" if other < key else "&lt;"
+        yield box(at, top, wide, 22, COLORS["key"] if seen else COLORS["unused"])
+        yield box(at, top + 22, wide, 22, COLORS["value"] if other == key else COLORS["unused"])
+        yield text(at + wide / 2, top + 15.5, f"{key} {sign} {other}" if seen else other, 11 if seen else 12, weight="bold" if seen else "normal")
+        yield text(at + wide / 2, top + 37.5, value, 11)
+    for index in range(ENTRIES + 1) if archive.is_inner(node) else ():
+        there = archive.target(archive.pointer_at(index, node))
+        taken = there is not None and there == child
+        x, color = left + gap / 2 + index * (wide + gap), "#b4573c" if taken else COLORS["absent"]
+        yield f'<circle cx="{x:g}" cy="{top + 22}" r="4" fill="{color}" stroke="#b4573c"/>'
+        if taken:
+            end = left + 40 + (ENTRIES * (wide + gap) + gap) / 2
+            yield path(f"M {x:g} {top + 27} V {top + 52} C {x:g} {top + 84}, {end:g} {top + 70}, {end:g} {top + 100}", ends=True)
+    yield text(WIDTH - LEFT, top + 14, f"{compared} of {len(entries)} keys compared", 12, "end")
+    yield text(WIDTH - LEFT, top + 30, f"{size} bytes read", 12, "end")
+
+
+def lookup(archive, key):
+    """Draws the way of a lookup, and below it what it reads of the archive."""
+    way, sizes = list(archive.way(key)), dict(archive.nodes())
+    read, low = MAP + sum(sizes[node] for node, *_ in way), 78 + 112 * len(way) + 6
+    yield from head(low + 84, f"A lookup of {key} in a map of {archive.count} entries")
+    yield text(LEFT, 34, f"A lookup of {key} in a map of {archive.count} entries: u32 to u32, {ENTRIES} entries a node", 16, "start", weight="bold")
+    for level, one in enumerate(way):
+        yield from step(archive, key, level, *one)
+    said = f"It reads {read} of {len(archive.data)} bytes, by {len(way) + 1} reads: the map's own {MAP} bytes, and a node a level"
+    yield text(LEFT, low - 14, said, 16, "start", weight="bold")
+    wide = (WIDTH - 2 * LEFT) / len(archive.data)
+    taken = {node for node, *_ in way}
+    for node, size in sorted(archive.nodes()):
+        yield box(LEFT + wide * node, low + 6, wide * size, 30, COLORS["pointer"] if node in taken else COLORS["unused"])
+    yield box(LEFT + wide * archive.root_at, low + 6, wide * MAP, 30, COLORS["pointer"])
+    for node in sorted(taken):
+        yield text(LEFT + wide * node, low + 52, node, 11, "middle", "#77747f")
+    yield text(LEFT + wide * archive.root_at, low + 64, "map", 11, "middle", "#77747f")
+    yield "</svg>"
+
+
+def head(tall, title):
+    """Begins a drawing."""
+    yield (f'<svg xmlns="http://www.w3.org/2000/svg" viewBox="0 0 {WIDTH} {tall}" width="{WIDTH}" height="{tall}" '
            'font-family="DejaVu Sans, Verdana, sans-serif">')
-    yield (f"<title>A map of {archive.count} entries in an archive of {len(archive.data)} bytes</title>")
+    yield f"<title>{title}</title>"
     yield ('<defs><marker id="head" viewBox="0 0 8 8" refX="7" refY="4" markerWidth="6" markerHeight="6" orient="auto">'
            '<path d="M 0 0 L 8 4 L 0 8 z" fill="#b4573c"/></marker></defs>')
-    yield f'<rect width="{WIDTH}" height="{TALL}" fill="#ffffff" rx="10"/>'
+    yield f'<rect width="{WIDTH}" height="{tall}" fill="#ffffff" rx="10"/>'
+
+
+def drawing(archive):
+    yield from head(TALL, f"A map of {archive.count} entries in an archive of {len(archive.data)} bytes")
     yield text(LEFT, 34, f"A map of {archive.count} entries: u32 to u32, {ENTRIES} entries a node", 16, "start", weight="bold")
     yield from tree(archive)
     yield text(LEFT, STRIP - 34, f"The same in {len(archive.data)} bytes, 4 to a cell", 16, "start", weight="bold")
@@ -165,9 +244,10 @@ def drawing(archive):
     yield "</svg>"
 
 
-def main():
-    print("\n".join(drawing(Archive(sys.stdin.buffer.read()))))
+def main(words):
+    archive = Archive(sys.stdin.buffer.read())
+    print("\n".join(lookup(archive, int(words[0])) if words else drawing(archive)))
 
 
 if __name__ == "__main__":
-    main()
+    main(sys.argv[1:])

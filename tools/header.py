@@ -1,18 +1,25 @@
 #!/usr/bin/env python3
-"""Compares include/rkyv_btree.h with the sources of crates/rkyv_btree_ffi, and the Rust declarations with the header.
+"""Compares include/rkyv_btree.h with the sources of crates/rkyv_btree_ffi and with the bindings: tools/header.py [--write]
 
-It compares the codes, the numbers of the types, the fields of the structs, and the prototypes: names, parameters and results; and the version
-with that of the Rust crate and of the Python package. The last line is `1 passed, 0 failed`, or what differs and `0 passed, 1 failed`.
+It compares the codes, the numbers of the types, the fields of the structs, and the prototypes: names, parameters and results. The
+declarations for Rust and for Python must be those that the header and bindings/types.json determine; --write writes them. It compares the types
+of bindings/types.json with the header's numbers and with the sizes of docs/FORMAT.md, and the version with that of the Rust crate and of the
+Python package. The last line is `1 passed, 0 failed`, or what differs and `0 passed, 1 failed`.
 """
+import json
 import pathlib
 import re
 import sys
 
+import declarations
+
 ROOT = pathlib.Path(__file__).resolve().parent.parent
 CRATE = ROOT / "crates" / "rkyv_btree_ffi" / "src"
 HEADER = (ROOT / "include" / "rkyv_btree.h").read_text()
-SOURCE = "\n".join(path.read_text() for path in sorted(CRATE.glob("*.rt")))
-RAW = (ROOT / "bindings" / "rust" / "src" / "raw.rs").read_text()
+TYPES = declarations.Types(json.loads((ROOT / "bindings" / "types.json").read_text()))
+# A piece is the library's own struct.
+PIECE = ROOT / "crates" / "rkyv_btree_source" / "src" / "piece.rt"
+SOURCE = "\n".join(path.read_text() for path in [*sorted(CRATE.glob("*.rt")), PIECE])
 
 # The codes of refusals are the fields of `refusal_of`, by the names of the cases.
 REFUSALS = {
@@ -22,10 +29,13 @@ REFUSALS = {
 }
 STRUCTS = {
     "BtreeRefusal": "rkyv_btree_refusal", "BtreeItem": "rkyv_btree_item", "BtreeEntry": "rkyv_btree_entry",
-    "BtreeMap": "rkyv_btree_map", "BtreeEdit": "rkyv_btree_edit", "BtreeStep": "rkyv_btree_step", "BtreeCursor": "rkyv_btree_cursor",
+    "BtreeColumn": "rkyv_btree_column", "Piece": "rkyv_btree_piece", "BtreeMap": "rkyv_btree_map", "BtreeEdit": "rkyv_btree_edit",
+    "BtreeStep": "rkyv_btree_step", "BtreeCursor": "rkyv_btree_cursor",
 }
 NUMBERS = {"u8": "uint8_t", "u32": "uint32_t", "u64": "uint64_t", "i64": "int64_t", "usize": "size_t"}
 RENAMED = {"map_type": "type", "buf": "data"}
+# How docs/FORMAT.md writes the size of a type that isn't in its table.
+WORDS = {"eight": "8"}
 
 wrong = []
 
@@ -83,7 +93,7 @@ def parameter(name, kind):
     if sliced := re.fullmatch(r"&(?:'a )?(mut )?\[(\w+)\]", kind):
         element = NUMBERS.get(sliced[2]) or STRUCTS[sliced[2]]
         return [f"{'' if sliced[1] else 'const '}{element} *{name}", f"size_t {name}_len"]
-    if pointed := re.fullmatch(r"&(mut )?(\w+)(?:<'[_a]>)?", kind):
+    if pointed := re.fullmatch(r"&(?:'a )?(mut )?(\w+)(?:<'[_a]>)?", kind):
         element = NUMBERS.get(pointed[2]) or STRUCTS[pointed[2]]
         return [f"{'' if pointed[1] else 'const '}{element} *{name}"]
     return [f"{NUMBERS[kind]} {name}"]
@@ -96,8 +106,6 @@ def prototypes():
         listed = []
         for pair in re.findall(r"(\w+): ([^,]+(?:<[^>]*>)?)(?:,|$)", plain(parameters).strip()):
             listed += parameter(pair[0], pair[1].strip())
-        if name.startswith("rkyv_btree_build"):
-            listed[-1] = "size_t *archive_len"
         source[name] = (NUMBERS[result], listed)
     header = {}
     for result, name, parameters in re.findall(r"(\w+) (rkyv_btree_\w+)\(([^)]*)\);", plain(HEADER)):
@@ -107,19 +115,32 @@ def prototypes():
         differs(name, header[name], source[name])
 
 
-def rust():
-    """The prototypes and structs of the Rust crate, by their types alone."""
-    kinds = {"u8": "uint8_t", "u32": "uint32_t", "u64": "uint64_t", "usize": "size_t", "Refusal": "rkyv_btree_refusal",
-             "Entry": "rkyv_btree_entry", "Map": "rkyv_btree_map", "Edit": "rkyv_btree_edit", "Cursor": "rkyv_btree_cursor"}
-    declared = {}
-    for name, parameters, result in re.findall(r"pub fn (\w+)\((.*?)\) -> (\w+);", RAW, re.S):
-        listed = []
-        for kind in re.findall(r"\w+: (\*mut |\*const |)(\w+)", parameters):
-            listed.append(("const " if kind[0] == "*const " else "") + kinds[kind[1]] + (" *" if kind[0] else ""))
-        declared[name] = (kinds[result], listed)
-    for result, name, parameters in re.findall(r"(\w+) (rkyv_btree_\w+)\(([^)]*)\);", plain(HEADER)):
-        listed = [re.sub(r"(\*?)\w+$", r"\1", p.strip()).strip() for p in parameters.split(",")]
-        differs(f"raw.rs, {name}", (result, listed), declared.get(name))
+def types():
+    """The types of keys and of values: the number of each pair in the header, the codes, and the sizes that docs/FORMAT.md has."""
+    header = [(name, int(number)) for name, number in re.findall(r"RKYV_BTREE_(\w+_TO_\w+) = (\d+)", HEADER)]
+    differs("types", header, [(name, number) for number, (_, _, name) in enumerate(TYPES.pairs(), 1)])
+    codes = set(re.findall(r"RKYV_BTREE_(\w+) = \d+", HEADER))
+    differs("codes of bindings/types.json that aren't there", [], sorted(set().union(*TYPES.codes.values()) - codes))
+    page = (ROOT / "docs" / "FORMAT.md").read_text()
+    for each in TYPES.each:
+        archived = f"Archived{each['name'].capitalize()}"
+        row = re.search(rf"^\|[^|]*`{archived}`[^|]*\|[^|]*\| (\d+) \| (\d+) \|", page, re.M)
+        words = re.search(rf"^`{archived}` is (\w+) bytes with alignment (\d+):", page, re.M)
+        said = row.groups() if row else (WORDS.get(words[1]), words[2]) if words else None
+        if said != (str(each["size"]), str(each["align"])):
+            wrong.append(f"bindings/types.json has {each['size']} and {each['align']} as size and alignment of {each['name']}, docs/FORMAT.md {said}")
+
+
+def bindings():
+    """The declarations for Rust and for Python, which the header and the types determine."""
+    header = declarations.Header(HEADER)
+    texts = {"rust/src/raw.rs": declarations.rust(header, TYPES), "python/rkyv_btree/_raw.py": declarations.python(header, TYPES)}
+    for place, text in texts.items():
+        path = ROOT / "bindings" / place
+        if "--write" in sys.argv[1:]:
+            path.write_text(text)
+        elif path.read_text() != text:
+            wrong.append(f"bindings/{place} isn't as the header and bindings/types.json determine it: tools/header.py --write writes it")
 
 
 def versions():
@@ -138,7 +159,8 @@ def versions():
 constants()
 structs()
 prototypes()
-rust()
+types()
+bindings()
 versions()
 for line in wrong:
     print(f"tools/header.py: {line}", file=sys.stderr)

@@ -16,7 +16,7 @@ LEFT_OUT = {"tests", "client_tests", "bench", "btreearc"}
 
 HEAD = """# Index of contracts
 
-`tools/index.py` makes this page from the sources, and the gate fails if it is stale. [PROMISES.md](PROMISES.md) says in words what
+`tools/index.py` makes this page from the sources, and the gate fails if it is stale. [GUARANTEES.md](GUARANTEES.md) says in words what
 the contracts promise.
 
 - **Requires** and **Ensures** name the clauses; `·` is a clause without a name. An `impl` lists the ghost members that it defines.
@@ -195,6 +195,14 @@ def records_of(file):
         fields = re.findall(r"^ *pub (\w+) : (\w*)", body.split("pub record")[0], re.M)
         found[name] = ", ".join(with_fields(field, found.get(stated, "")) for field, stated in fields)
     return found
+
+
+def promise_rows():
+    """Yields the rows of the promises in docs/GUARANTEES.md: the cells of each table with the column of calls and clauses."""
+    for table in re.findall(r"(?:^\|.*\|\n)+", (ROOT / "docs" / "GUARANTEES.md").read_text(), re.M):
+        rows = [line.strip("|").strip().split(" | ") for line in table.splitlines()]
+        if rows[0][-1] == "Call and clauses":
+            yield from rows[2:]
 
 
 def row(cells):

@@ -1,8 +1,8 @@
 #!/usr/bin/env python3
-"""Makes the man pages of the programs, as docs/btreearc.1, of their pages, as docs/BTREEARC.md: tools/man.py [--check]
+"""Makes the man pages of the programs, as docs/btreearc.1, of docs/PROGRAMS.md: tools/man.py [--check]
 
-Headings of a page become sections, and tables become lists: the first cell of a row is the term. With --check nothing is written, and
-the status is 1 if a man page is stale, which a line names.
+A man page has the program's part of the page, and the part on both programs. Headings become sections, and tables become lists: the first cell
+of a row is the term. With --check nothing is written, and the status is 1 if a man page is stale, which a line names.
 """
 import pathlib
 import re
@@ -10,6 +10,7 @@ import sys
 
 DOCS = pathlib.Path(__file__).resolve().parent.parent / "docs"
 PROGRAMS = ("btreearc", "btreekv")
+SHARED = "Both programs\n"
 
 
 def escaped(text):
@@ -34,14 +35,20 @@ def table(rows):
         yield f".TP\n{inline(cells[0])}\n{rest}"
 
 
-def roff(text):
-    """Returns the man page of a page."""
-    title, _, text = text.partition("\n")
-    name, _, about = title.removeprefix("# ").partition(": ")
+def parts_of(page):
+    """Returns what the page has on each program, by its name: what the program does, and the text with that on both programs."""
+    parts = re.split(r"^## ", page, flags=re.M)[1:]
+    shared = "".join(part.removeprefix(SHARED) for part in parts if part.startswith(SHARED))
+    titles = [part.partition("\n") for part in parts if not part.startswith(SHARED)]
+    return {title.partition(": ")[0]: (title.partition(": ")[2], text + shared) for title, _, text in titles}
+
+
+def roff(name, about, text):
+    """Returns the man page of a program."""
     lines = [f'.TH {name.upper()} 1', ".SH NAME", f"{name} \\- {escaped(about)}"]
     for part in re.split(r"\n\n+", text.strip()):
-        if part.startswith("## "):
-            lines.append(f".SH {part[3:].upper()}")
+        if part.startswith("### "):
+            lines.append(f".SH {part[4:].upper()}")
         elif part.startswith("```"):
             body = "\n".join(escaped(line) for line in part.splitlines()[1:-1])
             lines.append(f".PP\n.nf\n.RS 4\n{body}\n.RE\n.fi")
@@ -57,9 +64,9 @@ def roff(text):
 
 
 def main(words):
-    stale = 0
+    stale, parts = 0, parts_of((DOCS / "PROGRAMS.md").read_text())
     for program in PROGRAMS:
-        made, man = roff((DOCS / f"{program.upper()}.md").read_text()), DOCS / f"{program}.1"
+        made, man = roff(program, *parts[program]), DOCS / f"{program}.1"
         if words != ["--check"]:
             man.write_text(made)
         elif not man.exists() or man.read_text() != made:

@@ -1,7 +1,7 @@
 #!/usr/bin/env bash
 # Runs the built program as a process of its own, and compares its status, its standard output and its line on standard
 # error with what each case names. Then it has more than 1 MB of lines built and listed through pipes, and a value set; and a million
-# lines built within 32 megabytes. The drawing of the format must be that of its archive. It needs Python.
+# lines built within 32 megabytes. The drawings of the format and of a lookup must be those of its archives. It needs Python.
 #
 #     tools/processes.sh [PROGRAM]
 #
@@ -291,6 +291,8 @@ fi
 
 awk 'BEGIN { for (i = 1; i <= 17; i++) print i, 10 * i }' | "$program" build | "$tools/drawing.py" |
     cmp -s - "$tools/../docs/format.svg" || fail "docs/format.svg isn't the drawing of 17 entries; run make drawing"
+awk 'BEGIN { for (i = 1; i <= 215; i++) print i, 10 * i }' | "$program" build | "$tools/drawing.py" 100 |
+    cmp -s - "$tools/../docs/lookup.svg" || fail "docs/lookup.svg isn't the drawing of 215 entries; run make drawing"
 
 ((failed)) || echo "processes: $program ends as it must"
 exit "$failed"

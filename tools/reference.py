@@ -12,7 +12,7 @@ import re
 import sys
 import textwrap
 
-from index import closing, crates, owner_of
+from index import closing, crates, owner_of, promise_rows
 
 ROOT = pathlib.Path(__file__).resolve().parent.parent
 FOLDER = ROOT / "docs" / "reference"
@@ -120,13 +120,32 @@ def items_of(text):
             if text[match.end()] == "}":
                 owner, shown = "", False
         elif match["item"]:
-            end = re.compile(r"[{;=(]").search(text, match.end()).start()
-            yield Item("type", match["named"], "", None, "", split_bounds(text[match.start():end])[0], [], doc_before(text, match.start()), [])
+            yield Item("type", match["named"], "", None, "", type_from(text, match), [], doc_before(text, match.start()), [])
         elif match["pub"] or shown:
             end = re.compile(r"\n\s*(?://[^\n]*\n\s*)*(?:requires|ensures)\b|\{|;(?!\s*\d+\])").search(text, match.end())
-            signature, bounds = split_bounds(textwrap.dedent(re.sub(r"^ *", "", text[match.start("fn"):end.start()])))
+            indent = match.start("fn") - text.rfind("\n", 0, match.start("fn")) - 1
+            signature, bounds = split_bounds(re.sub(rf"\n {{0,{indent}}}", "\n", text[match.start("fn"):end.start()]))
             clauses = list(clauses_from(text, end.start()))
             yield Item("fn", match["name"], owner, trait, head, signature, bounds, doc_before(text, match.start("fn")), clauses)
+
+
+def type_from(text, match):
+    """Returns a type as a caller reads it: an enum with its cases, a struct with its fields if these are plain data, and else its head."""
+    end = re.compile(r"[{;=(]").search(text, match.end()).start()
+    head = split_bounds(text[match.start():end])[0]
+    if text[end] != "{":
+        return head
+    body = text[end:closing(text, end)]
+    fields = re.findall(r"^    (?!//|#)(\w.*)$", body, re.M)
+    plain = all(field.startswith("pub ") for field in fields) and not re.search(r"\b(ghost|PhantomData|buf)\b", body)
+    return f"{head} {body}" if head.startswith("pub enum") or fields and plain else head
+
+
+def texts_of(text, name):
+    """Returns the texts of a type's `Display`, one for each case."""
+    block = re.search(rf"^impl\b[^{{]*\bDisplay for {name}\b[^{{]*\{{.*?^\}}", text, re.M | re.S)
+    found = re.findall(r'write!\(\s*f,\s*"([^"]*)"', block[0]) if block else []
+    return [one for one in found if re.search(r"\w{2}", re.sub(r"\{\w*\}", "", one))]
 
 
 def trait_named(head):
@@ -192,6 +211,8 @@ class House:
         if item.kind == "fn":
             return self.call(item, module)
         lines = [f"## {name}\n", code(item.signature), item_doc(item.doc)]
+        said = texts_of((ROOT / "crates" / crate / "src" / f"{module}.rt").read_text(), name)
+        lines += [f"Its text{'s' * (len(said) > 1)}: " + ", ".join(f"`{one}`" for one in said) + ".\n"] * bool(said)
         # methods of types with one name in several rooms are those of this room
         rooms = {room for other, room, _ in self.named if other == name}
         calls = [(file, one) for room, file, one in self.owned[name] if len(rooms) == 1 or room == crate]
@@ -208,7 +229,8 @@ class House:
             lines.append(f"Of `{after_generics(item.head)}`.\n")
             bounds = split_bounds(item.head)[1] + bounds
         lines += ["\n".join(f"- {bound_in_words(*bound)}" for bound in bounds) + "\n"] * bool(bounds) + [item_doc(item.doc)]
-        names = [f"{item.owner}::{item.name}"] if item.owner else [f"{module}::{item.name}", item.name]
+        name = f"{item.owner}::{item.name}" if item.owner else item.name
+        names = [name, f"{module}::{name}"]
         said = [one for name in names for one in self.promises.get(name, [])]
         lines += ["\n".join(f"- **{promise}.** {words}" for promise, words in said) + "\n"] * bool(said)
         if item.clauses:
@@ -230,16 +252,14 @@ class House:
 
 
 def promises():
-    """Returns the rows of docs/PROMISES.md by the calls that they name: each row's title, and what it says."""
+    """Returns the promises of docs/GUARANTEES.md by the calls that they name: each row's title, and what it says."""
     found = collections.defaultdict(list)
-    for row in re.findall(r"^\| (.*) \|$", (ROOT / "docs" / "PROMISES.md").read_text(), re.M):
-        cells = row.split(" | ")
-        if len(cells) == 3 and cells[0] not in ("Promise", "---"):
-            for part in cells[2].split(";"):
-                for call in re.findall(r"`([\w:]+)`", part.partition(": ")[0]):
-                    words = re.sub(r"\]\((?=\w+\.md)", "](../", cells[1].rstrip(".") + ".")
-                    if (cells[0], words) not in found[call]:
-                        found[call].append((cells[0], words))
+    for title, words, calls in promise_rows():
+        words = re.sub(r"\]\((?=\w+\.md)", "](../", words.rstrip(".") + ".")
+        for part in calls.split(";"):
+            for call in re.findall(r"`([\w:]+)`", part.partition(": ")[0]):
+                if (title, words) not in found[call]:
+                    found[call].append((title, words))
     return found
 
 

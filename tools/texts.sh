@@ -62,8 +62,10 @@ ends 2 'btreekv: not built: entry 1 is out of order' 'b\t1\na\t2\n'            '
 ends 2 'btreekv: not built: entry 1 is out of order' 'b\t1\nb\t2\n'            ''                            build --strict
 ends 2 'btreekv: line 1: not KEY TAB VALUE'        'a\n'                       ''                            build
 ends 2 'btreekv: line 2: not KEY TAB VALUE'        'a\tb\n\nc\td\n'            ''                            build
-ends 2 'btreekv: line 2: not KEY TAB VALUE'        'a\tb\n\xff\td\n'           ''                            build
-ends 2 'btreekv: line 1: not KEY TAB VALUE'        'a\t\xff\n'                 ''                            build
+ends 2 'btreekv: line 2: byte 1 is not UTF-8'      'a\tb\n\xff\td\n'           ''                            build
+ends 2 'btreekv: line 1: byte 3 is not UTF-8'      'a\t\xff\n'                 ''                            build
+ends 2 'btreekv: line 2: byte 4 is not UTF-8'      'a\tb\nc\td\xe2\x82\n'      ''                            build --sort
+ends 2 'btreekv: line 1: byte 3 is not UTF-8'      '\xc3\xa4\xff\n'            ''                            build --strict
 ends 0 ''                                          "$empty"                    ''                            list
 ends 0 ''                                          "$three"                    'apple\tred\nfig\tblue and green\npear\tyellow\n' list
 ends 0 ''                                          "$unordered"                'b\t1\na\t2\nb\t3\n'          list
@@ -98,20 +100,113 @@ ends 0 ''                                          "$empty"                    "
 ends 2 'btreekv: refused: position 0 is out of range' ''                       ''                            explain
 ends 2 'btreekv: refused: position 0 is out of range' ''                       ''                            list
 ends 2 'btreekv: refused: position 0 is out of range' 'abc'                    ''                            get a
-ends 2 'btreekv: input failed'                     ''                          ''                            list absent
+ends 2 'btreekv: input failed: absent: No such file or directory (os error 2)' '' ''                     list absent
+ends 2 'btreekv: input failed: .: Is a directory (os error 21)' '' ''                                    check .
 ends 2 "error: 'btreekv' requires a subcommand but one was not provided" ''    ''
 ends 2 "error: unrecognized subcommand 'lists'"    ''                          ''                            lists
 ends 2 "error: the argument '--sort' cannot be used with '--strict'" ''        ''                            build --sort --strict
 
+# forms: each line that --escape writes is read back, and so is each entry that --null writes
+odd='{"key":"a\\tb","value":"c\\nd\\\\e"}'
+tabs='a\\tb\tc\\nd\\\\e\n'
+archive_in() { printf '%b' "$1" | "$program" build --sort "${@:2}" | od -An -v -t x1 | tr -d '\n' | sed 's/ /\\x/g'; }
+escaped=$(archive_in "$tabs" --escape)
+nulled=$(archive_in 'b\tc\nd\0a\te\0' --null)
+ends 0 ''                                          "$escaped"                  "$tabs"                       list --escape
+ends 0 ''                                          "$escaped"                  'a\tb\tc\nd\\e\n'            list
+ends 0 ''                                          "$escaped"                  "$odd\n"                      list --ndjson
+ends 0 ''                                          "$escaped"                  'c\\nd\\\\e\n'                get --escape $'a\tb'
+ends 0 ''                                          "$escaped"                  "$tabs"                       range --escape a b
+ends 0 ''                                          "$escaped"                  "$tabs"                       prefix --escape a
+ends 0 ''                                          "$escaped"                  'a\tb\tc\nd\\e\0'            prefix --null a
+ends 0 ''                                          "$nulled"                   'a\te\0b\tc\nd\0'            list --null
+ends 0 ''                                          "$nulled"                   'c\nd\0'                     get --null b
+ends 0 ''                                          "$three"                    '{"key":"fig","value":"blue and green"}\n' range --ndjson b ofen
+ends 0 ''                                          "$three"                    '{"key":"pear","value":"yellow"}\n' prefix --ndjson p
+ends 0 ''                                          "$empty"                    ''                            list --ndjson
+ends 0 ''                                          'a\tb'                      "$(archive_of 'a\tb\n')"     build --sort --escape
+ends 0 ''                                          'b\t1\0a\t2\0b\t3'         "$sorted"                     build --sort --null
+ends 2 'btreekv: entry 2: not KEY TAB VALUE with escapes' 'a\tb\na\tb\\q\n'   ''                            build --sort --escape
+ends 2 'btreekv: entry 1: not KEY TAB VALUE with escapes' 'a\tb\tc\n'         ''                            build --sort --escape
+ends 2 'btreekv: entry 1: not KEY TAB VALUE with escapes' 'a\tb\\'            ''                            build --sort --escape
+ends 2 'btreekv: entry 2: not KEY TAB VALUE with escapes' 'a\tb\0c'           ''                            build --sort --null
+ends 2 'error: the following required arguments were not provided:' ''        ''                            build --escape
+ends 2 "error: the argument '--escape' cannot be used with '--null'" ''       ''                            list --escape --null
+ends 2 "error: the argument '--json' cannot be used with '--ndjson'" ''       ''                            list --json --ndjson
+
+# carriage returns are part of the values, and a warning says so if each line has one
+ends 0 'btreekv: warning: each line ends with CR LF, and the CR is part of the value' 'a\tb\r\n' "$(archive_of 'a\tb\r\n' 2> crs)" build
+ends 0 ''                                          'a\tb\r\nc\td\n'            "$(archive_of 'a\tb\r\nc\td\n')" build
+
+# the version, and help with examples
+ends 0 ''                                          ''                          'btreekv 0.1.0\n'             --version
+for command in '' build list get; do
+    "$program" $command --help > written 2> said && grep -q '^Examples:$' written && [[ ! -s said ]] || fail "help of '$command': $(cat said)"
+done
+
 # by name
 printf '%b' "$three" > archive
-ends 0 '' '' 'yellow\n' get pear archive
 ends 0 '' '' 'ok 3 entries\n' check archive
+ends 0 '' '' 'yellow\n' get pear archive
+ends 0 '' '' '"blue and green"\n' get --json fig archive
+ends 1 '' '' '' get banana archive
+ends 0 'btreekv: 118 of 132 bytes read' '' 'blue and green\n' get --stats fig archive
+ends 1 'btreekv: 104 of 132 bytes read' '' '' get --stats banana archive
+ends 0 'btreekv: 132 of 132 bytes read' '' 'yellow\n' get --stats --validate pear archive
+ends 0 'btreekv: 132 of 132 bytes read' "$three" 'yellow\n' get --stats pear
+ends 2 'btreekv: input failed: absent: No such file or directory (os error 2)' '' '' get pear absent
+ends 2 'btreekv: input failed: .: Is a directory (os error 21)' '' '' get pear .
+ends 2 'btreekv: input failed: .: Is a directory (os error 21)' '' '' get --validate pear .
+printf 'abc' > short
+ends 2 'btreekv: refused: short: position 0 is out of range' '' '' get pear short
+ends 2 'btreekv: refused: short: position 0 is out of range' '' '' check short
+truncate -s 4294967296 huge
+ends 2 'btreekv: refused: huge: buffer is longer than 4294967295 bytes' '' '' get pear huge
+rm huge
+
+# Many keys: a line for each that is found, in their order.
+printf 'pear\n\nbanana\nfig\npear' > keys
+found='pear\tyellow\nfig\tblue and green\npear\tyellow\n'
+ends 1 '' '' "$found" get --keys-from keys archive
+ends 1 '' 'pear\n\nbanana\nfig\npear' "$found" get --keys-from - archive
+ends 1 '' 'pear\n\nbanana\nfig\npear' "$found" get --keys-from - --validate archive
+ends 0 'btreekv: 118 of 132 bytes read' 'fig\n' 'fig\tblue and green\n' get --stats --keys-from - archive
+ends 0 '' '' '' get --keys-from - archive
+ends 2 'btreekv: line 2: byte 2 is not UTF-8' 'fig\nf\xff\n' '' get --keys-from - archive
+ends 2 'btreekv: refused: short: position 0 is out of range' 'fig\n' '' get --keys-from - short
+ends 2 'btreekv: input failed: absent: No such file or directory (os error 2)' '' '' get --keys-from absent archive
+ends 2 'btreekv: input failed: absent: No such file or directory (os error 2)' '' '' get --keys-from keys absent
+ends 2 "error: the argument '--keys-from <KEYS>' cannot be used with '[FILE]'" '' '' get --keys-from keys pear archive
+ends 2 "error: the argument '--json' cannot be used with '--keys-from <KEYS>'" '' '' get --json --keys-from keys archive
+
+# A look-up in a file, which isn't read whole, ends as one in standard input, which is: the words of get before the file, and the file.
+alike() {
+    local got=0 whole=0 file=${*: -1} words=("${@:1:$#-1}")
+    "$program" get "${words[@]}" "$file" > written 2> said || got=$?
+    "$program" get "${words[@]}" < "$file" > output 2> heard || whole=$?
+    sed "s/^btreekv: refused: $file: /btreekv: refused: /" said > told
+    [[ $got == "$whole" ]] && cmp -s written output && cmp -s told heard || fail "get ${*@Q}: status $got, not $whole: $(cat said)"
+}
+printf '%b' "$unordered" > unordered
+printf '%b' "$empty" > none
+for key in '' a b c; do
+    alike "$key" unordered
+    alike --json "$key" none
+done
+# texts that are longer than the buffer which a look-up has at first
+python3 -c 'print("a" * 70000 + "\t" + "v" * 300000 + "\nb\tw")' | "$program" build > wide
+for key in "$(python3 -c 'print("a" * 70000)')" "$(python3 -c 'print("a" * 70001)')" b; do alike "$key" wide; done
 
 seq -f 'key %06g' 1 20000 | awk '{ print $0 "\tvalue of " $0 }' > many
 "$program" build --strict many > archive || fail "20000 lines: not built"
 "$program" list archive | cmp -s - many || fail "20000 lines: listed otherwise"
 [[ $("$program" get 'key 012345' archive) == 'value of key 012345' ]] || fail "20000 lines: another value"
+while read -r line; do
+    alike "$line" archive
+    alike "$line+" archive
+done < <(shuf -n 20 --random-source=many many | cut -f 1)
+shuf --random-source=many many > mixed
+cut -f 1 mixed | "$program" get --keys-from - archive | cmp -s - mixed || fail "20000 lines: other lines of all keys"
 [[ $("$program" range 'key 019999' z archive | wc -l) == 2 ]] || fail "20000 lines: another range"
 [[ $("$program" prefix 'key 0123' archive | wc -l) == 100 ]] || fail "20000 lines: another prefix"
 [[ $("$program" stat archive | head -n 2 | tr '\n' ' ') == 'entries 20000 least levels 6 ' ]] || fail "20000 lines: other figures"
@@ -124,6 +219,39 @@ done
 "$program" list --json archive > object
 python3 -c 'import json; print(*(f"{k}\t{v}" for k, v in json.load(open("object")).items()), sep="\n")' | cmp -s - many || fail "20000 lines: another object"
 shuf --random-source=many many | "$program" build --sort | cmp -s - archive || fail "20000 lines: sorted otherwise"
+
+# A file with an error that the look-up doesn't meet, and that it meets
+cp archive damaged
+printf '\xff' | dd of=damaged conv=notrunc 2> said
+ends 0 '' '' 'value of key 012345\n' get 'key 012345' damaged
+ends 2 'btreekv: refused: damaged: entry at position 152 is bad' '' '' get --validate 'key 012345' damaged
+ends 2 'btreekv: refused: damaged: entry at position 152 is bad' '' '' get 'key 000001' damaged
+
+# Any bytes are looked up in, or refused. Where all are valid the values are alike.
+head -n 215 many | "$program" build > few
+cat > damaged.py <<'E'
+import random, subprocess, sys
+program = sys.argv[1]
+chance = random.Random(61)
+sound = open("few", "rb").read()
+kinds = set()
+for _ in range(300):
+    held = bytearray(sound)
+    for _ in range(chance.randrange(1, 4)):
+        held[chance.choice([chance.randrange(len(held)), len(held) - 1 - chance.randrange(400)])] = chance.randrange(256)
+    open("damaged", "wb").write(held)
+    key = f"key {chance.randrange(217):06}"
+    parts, whole = (subprocess.run([program, "get", *flags, key, "damaged"], capture_output=True) for flags in ([], ["--validate"]))
+    kinds.add((parts.returncode, whole.returncode))
+    is_refused = parts.returncode == 2 and not parts.stdout and parts.stderr.startswith(b"btreekv: refused: damaged: ") and parts.stderr.count(b"\n") == 1
+    if not is_refused and (parts.returncode not in (0, 1) or parts.stderr):
+        sys.exit(f"damaged: status {parts.returncode}: {parts.stderr}")
+    if whole.returncode != 2 and (parts.returncode, parts.stdout) != (whole.returncode, whole.stdout):
+        sys.exit(f"damaged: {key}: {parts.stdout} and {whole.stdout}")
+if not {(0, 0), (0, 2), (2, 2)} <= kinds:
+    sys.exit(f"damaged: only {kinds}")
+E
+python3 damaged.py "$program" 2> said || fail "$(cat said)"
 
 # A million lines, which are more than are held in memory, give one archive by a pipe, from a file and from what can't seek; and so they
 # are built in memory. No more than 32 megabytes are resident. After an error nothing is written.
@@ -146,20 +274,27 @@ resident build --strict <(cat million) 2>> said | cmp -s - large || fail "a mill
 "$program" build --sort million | cmp -s - large || fail "a million lines: another archive than of the sorted ones"
 "$program" list large | cmp -s - million || fail "a million lines: listed otherwise"
 [[ ! -s said ]] || fail "a million lines: on standard error: $(cat said)"
+[[ $(resident get --stats 1500000 large 2> said) == 'value of 1500000' ]] || fail "a million lines: another value: $(cat said)"
+read -r _ count of size words < said
+[[ $of == of && $size == "$(stat -c %s large)" && $words == 'bytes read' && $count -lt 4096 ]] || fail "a million lines: a look-up: $(cat said)"
 unbuilt() {
     local got=0
     "$program" build "${@:2}" > written 2> said || got=$?
     [[ $got == 2 && $(cat said) == "$1" && ! -s written ]] || fail "words ${*@Q}: status $got: $(cat said)"
 }
 { cat million; printf 'no entry\n'; } > bad
-unbuilt 'btreekv: line 1000001: not KEY TAB VALUE' bad
-unbuilt 'btreekv: line 1000001: not KEY TAB VALUE' --strict bad
+unbuilt 'btreekv: line 1000001 of bad: not KEY TAB VALUE' bad
+unbuilt 'btreekv: line 1000001 of bad: not KEY TAB VALUE' --strict bad
 unbuilt 'btreekv: line 1000001: not KEY TAB VALUE' < bad
 { cat million; printf '1999999\tagain'; } > bad
-unbuilt 'btreekv: not built: entry 1000000 is out of order' --strict bad
+unbuilt 'btreekv: not built: bad: entry 1000000 is out of order' --strict bad
 unbuilt 'btreekv: not built: entry 1000000 is out of order' --strict < bad
-unbuilt 'btreekv: input failed' absent
-unbuilt 'btreekv: input failed' .
+{ cat million; printf '1999999\tag\xc3'; } > bad
+unbuilt 'btreekv: line 1000001 of bad: byte 11 is not UTF-8' bad
+unbuilt 'btreekv: line 1000001: byte 11 is not UTF-8' < <(cat bad)
+unbuilt 'btreekv: line 1000001: byte 11 is not UTF-8' --sort < <(cat bad)
+unbuilt 'btreekv: input failed: absent: No such file or directory (os error 2)' absent
+unbuilt 'btreekv: input failed: .: Is a directory (os error 21)' .
 TMPDIR=$work/absent unbuilt 'btreekv: input failed' < bad
 [[ -z $(ls spool) ]] || fail "a temporary file is left: $(ls spool)"
 
@@ -239,8 +374,12 @@ refuses 'btreekv: line 2: out of order' 'b\t1\na\t2\nc\t3\n' update old
 refuses 'btreekv: line 3: out of order' 'b\nc\nb\nd\n' update old
 refuses 'btreekv: line 4: out of order' 'a\nb\nc\nb\n' update old
 refuses 'btreekv: line 2: out of order' 'b\t1\nb\t2\n' update old
-refuses 'btreekv: line 1: not UTF-8' '\xff\na\n' update old
-refuses 'btreekv: line 2: not UTF-8' 'a\nb\t\xff\nc\n' update --sort old
+refuses 'btreekv: line 1: byte 1 is not UTF-8' '\xff\na\n' update old
+refuses 'btreekv: line 2: byte 3 is not UTF-8' 'a\nb\t\xff\nc\n' update --sort old
+printf 'b\t1\na\t2\n' > lines
+refuses 'btreekv: line 2 of lines: out of order' '' update old lines
+printf 'b\xff\n' > lines
+refuses 'btreekv: line 1 of lines: byte 2 is not UTF-8' '' update old lines
 refuses 'btreekv: refused: unsorted: entry 1 is out of order' '' update unsorted
 refuses 'btreekv: refused: short: position 0 is out of range' '' update short
 refuses 'btreekv: refused: unsorted: entry 1 is out of order' '' diff old unsorted
@@ -248,10 +387,10 @@ refuses 'btreekv: refused: unsorted: entry 1 is out of order' '' diff unsorted s
 refuses 'btreekv: refused: unsorted: entry 1 is out of order' '' merge old new unsorted short
 refuses 'btreekv: refused: short: position 0 is out of range' '' merge short unsorted
 refuses 'btreekv: refused: unsorted: entry 1 is out of order' '' merge old unsorted
-refuses 'btreekv: input failed: absent' '' merge old absent
-refuses 'btreekv: input failed: absent' '' update absent
-refuses 'btreekv: input failed: absent' '' update old absent
-refuses 'btreekv: input failed: absent' '' diff absent old
+for words in 'merge old absent' 'update absent' 'update old absent' 'diff absent old'; do
+    read -ra words <<< "$words"
+    refuses 'btreekv: input failed: absent: No such file or directory (os error 2)' '' "${words[@]}"
+done
 refuses 'error: the following required arguments were not provided:' '' merge old
 
 # merges
@@ -299,16 +438,16 @@ ln -s out files/link
 refuses 'btreekv: line 1: not KEY TAB VALUE' 'no entry\n' build -o files/out
 refuses 'btreekv: not built: entry 1 is out of order' 'b\t1\na\t1\n' build --strict -o files/out
 refuses 'btreekv: line 2: out of order' 'b\na\n' update archive -o files/out
-refuses 'btreekv: output failed' '' update archive -o absent/out
-refuses 'btreekv: output failed' '' build -o files
+refuses 'btreekv: output failed: absent/out: No such file or directory (os error 2)' '' update archive -o absent/out
+refuses 'btreekv: output failed: files: Is a directory (os error 21)' '' build -o files
 if [[ $(id -u) != 0 ]]; then
     chmod 500 files
-    refuses 'btreekv: output failed' '' build -o files/out
-    refuses 'btreekv: output failed' '' build -o files/other
+    refuses 'btreekv: output failed: files/out: Permission denied (os error 13)' '' build -o files/out
+    refuses 'btreekv: output failed: files/other: Permission denied (os error 13)' '' build -o files/other
     chmod 700 files
 fi
 if [[ -e /dev/full ]]; then
-    refuses 'btreekv: output failed' '' update archive -o /dev/full
+    refuses 'btreekv: output failed: /dev/full: No space left on device (os error 28)' '' update archive -o /dev/full
 fi
 cmp -s files/out archive || fail "-o: another file after an error"
 [[ $(ls -A files | tr '\n' ' ') == 'link new out ' ]] || fail "-o: left in the folder: $(ls -A files)"
@@ -359,13 +498,48 @@ sys.exit(child.wait() != 0 or b" bytes read" not in os.read(ours, 1000))
 { head -c 8 archive; sleep 1.3; tail -c +9 archive; } | "$program" check > written 2> said
 [[ $(cat written) == 'ok 20000 entries' && ! -s said ]] || fail "no terminal: on standard error: $(cat said)"
 
+# The recipes of the page on programs: each line after `$ ` is run by a shell, and prints the lines that follow it.
+mkdir recipes bin
+ln -s "$program" bin/btreekv
+cat > recipes.py <<'E'
+import os, re, subprocess, sys
+page, bin_folder = sys.argv[1:]
+env = {**os.environ, "PATH": bin_folder + ":" + os.environ["PATH"]}
+commands = 0
+for block in re.findall(r"^```console\n(.*?)^```$", open(page, encoding="utf-8").read(), re.M | re.S):
+    for step in re.split(r"^\$ ", block, flags=re.M)[1:]:
+        command, _, wanted = step.partition("\n")
+        run = subprocess.run(["bash", "-c", command], cwd="recipes", env=env, stdout=subprocess.PIPE, stderr=subprocess.STDOUT)
+        if run.stdout.decode() != wanted:
+            sys.exit(f"a recipe prints something else: {command}\n{run.stdout.decode()}")
+        commands += 1
+if commands < 20:
+    sys.exit(f"only {commands} commands of recipes")
+E
+python3 recipes.py "$tools/../docs/PROGRAMS.md" "$work/bin" 2> said || fail "$(cat said)"
+
+# a reader that goes away ends the program with the status of SIGPIPE, and no line
+leaves() {
+    local got=0
+    { "$program" "$@" 2> said || echo $? > status; } | head -n 1 > written
+    got=$(cat status)
+    [[ $got == 141 && ! -s said ]] || fail "words ${*@Q}: a reader that goes away: status $got: $(cat said)"
+}
+for words in 'list large' 'list --ndjson large' 'list --json large' 'range 1 2 large' 'prefix 1 large' 'build million' 'diff none large'; do
+    read -ra words <<< "$words"
+    leaves "${words[@]}"
+done
+
 if [[ -e /dev/full ]]; then
     got=0
     "$program" list archive > /dev/full 2> said || got=$?
-    [[ $got == 2 && $(cat said) == 'btreekv: output failed' ]] || fail "a full device: status $got: $(cat said)"
+    [[ $got == 2 && $(cat said) == 'btreekv: output failed: No space left on device (os error 28)' ]] || fail "a full device: status $got: $(cat said)"
+    got=0
+    "$program" get --stats 1500000 large > /dev/full 2> said || got=$?
+    [[ $got == 2 && $(cat said) == 'btreekv: output failed: No space left on device (os error 28)' ]] || fail "a look-up to a full device: status $got: $(cat said)"
     got=0
     "$program" build million > /dev/full 2> said || got=$?
-    [[ $got == 2 && $(cat said) == 'btreekv: output failed' ]] || fail "a million lines to a full device: status $got: $(cat said)"
+    [[ $got == 2 && $(cat said) == 'btreekv: output failed: No space left on device (os error 28)' ]] || fail "a million lines to a full device: status $got: $(cat said)"
 fi
 
 exit "$failed"

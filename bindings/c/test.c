@@ -1,4 +1,5 @@
-/* The header against the library: layouts, each call on maps of each type, misuse, and archives for the examples. */
+/* The header against the library: layouts, each call on maps of each type, misuse, and archives for the examples. With the argument `short`
+ * it takes few of the lengths, keys and positions, for a run that is a hundred times slower. */
 #undef NDEBUG
 #include "rkyv_btree.h"
 
@@ -11,11 +12,17 @@ _Static_assert(sizeof(void *) == 8 && sizeof(size_t) == 8, "a target of 64 bits"
 _Static_assert(sizeof(rkyv_btree_refusal) == 32 && offsetof(rkyv_btree_refusal, at) == 8, "refusal");
 _Static_assert(sizeof(rkyv_btree_item) == 16 && offsetof(rkyv_btree_item, len) == 12, "item");
 _Static_assert(sizeof(rkyv_btree_entry) == 32 && offsetof(rkyv_btree_entry, value) == 16, "entry");
+_Static_assert(sizeof(rkyv_btree_piece) == 12, "piece");
+_Static_assert(sizeof(rkyv_btree_column) == 40 && offsetof(rkyv_btree_column, offset_size) == 32, "column");
 _Static_assert(sizeof(rkyv_btree_map) == 24 && offsetof(rkyv_btree_map, type) == 20, "map");
 _Static_assert(sizeof(rkyv_btree_edit) == 24 && offsetof(rkyv_btree_edit, type) == 20, "edit");
 _Static_assert(sizeof(rkyv_btree_cursor) == 284 && offsetof(rkyv_btree_cursor, path) == 28, "cursor");
+_Static_assert(RKYV_BTREE_U32_TO_U32 == 1 && RKYV_BTREE_TEXT_TO_TEXT == 9, "the types that the loops below go through");
 
 enum { MOST = 1000 };
+
+/* Of lengths, keys and positions one in so many is taken. */
+static unsigned step = 1;
 
 static rkyv_btree_entry given[MOST];
 static uint8_t texts[64 * MOST];
@@ -46,11 +53,70 @@ static void give(uint32_t type, unsigned count) {
 }
 
 static uint8_t *build(uint32_t type, unsigned count, size_t *len) {
-    assert(rkyv_btree_build_strict(type, given, count, texts, texts_len, NULL, 0, len) == RKYV_BTREE_NO_ROOM);
+    rkyv_btree_refusal why = {0};
+    assert(rkyv_btree_build_strict(type, given, count, texts, texts_len, NULL, 0, len, &why) == RKYV_BTREE_NO_ROOM);
     uint8_t *data = malloc(*len);
     assert(data != NULL);
-    assert(rkyv_btree_build(type, given, count, texts, texts_len, data, *len, len) == RKYV_BTREE_OK);
+    assert(rkyv_btree_build(type, given, count, texts, texts_len, data, *len, len, &why) == RKYV_BTREE_OK && why.code == 0);
     return data;
+}
+
+/* The entries as two columns: all keys, and then all values, each with its own texts and offsets of four or of eight bytes. */
+static rkyv_btree_column column(int is_text, int is_wide, unsigned count, int are_values, uint32_t offset_size, uint8_t *room, uint8_t *offsets) {
+    rkyv_btree_column all = {room, 0, NULL, 0, 0};
+    for (unsigned i = 0; i < count; i++) {
+        rkyv_btree_item item = are_values ? given[i].value : given[i].key;
+        uint64_t start = all.data_len;
+        if (is_text) {
+            memcpy(offsets + offset_size * i, &start, offset_size);
+            memcpy(room + start, texts + item.start, item.len);
+            all.data_len += item.len;
+        } else {
+            memcpy(room + start, &item.number, is_wide ? 8 : 4);
+            all.data_len += is_wide ? 8 : 4;
+        }
+    }
+    if (is_text) {
+        uint64_t end = all.data_len;
+        memcpy(offsets + offset_size * count, &end, offset_size);
+        all.offsets = offsets, all.offsets_len = offset_size * (count + 1), all.offset_size = offset_size;
+    }
+    return all;
+}
+
+/* The archive of the columns is that of the entries. A column that is a byte shorter has a bad last entry. */
+static void columns(uint32_t type, unsigned count, const uint8_t *data, size_t data_len) {
+    static uint8_t key_room[64 * MOST], value_room[64 * MOST], key_offsets[8 * MOST + 8], value_offsets[8 * MOST + 8], out[128 * MOST];
+    rkyv_btree_refusal why = {0};
+    size_t len = 0;
+    for (uint32_t size = 4; size <= 8; size += 4) {
+        rkyv_btree_column keys = column(has_texts_as_keys(type), type > 3, count, 0, size, key_room, key_offsets);
+        rkyv_btree_column values = column(has_texts_as_values(type), type % 3 == 2, count, 1, size, value_room, value_offsets);
+        assert(rkyv_btree_build_arrays(type, count, &keys, &values, out, sizeof out, &len, &why) == RKYV_BTREE_OK);
+        assert(len == data_len && memcmp(out, data, len) == 0 && why.code == 0);
+        assert(rkyv_btree_build_arrays_strict(type, count, &keys, &values, out, len - 1, &len, &why) == RKYV_BTREE_NO_ROOM);
+        assert(len == data_len && why.code == 0);
+        assert(rkyv_btree_build_arrays_strict(type, count, &keys, &values, out, len, &len, &why) == RKYV_BTREE_OK);
+        assert(memcmp(out, data, len) == 0);
+        if (count == 0) continue;
+        rkyv_btree_column *const both[2] = {&keys, &values};
+        for (int i = 0; i < 2; i++) {
+            size_t *shorter = both[i]->offset_size == 0 ? &both[i]->data_len : &both[i]->offsets_len;
+            --*shorter;
+            assert(rkyv_btree_build_arrays(type, count, &keys, &values, out, sizeof out, &len, &why) == RKYV_BTREE_BAD_ITEM);
+            assert(why.code == RKYV_BTREE_BAD_ITEM && why.found == count - 1 && len == data_len);
+            ++*shorter;
+            if (both[i]->offset_size == 0) continue;
+            for (uint32_t bad = 0; bad < 20; bad++) {
+                if (bad == 4 || bad == 8) continue;
+                both[i]->offset_size = bad;
+                assert(rkyv_btree_build_arrays(type, count, &keys, &values, out, sizeof out, &len, &why) == RKYV_BTREE_BAD_ITEM);
+                assert(why.found == 0 && len == data_len);
+            }
+            both[i]->offset_size = size;
+        }
+        memset(&why, 0, sizeof why);
+    }
 }
 
 static int same(const uint8_t *data, rkyv_btree_item found, rkyv_btree_item wanted) {
@@ -120,6 +186,55 @@ static void one_type(uint32_t type, unsigned count) {
         walk(&map, 0, count, room);
         if (count > 1) walk(&map, count / 2, count, room);
     }
+    columns(type, count, data, data_len);
+    free(data);
+}
+
+/* Looks a key up in pieces of at least `least` bytes, which are added as they are missing. No piece is asked for twice. */
+static uint32_t find_in(uint32_t type, const uint8_t *data, size_t len, size_t least, rkyv_btree_item key, uint8_t *buffer, size_t room,
+                        rkyv_btree_item *value, rkyv_btree_refusal *why) {
+    static uint8_t held[1 << 20];
+    static rkyv_btree_piece pieces[400];
+    size_t count = 0, used = 0;
+    for (;;) {
+        uint32_t code = has_texts_as_keys(type)
+                            ? rkyv_btree_find_text_in(type, len, pieces, count, held, used, texts + key.start, key.len, buffer, room, value, why)
+                            : rkyv_btree_find_number_in(type, len, pieces, count, held, used, key.number, buffer, room, value, why);
+        if (code != RKYV_BTREE_MISSING) return code;
+        assert(why->code == RKYV_BTREE_MISSING && why->allowed == 0 && why->at >= 0 && why->found > 0);
+        size_t at = (size_t)why->at, size = why->found < least ? least : why->found;
+        assert(at + why->found <= len && count < 400);
+        for (size_t i = 0; i < count; i++) assert(at < pieces[i].pos || at + why->found > pieces[i].pos + pieces[i].len);
+        if (at + size > len) size = len - at;
+        assert(used + size <= sizeof held);
+        memcpy(held + used, data + at, size);
+        pieces[count] = (rkyv_btree_piece){(uint32_t)at, (uint32_t)used, (uint32_t)size};
+        count++, used += size;
+    }
+}
+
+static void pieces(uint32_t type, unsigned count) {
+    uint8_t buffer[512];
+    size_t len = 0;
+    give(type, count);
+    uint8_t *data = build(type, count, &len);
+    for (size_t least = 1; least < 10000; least *= 40) {
+        for (unsigned i = 0; i < count; i += 1 + count / 20) {
+            rkyv_btree_refusal why = {0};
+            rkyv_btree_item value = {0};
+            assert(find_in(type, data, len, least, given[i].key, buffer, sizeof buffer, &value, &why) == RKYV_BTREE_OK);
+            assert(same(buffer, value, given[i].value));
+            assert(value.start + value.len <= sizeof buffer);
+            const rkyv_btree_item before = value;
+            assert(find_in(type, data, len, least, given[i].key, buffer, 10, &value, &why) == RKYV_BTREE_NO_ROOM && why.found > 10);
+            assert(find_in(type, data, len, least, given[i].key, buffer, why.found - 1, &value, &why) == RKYV_BTREE_NO_ROOM);
+            assert(memcmp(&before, &value, sizeof value) == 0);
+        }
+        rkyv_btree_refusal why = {0};
+        rkyv_btree_item value = {0}, absent = {0, 0, 0};
+        if (!has_texts_as_keys(type)) absent.number = 1;
+        assert(find_in(type, data, len, least, absent, buffer, sizeof buffer, &value, &why) == RKYV_BTREE_NOT_FOUND);
+    }
     free(data);
 }
 
@@ -133,13 +248,18 @@ static void edits(void) {
         uint8_t *data = build(type, 100, &len);
         rkyv_btree_edit edit = RKYV_BTREE_EDIT(data, len);
         assert(rkyv_btree_set_number(&edit, 2, 3) == RKYV_BTREE_NOT_OPEN);
+        assert(rkyv_btree_read_edit(&map, &edit) == RKYV_BTREE_NOT_OPEN && map.type == 0);
         assert(rkyv_btree_open_edit(&edit, type, &why) == RKYV_BTREE_OK);
+        assert(rkyv_btree_read_edit(&map, &edit) == RKYV_BTREE_OK && map.type == type && map.data == data && map.data_len == len);
+        walk(&map, 0, 100, 10);
         for (unsigned i = 0; i < 100; i += 7) {
             uint32_t code = has_texts_as_keys(type)
                                 ? rkyv_btree_set_text(&edit, texts + given[i].key.start, given[i].key.len, i + 1)
                                 : rkyv_btree_set_number(&edit, given[i].key.number, i + 1);
             assert(code == (has_texts_as_values(type) ? RKYV_BTREE_BAD_VALUE : RKYV_BTREE_OK));
             if (code == RKYV_BTREE_OK) given[i].value.number = i + 1;
+            assert(rkyv_btree_read_edit(&map, &edit) == RKYV_BTREE_OK);
+            assert(get(&map, given[i].key, &entry) == RKYV_BTREE_OK && same(data, entry.value, given[i].value));
         }
         if (!has_texts_as_values(type)) assert(rkyv_btree_set_number(&edit, 1, 1) == RKYV_BTREE_NOT_FOUND);
         if (type % 3 == 1) assert(rkyv_btree_set_number(&edit, 2, UINT64_MAX) == RKYV_BTREE_BAD_VALUE);
@@ -172,23 +292,44 @@ static void misuse(void) {
     assert(rkyv_btree_find_text(10, bad, 8, NULL, 0, &entry, &why) == RKYV_BTREE_BAD_TYPE);
     assert(rkyv_btree_find_number(1, NULL, 0, 0, &entry, &why) == RKYV_BTREE_OUT_OF_RANGE && why.code == RKYV_BTREE_OUT_OF_RANGE);
     assert(rkyv_btree_find_number(1, bad, 8, 0, &entry, &why) == RKYV_BTREE_NOT_FOUND);
+    rkyv_btree_item value = {0};
+    const rkyv_btree_piece whole = {0, 0, 8};
+    uint8_t buffer[512] = {0};
+    assert(rkyv_btree_find_number_in(0, 8, &whole, 1, bad, 8, 0, buffer, 512, &value, &why) == RKYV_BTREE_BAD_TYPE);
+    assert(rkyv_btree_find_text_in(10, 8, &whole, 1, bad, 8, NULL, 0, buffer, 512, &value, &why) == RKYV_BTREE_BAD_TYPE);
+    assert(rkyv_btree_find_number_in(1, 8, &whole, 1, bad, 8, 0, buffer, 512, &value, &why) == RKYV_BTREE_NOT_FOUND);
+    assert(rkyv_btree_find_number_in(1, 8, &whole, 1, bad, 7, 0, buffer, 512, &value, &why) == RKYV_BTREE_MISSING && why.at == 0 && why.found == 8);
+    assert(rkyv_btree_find_number_in(1, 1ull << 32, NULL, 0, NULL, 0, 0, buffer, 512, &value, &why) == RKYV_BTREE_TOO_LONG);
+    assert(rkyv_btree_find_number_in(1, 8, &whole, 1, bad, 8, 1ull << 32, buffer, 512, &value, &why) == RKYV_BTREE_BAD_ITEM);
+    assert(rkyv_btree_find_number_in(9, 8, &whole, 1, bad, 8, 0, buffer, 512, &value, &why) == RKYV_BTREE_BAD_ITEM);
+    assert(rkyv_btree_find_text_in(4, 8, &whole, 1, bad, 8, NULL, 0, buffer, 512, &value, &why) == RKYV_BTREE_BAD_ITEM);
+    assert(rkyv_btree_find_text_in(9, 8, &whole, 1, bad, 8, (const uint8_t *)"\xff", 1, buffer, 512, &value, &why) == RKYV_BTREE_BAD_ITEM);
+    assert(rkyv_btree_find_number_in(1, 7, NULL, 0, NULL, 0, 0, buffer, 512, &value, &why) == RKYV_BTREE_OUT_OF_RANGE);
     uint8_t other[8] = {1, 2, 3, 4, 5, 6, 7, 8};
     rkyv_btree_edit edit = RKYV_BTREE_EDIT(other, 8);
     assert(rkyv_btree_open_edit(&edit, 0, &why) == RKYV_BTREE_BAD_TYPE && rkyv_btree_open_edit(&edit, 10, &why) == RKYV_BTREE_BAD_TYPE);
     assert(rkyv_btree_open_edit(&edit, 1, &why) != RKYV_BTREE_OK);
     for (uint8_t i = 0; i < 8; i++) assert(other[i] == i + 1); /* a refused buffer is unchanged */
-    assert(rkyv_btree_build(10, NULL, 0, NULL, 0, out, 8, &archive_len) == RKYV_BTREE_BAD_TYPE);
-    assert(rkyv_btree_build(1, NULL, 0, NULL, 0, out, 7, &archive_len) == RKYV_BTREE_NO_ROOM && archive_len == 8);
-    assert(rkyv_btree_build(1, NULL, 0, NULL, 0, out, 8, &archive_len) == RKYV_BTREE_OK && archive_len == 8);
+    memset(&why, 0xa5, sizeof why);
+    const rkyv_btree_refusal before = why;
+    const rkyv_btree_column none = {0};
+    assert(rkyv_btree_build(10, NULL, 0, NULL, 0, out, 8, &archive_len, &why) == RKYV_BTREE_BAD_TYPE);
+    assert(rkyv_btree_build_arrays(0, 0, &none, &none, out, 8, &archive_len, &why) == RKYV_BTREE_BAD_TYPE);
+    assert(rkyv_btree_build_arrays_strict(10, 0, &none, &none, out, 8, &archive_len, &why) == RKYV_BTREE_BAD_TYPE);
+    assert(rkyv_btree_build(1, NULL, 0, NULL, 0, out, 7, &archive_len, &why) == RKYV_BTREE_NO_ROOM && archive_len == 8);
+    assert(rkyv_btree_build(1, NULL, 0, NULL, 0, out, 8, &archive_len, &why) == RKYV_BTREE_OK && archive_len == 8);
+    assert(memcmp(&before, &why, sizeof why) == 0); /* where nothing is refused, no cause is written */
     rkyv_btree_entry two[2] = {{{2, 0, 0}, {0, 0, 0}}, {{1, 0, 0}, {0, 0, 0}}};
     uint8_t kept[8];
     memcpy(kept, out, 8);
-    assert(rkyv_btree_build_strict(1, two, 2, NULL, 0, out, 8, &archive_len) == RKYV_BTREE_NOT_INCREASING);
-    two[0].key.number = 1ull << 32;
-    assert(rkyv_btree_build(1, two, 2, NULL, 0, out, 8, &archive_len) == RKYV_BTREE_BAD_ITEM);
+    assert(rkyv_btree_build_strict(1, two, 2, NULL, 0, out, 8, &archive_len, &why) == RKYV_BTREE_NOT_INCREASING);
+    assert(why.code == RKYV_BTREE_NOT_INCREASING && why.at == 0 && why.found == 1 && why.allowed == 0);
+    two[1].value.number = 1ull << 32;
+    assert(rkyv_btree_build(1, two, 2, NULL, 0, out, 8, &archive_len, &why) == RKYV_BTREE_BAD_ITEM);
+    assert(why.code == RKYV_BTREE_BAD_ITEM && why.at == 0 && why.found == 1 && why.allowed == 0);
     two[0].key.len = 1; /* no text has this byte */
-    assert(rkyv_btree_build(9, two, 1, NULL, 0, out, 8, &archive_len) == RKYV_BTREE_BAD_ITEM);
-    assert(rkyv_btree_build(9, two, 1, (const uint8_t *)"\xff", 1, out, 8, &archive_len) == RKYV_BTREE_BAD_ITEM);
+    assert(rkyv_btree_build(9, two, 1, NULL, 0, out, 8, &archive_len, &why) == RKYV_BTREE_BAD_ITEM && why.found == 0);
+    assert(rkyv_btree_build(9, two, 1, (const uint8_t *)"\xff", 1, out, 8, &archive_len, &why) == RKYV_BTREE_BAD_ITEM);
     assert(archive_len == 8 && memcmp(kept, out, 8) == 0); /* a failed build writes nothing */
 }
 
@@ -203,7 +344,7 @@ static void forged(void) {
     uint8_t *data = build(9, MOST, &len);
     assert(rkyv_btree_open(&map, 9, data, len, &why) == RKYV_BTREE_OK);
     for (size_t skipped = 0; skipped < 3; skipped++) {
-        for (size_t field = 0; field < sizeof(rkyv_btree_cursor) / 4; field++) {
+        for (size_t field = 0; field < sizeof(rkyv_btree_cursor) / 4; field += step) {
             for (size_t n = 0; n < sizeof numbers / sizeof *numbers; n++) {
                 rkyv_btree_cursor cursor = {0};
                 assert(rkyv_btree_first(&map, &cursor) == RKYV_BTREE_OK);
@@ -233,7 +374,7 @@ static void unvalidated(uint32_t type) {
     size_t len = 0;
     give(type, 40);
     uint8_t *data = build(type, 40, &len);
-    for (size_t at = 0; at < len; at++) {
+    for (size_t at = 0; at < len; at += step) {
         const uint8_t good = data[at];
         for (size_t n = 0; n < sizeof bytes; n++) {
             data[at] = bytes[n];
@@ -274,10 +415,12 @@ static void save(const char *name, uint32_t type) {
     free(data);
 }
 
-int main(void) {
+int main(int count_of_words, char **words) {
+    if (count_of_words > 1 && strcmp(words[1], "short") == 0) step = 31;
     for (uint32_t type = 1; type <= 9; type++) {
-        for (unsigned count = 0; count <= 220; count++) one_type(type, count);
-        one_type(type, MOST);
+        for (unsigned count = 0; count <= 220; count += step) one_type(type, count);
+        if (step == 1) one_type(type, MOST);
+        for (unsigned count = 0; count <= MOST; count += step + count / 3) pieces(type, count);
         unvalidated(type);
     }
     edits();

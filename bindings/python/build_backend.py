@@ -36,10 +36,21 @@ def _tag() -> str:
     return "py3-none-" + re.sub(r"[-.]", "_", sysconfig.get_platform())
 
 
+def _extras() -> str:
+    """Returns the fields of the packages that extras of pyproject.toml name."""
+    lines = []
+    section = (_HERE / "pyproject.toml").read_text().partition("[project.optional-dependencies]\n")[2]
+    for extra, packages in re.findall(r"^(\w+) = \[(.*)\]$", section, re.MULTILINE):
+        lines.append(f"Provides-Extra: {extra}\n")
+        lines += [f"Requires-Dist: {package} ; extra == '{extra}'\n" for package in re.findall(r'"([^"]+)"', packages)]
+    return "".join(lines)
+
+
 def _metadata() -> str:
     return (
         f"Metadata-Version: 2.1\nName: {_field('name')}\nVersion: {_field('version')}\nSummary: {_field('description')}\n"
-        f"Requires-Python: {_field('requires-python')}\nDescription-Content-Type: text/markdown\n\n"
+        f"Requires-Python: {_field('requires-python')}\nDescription-Content-Type: text/markdown\n"
+        f"{_extras()}\n"
         + (_HERE / _field("readme")).read_text()
     )
 

@@ -2,6 +2,7 @@
 
 import array
 import doctest
+import itertools
 import mmap
 import pathlib
 import pickle
@@ -10,7 +11,9 @@ import tempfile
 import unittest
 
 import rkyv_btree
-from rkyv_btree import Error, Map, build, find
+from rkyv_btree import Edit, Error, Map, build, build_arrays, find
+from rkyv_btree._nodes import Layout
+from rkyv_btree._raw import BAD_TYPE, NUMBERS, TYPES
 
 VALUES = {
     "u32": [0, 1, 7, 2**31, 2**32 - 1],
@@ -187,6 +190,181 @@ class Maps(unittest.TestCase):
         with self.assertRaises(Error):
             build("u32", "u32", [(2**32, 0)])
 
+    def test_build_from_any_iterable(self):
+        entries = [(f"{n:05}", n) for n in range(20000)]
+        wanted = build("text", "u32", entries)
+        self.assertEqual(build("text", "u32", iter(entries)), wanted)
+        self.assertEqual(build("text", "u32", dict(entries).items()), wanted)
+        self.assertEqual(build("text", "u32", ((key, value) for key, value in entries)), wanted)
+        self.assertEqual(list(Map(wanted, "text", "u32", strict=True).items()), entries)
+        for entry in ((1,), (1, 2, 3), 7):
+            with self.assertRaises((TypeError, ValueError)):
+                build("u32", "u32", [(0, 0), entry])
+
+    def test_build_from_mappings(self):
+        # Each key is a pair of characters.
+        for entries in ({"ab": "c", "de": "f"}, Map(build("text", "text", [("ab", "c")]), "text", "text")):
+            self.assertEqual(build("text", "text", entries), build("text", "text", list(entries.items())))
+
+    def test_repr(self):
+        with Map(build("text", "u32", [("a", 1)]), "text", "u32") as found:
+            self.assertEqual(repr(found), "<rkyv_btree.Map of text to u32, len 1>")
+        self.assertEqual(repr(found), "<rkyv_btree.Map of text to u32, closed>")
+        with Edit(bytearray(8), "u64", "u32") as edit:
+            self.assertEqual(repr(edit), "<rkyv_btree.Edit of u64 to u32, len 0>")
+
+    def test_build_says_which_entry(self):
+        def entries(at, bad):
+            return (bad if n == at else (n, n) for n in range(30000))
+
+        for at in (0, 1, 8191, 8192, 29999):
+            for bad in ((at, 2**32), (at, -1), (2**64, 0)):
+                with self.assertRaises(Error) as caught:
+                    build("u32", "u32", entries(at, bad))
+                self.assertEqual((caught.exception.code, caught.exception.found), (36, at))
+            with self.assertRaisesRegex(TypeError, "^a value must be int, not str$"):
+                build("u32", "u32", entries(at, (at, "1")))
+            if at > 0:
+                with self.assertRaises(Error) as caught:
+                    build("u32", "u32", entries(at, (at - 1, 0)), strict=True)
+                self.assertEqual((caught.exception.code, caught.exception.found), (37, at))
+                self.assertEqual(str(caught.exception), f"the keys don't increase at entry {at}")
+        with self.assertRaises(Error) as caught:
+            build("u32", "text", [(1, "a"), (2, "\ud800")])
+        self.assertEqual(str(caught.exception), "an item is no key or value of the type at entry 1")
+
+    def test_build_where_the_guess_is_short(self):
+        for key_type, value_type in (("u32", "u32"), ("u64", "text"), ("text", "text")):
+            for length in (0, 1, 5, 6, 7, 36, 100, 1000, 5000):
+                def cell(kind, n):
+                    return "" if kind == "text" and n < 5000 else n
+                entries = [(cell(key_type, n), cell(value_type, n)) for n in range(length)]
+                self.assertEqual(list(Map(build(key_type, value_type, entries), key_type, value_type).items()), entries)
+
+    def test_build_arrays(self):
+        codes = {"u32": "I", "u64": "Q"}
+        for size in ("i", "q", "I", "Q"):
+            for key_type, keys in VALUES.items():
+                for value_type, values in VALUES.items():
+                    columns = []
+                    for kind, column in ((key_type, keys), (value_type, values)):
+                        if kind == "text":
+                            parts = [text.encode() for text in column]
+                            ends = [sum(map(len, parts[:n])) for n in range(len(parts) + 1)]
+                            columns.append((array.array(size, ends), b"".join(parts)))
+                        else:
+                            columns.append(array.array(codes[kind], column))
+                    for strict in (False, True):
+                        data = build_arrays(key_type, value_type, *columns, strict=strict)
+                        self.assertEqual(data, build(key_type, value_type, zip(keys, values)))
+
+    def test_arrays_that_have_no_archive(self):
+        good = array.array("I", [1, 2, 3])
+        for offsets, at in (([0, 1, 2, 9], 2), ([0, 2, 1, 3], 1), ([0, -1, 2, 3], 0), ([-1, 1, 2, 3], 0), ([2**31 - 1, 0, 1, 2], 0)):
+            for size in ("i", "q"):
+                with self.assertRaises(Error) as caught:
+                    build_arrays("text", "u32", (array.array(size, offsets), b"abc"), good)
+                self.assertEqual((caught.exception.code, caught.exception.found), (36, at), (offsets, size))
+        with self.assertRaises(Error) as caught:
+            build_arrays("u32", "text", good, (array.array("i", [0, 1, 2, 3]), b"a\xffc"))
+        self.assertEqual((caught.exception.code, caught.exception.found), (36, 1))
+        with self.assertRaises(Error) as caught:
+            build_arrays("u32", "u32", array.array("I", [1, 2, 2]), good, strict=True)
+        self.assertEqual((caught.exception.code, caught.exception.found), (37, 2))
+        # A part of Arrow's columns has offsets that don't begin at 0.
+        part = memoryview(array.array("i", [0, 1, 2, 3]))[1:]
+        self.assertEqual(build_arrays("text", "u32", (part, b"abc"), good[:2]), build("text", "u32", [("b", 1), ("c", 2)]))
+        for keys, message in (
+            (array.array("Q", [1, 2, 3]), "keys must be a buffer of u32, not of format 'Q'"),
+            (array.array("i", [1, 2, 3]), "keys must be a buffer of u32, not of format 'i'"),
+            (memoryview(array.array("I", range(6)))[::2], "keys must be contiguous, with one dimension"),
+            ([1, 2, 3], "memoryview: a bytes-like object is required, not 'list'"),
+        ):
+            with self.assertRaises(TypeError) as caught:
+                build_arrays("u32", "u32", keys, good)
+            self.assertEqual(str(caught.exception), message)
+        for keys in (b"abc", (b"abc",), (array.array("H", [0, 1, 2, 3]), b"abc")):
+            with self.assertRaises(TypeError):
+                build_arrays("text", "u32", keys, good)
+        with self.assertRaisesRegex(ValueError, "^there are 3 keys and 2 values$"):
+            build_arrays("u32", "u32", good, good[:2])
+
+    def test_edits(self):
+        entries = [(f"{n:04}", n) for n in range(3000)]
+        data = bytearray(build("text", "u32", entries))
+        before = bytes(data)
+        with Edit(data, "text", "u32") as found:
+            self.assertEqual(list(found.items()), entries)
+            self.assertEqual(len(found), 3000)
+            for key in ("0000", "1500", "2999"):
+                found[key] = 7_000_000
+                self.assertEqual(found[key], 7_000_000)
+            self.assertEqual([v for _, v in found["1499":"1502"]], [1499, 7_000_000, 1501])
+            for key in ("absent", "\ud800", 7, None):
+                with self.assertRaises(KeyError):
+                    found[key] = 1
+            for value in (-1, 2**32, 2**64):
+                with self.assertRaises(Error) as caught:
+                    found["0001"] = value
+                self.assertEqual(caught.exception.code, 20)
+            with self.assertRaises(TypeError):
+                found["0001"] = "1"
+            with self.assertRaises(BufferError):
+                data.append(0)
+        data.append(0)
+        changed = [at for at in range(len(before)) if before[at] != data[at]]
+        self.assertTrue(0 < len(changed) <= 12)
+        self.assertEqual(Map(bytes(data[:-1]), "text", "u32")["1500"], 7_000_000)
+        with self.assertRaises(Error):
+            found["0000"] = 1
+        with self.assertRaisesRegex(TypeError, "^data must be a buffer that can be written"):
+            Edit(before, "text", "u32")
+        with self.assertRaises(Error):
+            Edit(bytearray(7), "u32", "u32")
+        texts = Edit(bytearray(build("u32", "text", [(1, "a")])), "u32", "text")
+        with self.assertRaises(Error) as caught:
+            texts[1] = 1
+        self.assertEqual(caught.exception.code, 20)
+
+    def test_edits_of_an_unordered_map(self):
+        found = Edit(bytearray(build("u64", "u64", [(2, 1), (1, 2)])), "u64", "u64")
+        keys = list(found)
+        self.assertEqual([found[key] for key in keys], [1, 2])
+        for key in keys:
+            try:
+                found[key] = 2**63
+            except KeyError:
+                continue
+            self.assertEqual(found[key], 2**63)
+        self.assertIn(2**63, found.values())
+
+    def test_edits_of_other_buffers(self):
+        entries = [(n, n) for n in range(100)]
+        for code in "BIQ":
+            data = array.array(code)
+            built = build("u32", "u32", entries)
+            data.frombytes(built + bytes(-len(built) % data.itemsize) if code == "B" else built)
+            with Edit(data, "u32", "u32") as found:
+                found[7] = 8
+                self.assertEqual(list(found[6:9]), [(6, 6), (7, 8), (8, 8)])
+            data.append(0)
+        texts = array.array("B", build("text", "u64", [("a", 1), ("b", 2)]))
+        with Edit(texts, "text", "u64") as found:
+            found["b"] = 3
+            self.assertEqual(dict(found), {"a": 1, "b": 3})
+        texts.append(0)
+
+    def test_edits_of_a_file(self):
+        with tempfile.TemporaryDirectory() as folder:
+            path = pathlib.Path(folder) / "archive"
+            path.write_bytes(build("u64", "u64", [(n, n) for n in range(1000)]))
+            with Edit.from_file(path, "u64", "u64") as found:
+                found[500] = 2**64 - 1
+            self.assertEqual(Map.from_file(path, "u64", "u64")[500], 2**64 - 1)
+            path.write_bytes(b"")
+            with self.assertRaises(Error):
+                Edit.from_file(path, "u64", "u64")
+
     def test_find(self):
         for key_type, keys in VALUES.items():
             for value_type, values in VALUES.items():
@@ -235,11 +413,31 @@ class Maps(unittest.TestCase):
         for field in ("node", "end", "depth"):
             for number in (1, 7, 33, 1000, 2**31, 2**32 - 1):
                 cursor = rkyv_btree._Cursor()
-                rkyv_btree._first(found._map, cursor)
+                rkyv_btree._lib.first(found._map, cursor)
                 setattr(cursor, field, number)
                 batch, written = (rkyv_btree._Entry * 4)(), rkyv_btree._SIZE()
-                code = rkyv_btree._next(found._map, cursor, batch, 4, written)
+                code = rkyv_btree._lib.next(found._map, cursor, batch, 4, written)
                 self.assertIn(code, (0, 19))
+
+    def test_table_of_types(self):
+        self.assertEqual(list(VALUES), list(TYPES))
+        self.assertEqual(list(NUMBERS), list(itertools.product(TYPES, TYPES)))
+        for (key_type, value_type), number in NUMBERS.items():
+            entry = VALUES[key_type][1], VALUES[value_type][1]
+            data = build(key_type, value_type, [entry])
+            texts = sum(len(part) for part in entry if isinstance(part, str))
+            layout = Layout(key_type, value_type, len(data))
+            # A leaf after the texts, which are rounded up to its alignment, and the eight bytes of the map.
+            self.assertEqual(len(data), -(-texts // layout.align) * layout.align + layout.leaf_size + 8)
+            self.assertEqual(Map(data, key_type, value_type)._map.type, number)
+            inner = build(key_type, value_type, zip(VALUES[key_type] * 2, VALUES[value_type] * 2))
+            layout = Layout(key_type, value_type, len(inner))
+            root, count = layout.root(inner[-8:])
+            self.assertEqual((count, root + layout.size_of(inner[root], root)), (10, len(inner) - 8))
+        for number in (0, max(NUMBERS.values()) + 1):
+            self.assertEqual(rkyv_btree._lib.open(rkyv_btree._Map(), number, None, 0, rkyv_btree._Refusal()), BAD_TYPE)
+        with self.assertRaisesRegex(ValueError, "^a type must be 'u32', 'u64' or 'text', not 'i32'$"):
+            build("i32", "u32", [])
 
     def test_version_and_types(self):
         folder = pathlib.Path(rkyv_btree.__file__).parent

@@ -3,10 +3,17 @@ use std::env;
 use std::path::PathBuf;
 use std::process::Command;
 
+const LIBRARY: &str = "librkyv_btree.a";
+
+/// Returns the folder that RKYV_BTREE_LIB_DIR names.
+fn named() -> Option<PathBuf> {
+    env::var_os("RKYV_BTREE_LIB_DIR").map(PathBuf::from)
+}
+
 /// Returns the folder of `make bindings`, if the crate lies in its repository.
 fn built() -> Option<PathBuf> {
     let folder = PathBuf::from(env::var_os("CARGO_MANIFEST_DIR")?).join("../build");
-    folder.is_dir().then_some(folder)
+    folder.join(LIBRARY).is_file().then_some(folder)
 }
 
 /// Returns the folder that pkg-config knows.
@@ -22,12 +29,13 @@ fn installed() -> Option<PathBuf> {
 fn main() {
     println!("cargo:rerun-if-env-changed=RKYV_BTREE_LIB_DIR");
     println!("cargo:rerun-if-env-changed=PKG_CONFIG_PATH");
-    let folder = env::var_os("RKYV_BTREE_LIB_DIR")
-        .map(PathBuf::from)
+    let folder = named()
         .or_else(built)
         .or_else(installed)
-        .expect("no librkyv_btree.a: install it, or name its folder in RKYV_BTREE_LIB_DIR");
+        .unwrap_or_else(|| panic!("no {LIBRARY}: run `make bindings`, install it, or name its folder in RKYV_BTREE_LIB_DIR"));
+    let library = folder.join(LIBRARY);
+    assert!(library.is_file(), "there is no {}", library.display());
     println!("cargo:rustc-link-search=native={}", folder.display());
     println!("cargo:rustc-link-lib=static=rkyv_btree");
-    println!("cargo:rerun-if-changed={}", folder.join("librkyv_btree.a").display());
+    println!("cargo:rerun-if-changed={}", library.display());
 }

@@ -14,51 +14,53 @@ import ctypes
 import mmap
 import os
 import pathlib
+import struct
+from array import array
 from collections.abc import ItemsView, Iterable, Iterator, Mapping, ValuesView
-from typing import Any, Literal, Union, overload
+from itertools import accumulate, islice
+from typing import Any, Union, overload
 
-__all__ = ["Error", "Map", "build", "find"]
+from ._raw import (
+    _P,
+    _SIZE,
+    _U32,
+    AT_ENTRY,
+    AT_POSITION,
+    BAD_ITEM,
+    BAD_VALUE,
+    NO_ROOM,
+    NOT_FOUND,
+    NOT_OPEN,
+    NUMBERS,
+    OK,
+    POSITION_OVERFLOW,
+    TYPES,
+    Type,
+    _Column,
+    _Cursor,
+    _Edit,
+    _Entry,
+    _Item,
+    _Map,
+    _Refusal,
+    declared,
+)
+
+__all__ = ["Edit", "Error", "Map", "build", "build_arrays", "find"]
 __version__ = "0.1.0"
 
 Key = Union[int, str]
 Value = Union[int, str]
-Type = Literal["u32", "u64", "text"]
 
-TYPES = ("u32", "u64", "text")
-OK, NOT_OPEN, NOT_FOUND, POSITION_OVERFLOW, BAD_ITEM, NO_ROOM = 0, 16, 18, 33, 36, 38
-_BATCH = 256
-
-
-class _Refusal(ctypes.Structure):
-    _fields_ = [("code", ctypes.c_uint32), ("at", ctypes.c_int64), ("found", ctypes.c_uint64), ("allowed", ctypes.c_uint64)]
+# How many entries are read at a time: few at first, and then more.
+_FIRST_BATCH, _LAST_BATCH = 16, 1024
+# How many entries `build` takes from its iterable at a time.
+_CHUNK = 8192
 
 
-class _Item(ctypes.Structure):
-    _fields_ = [("number", ctypes.c_uint64), ("start", ctypes.c_uint32), ("len", ctypes.c_uint32)]
-
-
-class _Entry(ctypes.Structure):
-    _fields_ = [("key", _Item), ("value", _Item)]
-
-
-class _Map(ctypes.Structure):
-    _fields_ = [("data", ctypes.c_void_p), ("data_len", ctypes.c_size_t), ("pos", ctypes.c_uint32), ("type", ctypes.c_uint32)]
-
-
-class _Step(ctypes.Structure):
-    _fields_ = [("node", ctypes.c_uint32), ("index", ctypes.c_uint32)]
-
-
-class _Cursor(ctypes.Structure):
-    _fields_ = [
-        ("node", ctypes.c_uint32),
-        ("next", ctypes.c_uint32),
-        ("end", ctypes.c_uint32),
-        ("depth", ctypes.c_uint32),
-        ("stops", ctypes.c_uint32),
-        ("stop", _Step),
-        ("path", _Step * 32),
-    ]
+# The six numbers of an entry: of the key, and then of the value, a number, where a text begins, and how many bytes it has.
+_ENTRY = struct.Struct("<QIIQII")
+_BATCHES = {room: ctypes.c_char * (_ENTRY.size * room) for room in (16, 64, 256, 1024)}
 
 
 class _PyBuffer(ctypes.Structure):
@@ -90,32 +92,7 @@ def _library() -> ctypes.CDLL:
     raise ImportError("no librkyv_btree.so: run `make bindings`, or name it in RKYV_BTREE_LIB")
 
 
-_U32, _U64, _SIZE, _BYTES, _P = ctypes.c_uint32, ctypes.c_uint64, ctypes.c_size_t, ctypes.c_void_p, ctypes.POINTER
-_lib = _library()
-
-
-def _declared(name: str, result: type, *parameters: type) -> "ctypes._NamedFuncPointer":
-    function = getattr(_lib, name)
-    function.restype = result
-    function.argtypes = parameters
-    return function
-
-
-_open = _declared("rkyv_btree_open", _U32, _P(_Map), _U32, _BYTES, _SIZE, _P(_Refusal))
-_open_strict = _declared("rkyv_btree_open_strict", _U32, _P(_Map), _U32, _BYTES, _SIZE, _P(_Refusal))
-_len = _declared("rkyv_btree_len", _U32, _P(_Map), _P(_U32))
-_get_number = _declared("rkyv_btree_get_number", _U32, _P(_Map), _U64, _P(_Entry))
-_get_text = _declared("rkyv_btree_get_text", _U32, _P(_Map), ctypes.c_char_p, _SIZE, _P(_Entry))
-_find_number = _declared("rkyv_btree_find_number", _U32, _U32, _BYTES, _SIZE, _U64, _P(_Entry), _P(_Refusal))
-_find_text = _declared("rkyv_btree_find_text", _U32, _U32, _BYTES, _SIZE, ctypes.c_char_p, _SIZE, _P(_Entry), _P(_Refusal))
-_first = _declared("rkyv_btree_first", _U32, _P(_Map), _P(_Cursor))
-_seek_number = _declared("rkyv_btree_seek_number", _U32, _P(_Map), _U64, _P(_Cursor))
-_seek_text = _declared("rkyv_btree_seek_text", _U32, _P(_Map), ctypes.c_char_p, _SIZE, _P(_Cursor))
-_next = _declared("rkyv_btree_next", _U32, _P(_Map), _P(_Cursor), _P(_Entry), _SIZE, _P(_SIZE))
-_BUILD = (_U32, _P(_Entry), _SIZE, ctypes.c_char_p, _SIZE, _BYTES, _SIZE, _P(_SIZE))
-_build = _declared("rkyv_btree_build", _U32, *_BUILD)
-_build_strict = _declared("rkyv_btree_build_strict", _U32, *_BUILD)
-_strerror = _declared("rkyv_btree_strerror", _SIZE, _U32, _BYTES, _SIZE)
+_lib = declared(_library())
 _get_buffer = ctypes.pythonapi.PyObject_GetBuffer
 _get_buffer.restype, _get_buffer.argtypes = ctypes.c_int, (ctypes.py_object, _P(_PyBuffer), ctypes.c_int)
 _release_buffer = ctypes.pythonapi.PyBuffer_Release
@@ -123,15 +100,18 @@ _release_buffer.restype, _release_buffer.argtypes = None, (_P(_PyBuffer),)
 
 
 class Error(ValueError):
-    """Bytes are no map, or entries have no archive. `code` is that of include/rkyv_btree.h; `at` is a position."""
+    """Bytes are no map, or entries have no archive. `code` is that of include/rkyv_btree.h, and `at` is a position.
+
+    Of entries that have no archive `found` is the index of the one that is bad or out of order.
+    """
 
     def __init__(self, code: int, at: int = 0, found: int = 0, allowed: int = 0) -> None:
         text = ctypes.create_string_buffer(128)
-        _strerror(code, text, len(text))
+        _lib.strerror(code, text, len(text))
         message = text.value.decode()
-        if code in (1, 2, 3, 5, 6):
+        if code in AT_POSITION:
             message += f" at position {at}"
-        elif code == 9:
+        elif code in AT_ENTRY:
             message += f" at entry {found}"
         super().__init__(message)
         self.code, self.at, self.found, self.allowed = code, at, found, allowed
@@ -140,12 +120,14 @@ class Error(ValueError):
 def _number_of(key_type: str, value_type: str) -> int:
     for name in (key_type, value_type):
         if name not in TYPES:
-            raise ValueError(f"a type must be 'u32', 'u64' or 'text', not {name!r}")
-    return 3 * TYPES.index(key_type) + TYPES.index(value_type) + 1
+            *others, last = map(repr, TYPES)
+            raise ValueError(f"a type must be {', '.join(others)} or {last}, not {name!r}")
+    return NUMBERS[key_type, value_type]
 
 
 def _limit_of(key_type: str) -> int:
-    return 2**32 if key_type == "u32" else 2**64
+    """Returns the least number that is past all numbers of a type."""
+    return 1 << 8 * TYPES[key_type][0]
 
 
 def _checked(value: Any, is_text: bool, name: str) -> Any:
@@ -165,10 +147,20 @@ def _address_of(view: memoryview) -> int:
     return address
 
 
+class _Slices:
+    """A buffer whose slices are bytes."""
+
+    def __init__(self, view: memoryview) -> None:
+        self.view = view.cast("B")
+
+    def __getitem__(self, part: slice) -> bytes:
+        return bytes(self.view[part])
+
+
 class _Number(int):
     """A key of a map whose keys don't increase. It has its value with it, since a lookup can miss the key."""
 
-    map: Union[Map, None] = None
+    token: object = None
     value: Value = 0
 
     def __reduce__(self) -> tuple[type, tuple[int]]:
@@ -178,7 +170,7 @@ class _Number(int):
 class _Text(str):
     """The same of a text."""
 
-    map: Union[Map, None] = None
+    token: object = None
     value: Value = 0
 
     def __reduce__(self) -> tuple[type, tuple[str]]:
@@ -228,6 +220,7 @@ class Map(Mapping):
         if not isinstance(data, bytes):
             raise TypeError(f"data must be bytes, which don't change, not {type(data).__name__}; Map.from_file maps a file")
         self._file: Union[mmap.mmap, None] = None
+        self._data: Any = data
         self._start(memoryview(data), key_type, value_type, strict)
 
     @classmethod
@@ -238,28 +231,42 @@ class Map(Mapping):
                 return cls(b"", key_type, value_type, strict)
             mapped = mmap.mmap(file.fileno(), 0, access=mmap.ACCESS_READ)
         self = cls.__new__(cls)
-        self._file = mapped
+        self._file = self._data = mapped
         self._start(memoryview(mapped), key_type, value_type, strict)
         return self
 
     def _start(self, view: memoryview, key_type: str, value_type: str, strict: bool) -> None:
-        self._view = view
-        self._texts = (key_type == "text", value_type == "text")
-        self._limit = _limit_of(key_type)
+        number = self._describe(view, key_type, value_type)
         # Whether the keys increase, if that is known.
-        self._order: Union[bool, None] = True if strict else None
-        self._map, why = _Map(), _Refusal()
-        opened = _open_strict if strict else _open
-        code = opened(self._map, _number_of(key_type, value_type), _address_of(view), len(view), why)
+        self._order = True if strict else None
+        why = _Refusal()
+        opened = _lib.open_strict if strict else _lib.open
+        code = opened(self._map, number, _address_of(view), view.nbytes, why)
         if code != OK:
             raise Error(code, why.at, why.found, why.allowed)
 
+    def _describe(self, view: memoryview, key_type: str, value_type: str) -> int:
+        """Sets what doesn't depend on the bytes, with a map that isn't open. Returns the number of the type."""
+        number = _number_of(key_type, value_type)
+        self._view, self._map, self._types = view, _Map(), (key_type, value_type)
+        self._texts = (key_type == "text", value_type == "text")
+        self._limit = _limit_of(key_type)
+        self._order: Union[bool, None] = None
+        # What the keys that the map gives have, as long as their values are those of the map.
+        self._token = object()
+        return number
+
     def close(self) -> None:
         """Closes the map, and the file that it has mapped. After that each call raises Error, and `close` does nothing."""
-        self._map = _Map()
+        self._map, self._data = _Map(), b""
         self._view.release()
         if self._file is not None:
             self._file.close()
+
+    def __repr__(self) -> str:
+        """Returns the types of the map and its number of entries."""
+        state = f"len {len(self)}" if self._map.type else "closed"
+        return f"<rkyv_btree.{type(self).__name__} of {self._types[0]} to {self._types[1]}, {state}>"
 
     def __enter__(self) -> Map:
         """Returns the map, which is closed at the end of the `with`."""
@@ -269,7 +276,7 @@ class Map(Mapping):
         self.close()
 
     def _read(self, item: _Item, is_text: bool) -> Value:
-        return str(self._view[item.start : item.start + item.len], "utf-8") if is_text else item.number
+        return self._data[item.start : item.start + item.len].decode() if is_text else item.number
 
     def _opened(self) -> _Map:
         """Returns the map as the library has it, while it is open."""
@@ -281,7 +288,7 @@ class Map(Mapping):
         """Returns whether the keys increase. The first call validates their order."""
         opened = self._opened()
         if self._order is None:
-            self._order = _open_strict(_Map(), opened.type, opened.data, opened.data_len, _Refusal()) == OK
+            self._order = _lib.open_strict(_Map(), opened.type, opened.data, opened.data_len, _Refusal()) == OK
         return self._order
 
     def _find(self, key: object) -> Union[_Entry, None]:
@@ -290,22 +297,22 @@ class Map(Mapping):
             if not isinstance(key, str):
                 return None
             text = key.encode("utf-8", "surrogatepass")
-            code = _get_text(opened, text, len(text), entry)
+            code = _lib.get_text(opened, text, len(text), entry)
         else:
             if not isinstance(key, int) or not 0 <= key < self._limit:
                 return None
-            code = _get_number(opened, key, entry)
+            code = _lib.get_number(opened, key, entry)
         return entry if code == OK else None
 
     def _gave(self, key: Any) -> bool:
         """Returns whether a key is from the map's own iteration, and has its value with it."""
         self._opened()
-        return isinstance(key, (_Number, _Text)) and key.map is self
+        return isinstance(key, (_Number, _Text)) and key.token is self._token
 
     def __len__(self) -> int:
         """Returns the number of entries."""
         length = _U32()
-        _len(self._opened(), length)
+        _lib.len(self._opened(), length)
         return length.value
 
     def __contains__(self, key: object) -> bool:
@@ -339,7 +346,7 @@ class Map(Mapping):
     def _given(self, key: Key, value: Value) -> Key:
         """Returns a key with its value."""
         given = _Text(key) if isinstance(key, str) else _Number(key)
-        given.map, given.value = self, value
+        given.token, given.value = self._token, value
         return given
 
     def items(self) -> ItemsView[Key, Value]:
@@ -356,28 +363,108 @@ class Map(Mapping):
             if bound is not None:
                 _checked(bound, self._texts[0], "a key of a slice")
         if low is None:
-            _first(opened, cursor)
+            _lib.first(opened, cursor)
         elif isinstance(low, str):
             text = low.encode("utf-8", "surrogatepass")
-            _seek_text(opened, text, len(text), cursor)
+            _lib.seek_text(opened, text, len(text), cursor)
         elif low < 2**64:
-            _seek_number(opened, max(low, 0), cursor)
+            _lib.seek_number(opened, max(low, 0), cursor)
         return self._entries(cursor, high)
 
     def _entries(self, cursor: _Cursor, high: Union[Key, None]) -> Iterator[tuple[Key, Value]]:
-        batch, written = (_Entry * _BATCH)(), _SIZE(_BATCH)
+        opened, data, (keys_are_texts, values_are_texts) = self._opened(), self._data, self._texts
         # Texts are compared as their bytes, as the archive's order is.
         limit = high.encode("utf-8", "surrogatepass") if isinstance(high, str) else high
-        while written.value == _BATCH:
-            code = _next(self._opened(), cursor, batch, _BATCH, written)
+        room, written = _FIRST_BATCH, _SIZE()
+        while True:
+            batch = _BATCHES[room]()
+            code = _lib.next(self._opened(), cursor, batch, room, written)
             if code != OK:
                 raise Error(code)
-            for entry in batch[: written.value]:
-                self._opened()
-                key = self._read(entry.key, self._texts[0])
-                if limit is not None and (key.encode() if isinstance(key, str) else key) >= limit:
+            entries = islice(_ENTRY.iter_unpack(batch), written.value)
+            for key, key_start, key_len, value, start, length in entries:
+                if self._map is not opened:
+                    raise Error(NOT_OPEN)
+                if keys_are_texts:
+                    text = data[key_start : key_start + key_len]
+                    if limit is not None and text >= limit:
+                        return
+                    key = text.decode()
+                elif limit is not None and key >= limit:
                     return
-                yield key, self._read(entry.value, self._texts[1])
+                yield key, data[start : start + length].decode() if values_are_texts else value
+            if written.value < room:
+                return
+            room = min(4 * room, _LAST_BATCH)
+
+
+class Edit(Map):
+    """The map of a whole archive in a buffer that can be written. `prices["pear"] = 6` overwrites the value of a key that is there.
+
+    Values must be numbers. No entry is added or removed, and all other bytes are unchanged. It reads as `Map` does. An iteration reads
+    ahead, so a value may be that from before a write. The buffer is held until the map is closed, and nothing else may write to it.
+
+        >>> data = bytearray(build("text", "u32", [("apple", 3), ("pear", 5)]))
+        >>> with Edit(data, "text", "u32") as prices:
+        ...     prices["pear"] = 6
+        >>> Map(bytes(data), "text", "u32")["pear"]
+        6
+    """
+
+    def __init__(self, data: Any, key_type: Type, value_type: Type) -> None:
+        """Validates `data`: a `bytearray`, or another buffer that can be written. Raises Error if it is no map of these types."""
+        self._file = None
+        view = memoryview(data)
+        # A slice of it has the method `decode`.
+        self._data = data if isinstance(data, (bytearray, mmap.mmap)) else _Slices(view)
+        self._start_edit(view, key_type, value_type)
+
+    @classmethod
+    def from_file(cls, path: Union[str, os.PathLike], key_type: Type, value_type: Type) -> Edit:
+        """Maps a file for writing and validates it. Nothing else may write to the file until the map is closed."""
+        with open(path, "r+b") as file:
+            if os.fstat(file.fileno()).st_size == 0:
+                return cls(bytearray(), key_type, value_type)
+            mapped = mmap.mmap(file.fileno(), 0)
+        self = cls.__new__(cls)
+        self._file = self._data = mapped
+        self._start_edit(memoryview(mapped), key_type, value_type)
+        return self
+
+    def _start_edit(self, view: memoryview, key_type: str, value_type: str) -> None:
+        if view.readonly:
+            raise TypeError("data must be a buffer that can be written, as a bytearray is")
+        number, why = self._describe(view, key_type, value_type), _Refusal()
+        self._edit = _Edit(_address_of(view), view.nbytes, 0, 0)
+        code = _lib.open_edit(self._edit, number, why)
+        if code != OK:
+            raise Error(code, why.at, why.found, why.allowed)
+        _lib.read_edit(self._map, self._edit)
+
+    def close(self) -> None:
+        """Closes the map, and lets the buffer go. After that each call raises Error, and `close` does nothing."""
+        self._edit = _Edit()
+        super().close()
+
+    def __setitem__(self, key: Key, value: int) -> None:
+        """Overwrites the value of a key. Raises KeyError if the key isn't found, and Error if the value isn't of the map's type."""
+        self._opened()
+        _checked(value, False, "a value")
+        if not 0 <= value < 2**64:
+            raise Error(BAD_VALUE)
+        if self._texts[0]:
+            text = key.encode("utf-8", "surrogatepass") if isinstance(key, str) else None
+            code = NOT_FOUND if text is None else _lib.set_text(self._edit, text, len(text), value)
+        elif isinstance(key, int) and 0 <= key < self._limit:
+            code = _lib.set_number(self._edit, key, value)
+        else:
+            code = NOT_FOUND
+        if code == NOT_FOUND:
+            raise KeyError(key)
+        if code != OK:
+            raise Error(code)
+        self._token = object()
+        _lib.read_edit(self._map, self._edit)
 
 
 def find(data: Any, key_type: Type, value_type: Type, key: Key) -> Union[Value, None]:
@@ -398,11 +485,11 @@ def find(data: Any, key_type: Type, value_type: Type, key: Key) -> Union[Value, 
             if not isinstance(key, str):
                 return None
             text = key.encode("utf-8", "surrogatepass")
-            code = _find_text(number, address, view.nbytes, text, len(text), entry, why)
+            code = _lib.find_text(number, address, view.nbytes, text, len(text), entry, why)
         else:
             if not isinstance(key, int) or not 0 <= key < _limit_of(key_type):
                 return None
-            code = _find_number(number, address, view.nbytes, key, entry, why)
+            code = _lib.find_number(number, address, view.nbytes, key, entry, why)
         if code == NOT_FOUND:
             return None
         if code != OK:
@@ -412,31 +499,147 @@ def find(data: Any, key_type: Type, value_type: Type, key: Key) -> Union[Value, 
         return entry.value.number
 
 
-def build(key_type: Type, value_type: Type, entries: Iterable[tuple[Key, Value]], strict: bool = False) -> bytes:
-    """Returns the archive of entries, in their order. Raises Error if they have none, or with `strict` if the keys don't increase."""
-    number, texts = _number_of(key_type, value_type), bytearray()
+class _Numbers:
+    """A column of numbers, to which more are added."""
 
-    def item(value: Any, is_text: bool, name: str) -> _Item:
-        _checked(value, is_text, name)
-        if not is_text:
-            if not 0 <= value < 2**64:
-                raise Error(BAD_ITEM)
-            return _Item(value, 0, 0)
-        start = len(texts)
-        texts.extend(value.encode())
-        if len(texts) >= 2**32:
+    def __init__(self, code: str, name: str) -> None:
+        self.data, self.name = array(code), name
+
+    def extend(self, numbers: list[Any], index: int) -> None:
+        """Adds numbers, of which the first is that of the entry at `index`."""
+        try:
+            self.data.extend(numbers)
+        except (OverflowError, TypeError):
+            limit = 1 << 8 * self.data.itemsize
+            for at, number in enumerate(numbers, index):
+                if not 0 <= _checked(number, False, self.name) < limit:
+                    raise Error(BAD_ITEM, found=at) from None
+            raise
+
+    def column(self) -> _Column:
+        """Returns the column that the library has of them, as long as nothing is added."""
+        address, length = self.data.buffer_info()
+        return _Column(address, length * self.data.itemsize, None, 0, 0)
+
+    def __len__(self) -> int:
+        return len(self.data) * self.data.itemsize
+
+
+class _Texts:
+    """A column of texts, to which more are added."""
+
+    def __init__(self, name: str) -> None:
+        self.data, self.ends, self.name = bytearray(), array("I", [0]), name
+
+    def extend(self, texts: list[Any], index: int) -> None:
+        """Adds texts, of which the first is that of the entry at `index`."""
+        try:
+            joined = "".join(texts).encode()
+            lengths = map(len, texts if len(joined) == sum(map(len, texts)) else [text.encode() for text in texts])
+        except (TypeError, UnicodeEncodeError):
+            for at, text in enumerate(texts, index):
+                try:
+                    _checked(text, True, self.name).encode()
+                except UnicodeEncodeError:
+                    raise Error(BAD_ITEM, found=at) from None
+            raise
+        if len(self.data) + len(joined) >= 2**32:
             raise Error(POSITION_OVERFLOW)
-        return _Item(0, start, len(texts) - start)
+        ends = accumulate(lengths, initial=len(self.data))
+        next(ends)
+        self.ends.extend(ends)
+        self.data += joined
 
-    are_texts = key_type == "text", value_type == "text"
-    listed = [_Entry(item(key, are_texts[0], "a key"), item(value, are_texts[1], "a value")) for key, value in entries]
-    given, blob, length = (_Entry * len(listed))(*listed), bytes(texts), _SIZE()
-    call = _build_strict if strict else _build
-    code = call(number, given, len(listed), blob, len(blob), None, 0, length)
-    if code != NO_ROOM:
-        raise Error(code)
-    out = ctypes.create_string_buffer(length.value)
-    code = call(number, given, len(listed), blob, len(blob), out, length.value, length)
-    if code != OK:
-        raise Error(code)
-    return out.raw
+    def column(self) -> _Column:
+        """Returns the column that the library has of them, as long as nothing is added."""
+        address, length = self.ends.buffer_info()
+        return _Column(_address_of(memoryview(self.data)), len(self.data), address, 4 * length, 4)
+
+    def __len__(self) -> int:
+        return len(self.data) + 8 * len(self.ends)
+
+
+def _built(number: int, count: int, keys: _Column, values: _Column, bytes_len: int, strict: bool) -> bytes:
+    """Returns the archive of two columns, which are `bytes_len` bytes long in it."""
+    call = _lib.build_arrays_strict if strict else _lib.build_arrays
+    # A node of five entries has at most 40 bytes beside them. If the guess is too small, the call gives the length.
+    room, length, why = bytes_len + 8 * count + 4096, _SIZE(), _Refusal()
+    while True:
+        out = mmap.mmap(-1, room)
+        with memoryview(out) as view:
+            code = call(number, count, keys, values, _address_of(view), room, length, why)
+        if code == OK:
+            return out[: length.value]
+        if code != NO_ROOM or length.value <= room:
+            raise Error(code, found=why.found)
+        room = length.value
+
+
+def build(
+    key_type: Type, value_type: Type, entries: Union[Mapping[Key, Value], Iterable[tuple[Key, Value]]], strict: bool = False
+) -> bytes:
+    """Returns the archive of entries, in their order. Raises Error if they have none, or with `strict` if the keys don't increase.
+
+    `entries` is a mapping, or any iterable of pairs. It is gone through once, and a few thousand pairs of it are held at a time.
+    """
+    number = _number_of(key_type, value_type)
+    if isinstance(entries, Mapping):
+        entries = entries.items()
+
+    def started(kind: str, name: str) -> Union[_Numbers, _Texts]:
+        return _Texts(name) if kind == "text" else _Numbers(TYPES[kind][2], name)
+
+    keys, values, count, rest = started(key_type, "a key"), started(value_type, "a value"), 0, iter(entries)
+    while chunk := list(islice(rest, _CHUNK)):
+        keys.extend([key for key, _ in chunk], count)
+        values.extend([value for _, value in chunk], count)
+        count += len(chunk)
+    return _built(number, count, keys.column(), values.column(), len(keys) + len(values), strict)
+
+
+class _Buffers:
+    """A column that lies in buffers of the caller's, which are held until it is released."""
+
+    def __init__(self, kind: str, given: Any, name: str) -> None:
+        self.views: list[memoryview] = []
+        if kind == "text":
+            if not isinstance(given, tuple) or len(given) != 2:
+                raise TypeError(f"{name} must be a pair: the offsets of the texts, and their bytes")
+            offsets, data = self._view(given[0], name), self._view(given[1], name)
+            if offsets.itemsize not in (4, 8) or offsets.format.lstrip("@=<") not in "iIlLqQ":
+                raise TypeError(f"{name} must have offsets of 4 or 8 bytes, not of format {offsets.format!r}")
+            self.count = max(len(offsets) - 1, 0)
+            self.bytes = data.nbytes + 8 * self.count
+            self.column = _Column(_address_of(data), data.nbytes, _address_of(offsets), offsets.nbytes, offsets.itemsize)
+        else:
+            numbers, size = self._view(given, name), TYPES[kind][0]
+            if numbers.itemsize != size or numbers.format.lstrip("@=<") not in "ILQ":
+                raise TypeError(f"{name} must be a buffer of {kind}, not of format {numbers.format!r}")
+            self.count, self.bytes = len(numbers), numbers.nbytes
+            self.column = _Column(_address_of(numbers), numbers.nbytes, None, 0, 0)
+
+    def _view(self, given: Any, name: str) -> memoryview:
+        view = memoryview(given)
+        self.views.append(view)
+        if view.ndim != 1 or not view.c_contiguous:
+            raise TypeError(f"{name} must be contiguous, with one dimension")
+        return view
+
+
+def build_arrays(key_type: Type, value_type: Type, keys: Any, values: Any, strict: bool = False) -> bytes:
+    """Returns the archive of two columns of one length, in their order, without a Python object for each entry.
+
+    A column of numbers is a buffer of them, as an `array.array` or an array of numpy is. A column of texts is a pair of buffers, as
+    Arrow has them: offsets of 4 or 8 bytes, one more than there are texts, and the UTF-8 of all texts. The buffers aren't copied, and
+    must not change during the call. Raises as `build` does.
+
+        >>> from array import array
+        >>> data = build_arrays("text", "u32", (array("i", [0, 5, 9]), b"applepear"), array("I", [3, 5]))
+        >>> dict(Map(data, "text", "u32"))
+        {'apple': 3, 'pear': 5}
+    """
+    number = _number_of(key_type, value_type)
+    given = _Buffers(key_type, keys, "keys"), _Buffers(value_type, values, "values")
+    if given[0].count != given[1].count:
+        raise ValueError(f"there are {given[0].count} keys and {given[1].count} values")
+    return _built(number, given[0].count, given[0].column, given[1].column, given[0].bytes + given[1].bytes, strict)

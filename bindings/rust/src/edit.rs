@@ -1,9 +1,10 @@
 use crate::error::Error;
 use crate::field::sealed::Query;
 use crate::field::{AsKey, Field, Number};
-use crate::map::type_number;
+use crate::map::{type_number, Map};
 use crate::raw;
 use std::marker::PhantomData;
+use std::{ptr, slice};
 
 /// A map in a buffer, whose values are overwritten there.
 pub struct Edit<'a, K, V> {
@@ -30,6 +31,41 @@ impl<'a, K: Field<'a>, V: Field<'a> + Number> Edit<'a, K, V> {
         }
     }
 
+    /// Returns the map in the buffer, for reading. Nothing is validated.
+    pub fn map(&self) -> Map<'_, K::At<'_>, V::At<'_>> {
+        let mut raw = raw::Map { data: ptr::null(), data_len: 0, pos: 0, kind: 0 };
+        // SAFETY: the map is open. Nothing writes to the buffer while it is read, since writes borrow the whole map.
+        unsafe { raw::rkyv_btree_read_edit(&mut raw, &self.raw) };
+        // SAFETY: pointer and length are those of one slice, which is borrowed.
+        let data = unsafe { slice::from_raw_parts(self.raw.data, self.raw.data_len) };
+        Map::of(raw, data)
+    }
+
+    /// Returns the value of a key. If the keys don't increase, a key may be there and not be found.
+    pub fn get(&self, key: impl AsKey<K>) -> Option<V> {
+        let mut raw = raw::Map { data: ptr::null(), data_len: 0, pos: 0, kind: 0 };
+        let mut entry = raw::Entry::default();
+        // SAFETY: the map is open, and a text is borrowed during the call.
+        let code = unsafe {
+            raw::rkyv_btree_read_edit(&mut raw, &self.raw);
+            match key.query() {
+                Query::Number(number) => raw::rkyv_btree_get_number(&raw, number, &mut entry),
+                Query::Text(text) => raw::rkyv_btree_get_text(&raw, text.as_ptr(), text.len(), &mut entry),
+            }
+        };
+        (code == raw::OK).then(|| V::narrowed(entry.value.number))
+    }
+
+    /// Returns the number of entries.
+    pub fn len(&self) -> usize {
+        self.map().len()
+    }
+
+    /// Returns whether there are no entries.
+    pub fn is_empty(&self) -> bool {
+        self.len() == 0
+    }
+
     /// Overwrites the value of a key, and returns whether it was found.
     pub fn set(&mut self, key: impl AsKey<K>, value: V) -> bool {
         let code = match key.query() {
@@ -43,105 +79,5 @@ impl<'a, K: Field<'a>, V: Field<'a> + Number> Edit<'a, K, V> {
             },
         };
         code == raw::OK
-    }
-}
-
-/// Entries of which an archive is built, in their order.
-pub struct Builder<K, V> {
-    entries: Vec<raw::Entry>,
-    texts: Vec<u8>,
-    is_long: bool,
-    of: PhantomData<(K, V)>,
-}
-
-type Build = unsafe extern "C" fn(u32, *const raw::Entry, usize, *const u8, usize, *mut u8, usize, *mut usize) -> u32;
-
-impl<'a, K: Field<'a>, V: Field<'a>> Builder<K, V> {
-    /// Returns a builder without entries.
-    pub fn new() -> Builder<K, V> {
-        Builder { entries: Vec::new(), texts: Vec::new(), is_long: false, of: PhantomData }
-    }
-
-    /// Adds an entry at the end.
-    pub fn push(&mut self, key: K, value: V) {
-        match (key.item(&mut self.texts), value.item(&mut self.texts)) {
-            (Some(key), Some(value)) => self.entries.push(raw::Entry { key, value }),
-            _ => self.is_long = true,
-        }
-    }
-
-    /// Adds an entry at the end, and returns the builder.
-    #[must_use]
-    pub fn entry(mut self, key: K, value: V) -> Builder<K, V> {
-        self.push(key, value);
-        self
-    }
-
-    /// Returns the archive of the entries.
-    ///
-    /// # Errors
-    ///
-    /// If they have none: it would be longer than 4 GiB, a pointer would reach over more than 2 GiB, or memory ran out.
-    pub fn build(&self) -> Result<Vec<u8>, Error> {
-        self.build_by(raw::rkyv_btree_build)
-    }
-
-    /// Returns the archive of the entries, whose keys must increase.
-    ///
-    /// # Errors
-    ///
-    /// As of `build`, and if a key isn't greater than the key before it.
-    pub fn build_strict(&self) -> Result<Vec<u8>, Error> {
-        self.build_by(raw::rkyv_btree_build_strict)
-    }
-
-    fn build_by(&self, build: Build) -> Result<Vec<u8>, Error> {
-        if self.is_long {
-            return Err(Error::of(raw::POSITION_OVERFLOW));
-        }
-        let mut archive = Vec::new();
-        loop {
-            let mut len = 0;
-            // SAFETY: each pointer and length are those of one slice, and the last is exclusive.
-            let code = unsafe {
-                build(
-                    type_number::<K, V>(),
-                    self.entries.as_ptr(),
-                    self.entries.len(),
-                    self.texts.as_ptr(),
-                    self.texts.len(),
-                    archive.as_mut_ptr(),
-                    archive.len(),
-                    &mut len,
-                )
-            };
-            match code {
-                raw::OK => return Ok(archive),
-                raw::NO_ROOM if archive.is_empty() => archive = vec![0; len],
-                _ => return Err(Error::of(code)),
-            }
-        }
-    }
-}
-
-impl<'a, K: Field<'a>, V: Field<'a>> Default for Builder<K, V> {
-    fn default() -> Builder<K, V> {
-        Builder::new()
-    }
-}
-
-impl<'a, K: Field<'a>, V: Field<'a>> Extend<(K, V)> for Builder<K, V> {
-    fn extend<I: IntoIterator<Item = (K, V)>>(&mut self, entries: I) {
-        for (key, value) in entries {
-            self.push(key, value);
-        }
-    }
-}
-
-impl<'a, K: Field<'a>, V: Field<'a>> FromIterator<(K, V)> for Builder<K, V> {
-    fn from_iter<I: IntoIterator<Item = (K, V)>>(entries: I) -> Builder<K, V> {
-        let mut builder = Builder::new();
-        builder.extend(entries);
-        builder
     }
 }

@@ -8,11 +8,6 @@ pub struct Error {
 }
 
 impl Error {
-    pub(crate) fn of(code: u32) -> Error {
-        let refusal = raw::Refusal { code, ..raw::Refusal::default() };
-        Error { refusal }
-    }
-
     pub(crate) fn refused(refusal: raw::Refusal) -> Error {
         Error { refusal }
     }
@@ -27,7 +22,8 @@ impl Error {
         self.refusal.at
     }
 
-    /// Returns what was found there: a byte, a length, a number of entries, or the index of an entry.
+    /// Returns what was found there: a byte, a length, a number of entries, or the index of an entry. For entries that have no archive it is
+    /// the index of the one that is bad or out of order.
     pub fn found(&self) -> u64 {
         self.refusal.found
     }
@@ -44,10 +40,13 @@ impl fmt::Display for Error {
         // SAFETY: the pointer and the length are those of one array.
         let len = unsafe { raw::rkyv_btree_strerror(self.refusal.code, text.as_mut_ptr(), text.len()) };
         f.write_str(&String::from_utf8_lossy(&text[..len.min(text.len())]))?;
-        match self.refusal.code {
-            1 | 2 | 3 | 5 | 6 => write!(f, " at position {}", self.refusal.at),
-            9 => write!(f, " at entry {}", self.refusal.found),
-            _ => Ok(()),
+        let raw::Refusal { code, at, found, .. } = self.refusal;
+        if raw::AT_POSITION.contains(&code) {
+            write!(f, " at position {at}")
+        } else if raw::AT_ENTRY.contains(&code) {
+            write!(f, " at entry {found}")
+        } else {
+            Ok(())
         }
     }
 }

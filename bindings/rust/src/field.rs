@@ -1,4 +1,4 @@
-use crate::raw::Item;
+use crate::raw::{Column, Item, Type};
 
 /// A type of keys or of values: `u32`, `u64` or `&str`.
 pub trait Field<'a>: Copy + sealed::Stored<'a> {}
@@ -23,7 +23,8 @@ impl Number for u32 {}
 impl Number for u64 {}
 
 pub(crate) mod sealed {
-    use super::Item;
+    use super::{Column, Item, Type};
+    use std::ptr;
 
     /// What is asked for in a map.
     #[derive(Clone, Copy)]
@@ -32,23 +33,82 @@ pub(crate) mod sealed {
         Text(&'q str),
     }
 
+    /// A key or a value that is kept. Texts are compared as their bytes, as the order of an archive is.
+    #[derive(Clone, Debug, PartialEq, Eq, PartialOrd, Ord)]
+    pub enum Datum {
+        Number(u64),
+        Text(String),
+    }
+
     pub trait Asked {
         fn query(&self) -> Query<'_>;
     }
 
     pub trait Wide: Copy {
         fn widened(self) -> u64;
+
+        /// Returns the number that a map of this type has.
+        fn narrowed(number: u64) -> Self;
+    }
+
+    /// Keys or values one after the other.
+    #[derive(Default)]
+    pub struct Cells {
+        data: Vec<u8>,
+        /// Where each text ends.
+        ends: Vec<u64>,
+        is_text: bool,
+    }
+
+    impl Cells {
+        fn number(&mut self, bytes: &[u8]) {
+            self.data.extend_from_slice(bytes);
+        }
+
+        fn text(&mut self, text: &str) {
+            if self.ends.is_empty() {
+                self.is_text = true;
+                self.ends.push(0);
+            }
+            self.data.extend_from_slice(text.as_bytes());
+            self.ends.push(self.data.len() as u64);
+        }
+
+        /// Returns how many bytes they have in an archive.
+        pub fn bytes(&self) -> usize {
+            self.data.len() + 8 * self.ends.len()
+        }
+
+        /// Returns the column that C has of them while they are borrowed.
+        pub fn column(&self) -> Column {
+            Column {
+                data: self.data.as_ptr(),
+                data_len: self.data.len(),
+                offsets: if self.is_text { self.ends.as_ptr().cast() } else { ptr::null() },
+                offsets_len: 8 * self.ends.len(),
+                offset_size: 8,
+            }
+        }
     }
 
     pub trait Stored<'a>: Sized {
-        /// Which of the three types it is.
-        const NUMBER: u32;
+        /// Which type it is.
+        const TYPE: Type;
+
+        /// The same type, of a buffer that is borrowed for less time.
+        type At<'s>: super::Field<'s>;
+
+        /// The same type, of which a text isn't borrowed: a `String`.
+        type Owned;
 
         /// Reads an item whose text is in `data`.
         fn read(data: &'a [u8], item: Item) -> Self;
 
-        /// Makes an item, and puts its text after `texts`. None if the texts are too long.
-        fn item(self, texts: &mut Vec<u8>) -> Option<Item>;
+        /// Returns a key or a value that was read in an archive of this type.
+        fn owned(datum: Datum) -> Self::Owned;
+
+        /// Puts it after others.
+        fn put(self, cells: &mut Cells);
     }
 
     impl Asked for u32 {
@@ -85,40 +145,75 @@ pub(crate) mod sealed {
         fn widened(self) -> u64 {
             u64::from(self)
         }
+
+        fn narrowed(number: u64) -> u32 {
+            number as u32
+        }
     }
 
     impl Wide for u64 {
         fn widened(self) -> u64 {
             self
         }
+
+        fn narrowed(number: u64) -> u64 {
+            number
+        }
     }
 
     impl<'a> Stored<'a> for u32 {
-        const NUMBER: u32 = 0;
+        const TYPE: Type = Type::U32;
+        type At<'s> = u32;
+        type Owned = u32;
+
+        fn owned(datum: Datum) -> u32 {
+            match datum {
+                Datum::Number(number) => u32::narrowed(number),
+                Datum::Text(_) => 0,
+            }
+        }
 
         fn read(_data: &'a [u8], item: Item) -> u32 {
             item.number as u32
         }
 
-        fn item(self, _texts: &mut Vec<u8>) -> Option<Item> {
-            Some(Item { number: u64::from(self), ..Item::default() })
+        fn put(self, cells: &mut Cells) {
+            cells.number(&self.to_le_bytes());
         }
     }
 
     impl<'a> Stored<'a> for u64 {
-        const NUMBER: u32 = 1;
+        const TYPE: Type = Type::U64;
+        type At<'s> = u64;
+        type Owned = u64;
+
+        fn owned(datum: Datum) -> u64 {
+            match datum {
+                Datum::Number(number) => u64::narrowed(number),
+                Datum::Text(_) => 0,
+            }
+        }
 
         fn read(_data: &'a [u8], item: Item) -> u64 {
             item.number
         }
 
-        fn item(self, _texts: &mut Vec<u8>) -> Option<Item> {
-            Some(Item { number: self, ..Item::default() })
+        fn put(self, cells: &mut Cells) {
+            cells.number(&self.to_le_bytes());
         }
     }
 
     impl<'a> Stored<'a> for &'a str {
-        const NUMBER: u32 = 2;
+        const TYPE: Type = Type::Text;
+        type At<'s> = &'s str;
+        type Owned = String;
+
+        fn owned(datum: Datum) -> String {
+            match datum {
+                Datum::Number(_) => String::new(),
+                Datum::Text(text) => text,
+            }
+        }
 
         fn read(data: &'a [u8], item: Item) -> &'a str {
             let start = item.start as usize;
@@ -127,11 +222,8 @@ pub(crate) mod sealed {
             unsafe { std::str::from_utf8_unchecked(text) }
         }
 
-        fn item(self, texts: &mut Vec<u8>) -> Option<Item> {
-            let start = u32::try_from(texts.len()).ok()?;
-            let len = u32::try_from(self.len()).ok()?;
-            texts.extend_from_slice(self.as_bytes());
-            Some(Item { number: 0, start, len })
+        fn put(self, cells: &mut Cells) {
+            cells.text(self);
         }
     }
 }

@@ -6,16 +6,24 @@
 //! # Ok(())
 //! # }
 //! ```
+mod builder;
 mod edit;
 mod error;
 mod field;
 mod find;
 mod map;
+mod nodes;
 mod raw;
+mod remote;
+mod sha256;
+mod top;
 
-pub use edit::{Builder, Edit};
+pub use builder::Builder;
+pub use edit::Edit;
 pub use error::Error;
 pub use field::Field;
 pub use field::{AsKey, Number};
 pub use find::find;
 pub use map::{Iter, Keys, Map, Range, Values};
+pub use remote::{ReadRange, Remote, RemoteError, RemoteRange};
+pub use top::{Top, TopError};

@@ -12,8 +12,8 @@ use std::ptr;
 const BATCH: usize = 32;
 
 /// Returns the number that the header has for a map's type.
-pub(crate) fn type_number<'a, K: Field<'a>, V: Field<'a>>() -> u32 {
-    3 * K::NUMBER + V::NUMBER + 1
+pub(crate) const fn type_number<'a, K: Field<'a>, V: Field<'a>>() -> u32 {
+    raw::number_of(K::TYPE, V::TYPE)
 }
 
 /// A map in a buffer, which is borrowed and so doesn't change.
@@ -50,13 +50,18 @@ impl<'a, K: Field<'a>, V: Field<'a>> Map<'a, K, V> {
         Map::open_by(data, raw::rkyv_btree_open_strict)
     }
 
+    /// Returns the map that the library has opened in `data`.
+    pub(crate) fn of(raw: raw::Map, data: &'a [u8]) -> Map<'a, K, V> {
+        Map { raw, data, of: PhantomData }
+    }
+
     fn open_by(data: &'a [u8], open: Open) -> Result<Map<'a, K, V>, Error> {
         let mut raw = raw::Map { data: ptr::null(), data_len: 0, pos: 0, kind: 0 };
         let mut why = raw::Refusal::default();
         // SAFETY: pointer and length are those of one slice, which is borrowed as long as the map is there.
         let code = unsafe { open(&mut raw, type_number::<K, V>(), data.as_ptr(), data.len(), &mut why) };
         match code {
-            raw::OK => Ok(Map { raw, data, of: PhantomData }),
+            raw::OK => Ok(Map::of(raw, data)),
             _ => Err(Error::refused(raw::Refusal { code, ..why })),
         }
     }

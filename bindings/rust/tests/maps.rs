@@ -126,6 +126,32 @@ fn edits() {
 }
 
 #[test]
+fn edits_are_read() {
+    let entries: Vec<_> = (0..1000u32).map(|n| (format!("{n:04}"), n)).collect();
+    let mut bytes = entries.iter().map(|entry| (entry.0.as_str(), entry.1)).collect::<Builder<_, _>>().build().unwrap();
+    let mut edit = Edit::<&str, u32>::open(&mut bytes).unwrap();
+    assert_eq!((edit.len(), edit.is_empty()), (1000, false));
+    assert!(edit.set("0500", 7) && !edit.set("absent", 7));
+    assert_eq!([edit.get("0500"), edit.get("0501"), edit.get("absent")], [Some(7), Some(501), None]);
+    let map = edit.map();
+    assert_eq!(map.range("0499".."0502").collect::<Vec<_>>(), [("0499", 499), ("0500", 7), ("0501", 501)]);
+    assert!(edit.set("0999", u32::MAX));
+    assert_eq!(edit.map().iter().last(), Some(("0999", u32::MAX)));
+    assert_eq!(Map::<&str, u32>::open(&bytes).unwrap().get("0500"), Some(7));
+}
+
+#[test]
+fn an_entry_out_of_order() {
+    for at in [1, 2, 5, 6, 999] {
+        let builder: Builder<u64, &str> = (0..1000).map(|n| (if n == at { n - 1 } else { n }, "text")).collect();
+        let error = builder.build_strict().unwrap_err();
+        assert_eq!((error.code(), error.found()), (37, at));
+        assert_eq!(error.to_string(), format!("the keys don't increase at entry {at}"));
+        assert_eq!(Map::<u64, &str>::open(&builder.build().unwrap()).unwrap().len(), 1000);
+    }
+}
+
+#[test]
 fn refusals() {
     fn code(bytes: &[u8]) -> Option<u32> {
         Map::<u32, u32>::open(bytes).err().map(|e: Error| e.code())
@@ -199,4 +225,5 @@ fn readme() {
     let lines = include_str!("../five_lines.rs");
     assert_eq!(lines.lines().count(), 5);
     assert!(include_str!("../README.md").contains(&format!("```rust\n{lines}```\n")));
+    assert!(include_str!("../../../docs/EMBEDDING.md").contains(&format!("```rs\n{lines}```\n")));
 }

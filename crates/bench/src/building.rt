@@ -7,6 +7,7 @@ use crate::report::Report;
 use crate::updating;
 use anyhow::{Context, ensure};
 use rkyv_btree_base::archive::{Archive, Serialize};
+use rkyv_btree_base::build::BuildMap;
 use rkyv_btree_base::check::Portable;
 use rkyv_btree_base::io_writer::IoWriter;
 use rkyv_btree_base::layout;

@@ -2,6 +2,7 @@
 
 use anyhow::ensure;
 use rkyv_btree_base::archive::{Archive, Serialize};
+use rkyv_btree_base::build::BuildMap;
 use rkyv_btree_base::check::Portable;
 use rkyv_btree_base::layout;
 use rkyv_btree_base::map::ArchivedBTreeMap;

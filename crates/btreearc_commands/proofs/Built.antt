@@ -4,30 +4,30 @@ use Rattle.std.proofs.lemmas.List.{length-map, length-append}
 use Rattle.std.proofs.lemmas.Simd.{map-map}
 use Rattle.std.specs.Int.{w32, to_le_bytes}
 use Rattle.std.specs.Iterator.{Drains}
-use Rattle.rkyv_btree_base.specs.Image.{child_image, child_root, root_image}
-use Rattle.rkyv_btree_base.specs.InPlace.{IsOwn, OwnBytes}
-use Rattle.rkyv_btree_base.specs.Layout.{are_fitting, inner_size, len_at, node_size, values_at, keys_at, align, node_align}
-use Rattle.rkyv_btree_base.specs.Scalars.{u32_kind}
-use Rattle.rkyv_btree_base.specs.laws.Natives.{u32_faithful}
-use Rattle.rkyv_btree_base.specs.laws.Scalars.{u32_laws}
-use Rattle.rkyv_btree_base.specs.Rounding.{round_up}
-use Rattle.rkyv_btree_base.specs.Serialising.{Built, Spelled, meaning_of, StoppedBuilding, BuildFault, RootFault}
-use Rattle.rkyv_btree_base.specs.Archiving.{Archival, itself, plain_archival}
-use Rattle.rkyv_btree_base.specs.Plan.{planned_alone}
-use Rattle.rkyv_btree_base.specs.Tree.{Child, ChildHasShape}
-use Rattle.rkyv_btree_base.specs.Entries.{both_borrowed}
-use Rattle.rkyv_btree_base.specs.Written.{ChildStopped}
-use Rattle.rkyv_btree_base.proofs.Alike.{AreAlike, alike_both, alike_length, alike_reach, alike_same, child_alike, same_child_root}
-use Rattle.rkyv_btree_base.proofs.Imaged.{child_written, child_stopped}
-use Rattle.rkyv_btree_base.proofs.Mapped.{alone_mapped}
-use Rattle.rkyv_btree_base.specs.Mapped.{mapped_child}
-use Rattle.rkyv_btree_base.proofs.Smallest.{plan_is_left_complete}
-use Rattle.rkyv_btree_base.specs.Spells.{Accepted}
-use Rattle.rkyv_btree_base.specs.Writing.{Writing, position, Write, AllReach, Wrote, Stopped, appended, last_end}
-use Rattle.rkyv_btree_base.specs.Fault.{Fault}
-use Rattle.rkyv_btree_base.specs.Fault.TheVariants.{Length, LengthOverflow, PositionOverflow, OffsetOverflow, Writer, Memory, Entry, OutOfOrder}
-use Rattle.rkyv_btree_base.proofs.Accepting.{accepted_archive, archive_length}
-use Rattle.rkyv_btree_base.proofs.WriteRuns.{AllReach-both, appended-append, stopped_past, stopped_stray}
+use Rattle.rkyv_btree_writing_laws.specs.Image.{child_image, child_root, root_image}
+use Rattle.rkyv_btree_portable.specs.InPlace.{IsOwn, OwnBytes}
+use Rattle.rkyv_btree_format.specs.Layout.{are_fitting, inner_size, len_at, node_size, values_at, keys_at, align, node_align}
+use Rattle.rkyv_btree_portable.specs.Scalars.{u32_kind}
+use Rattle.rkyv_btree_portable.specs.laws.Natives.{u32_faithful}
+use Rattle.rkyv_btree_portable.specs.laws.Scalars.{u32_laws}
+use Rattle.rkyv_btree_portable.specs.Rounding.{round_up}
+use Rattle.rkyv_btree_writing_laws.specs.Serialising.{Built, Spelled, meaning_of, StoppedBuilding, BuildFault, RootFault}
+use Rattle.rkyv_btree_writer.specs.Archiving.{Archival, itself, plain_archival}
+use Rattle.rkyv_btree_shape.specs.Plan.{planned_alone}
+use Rattle.rkyv_btree_shape.specs.Tree.{Child, ChildHasShape}
+use Rattle.rkyv_btree_writing_laws.specs.Entries.{both_borrowed}
+use Rattle.rkyv_btree_writing_laws.specs.Written.{ChildStopped}
+use Rattle.rkyv_btree_writing_laws.proofs.Alike.{AreAlike, alike_both, alike_length, alike_reach, alike_same, child_alike, same_child_root}
+use Rattle.rkyv_btree_writing_laws.proofs.Imaged.{child_written, child_stopped}
+use Rattle.rkyv_btree_shape.proofs.Mapped.{alone_mapped}
+use Rattle.rkyv_btree_shape.specs.Mapped.{mapped_child}
+use Rattle.rkyv_btree_shape.proofs.Smallest.{plan_is_left_complete}
+use Rattle.rkyv_btree_format.specs.Spells.{Accepted}
+use Rattle.rkyv_btree_writer.specs.Writing.{Writing, position, Write, AllReach, Wrote, Stopped, appended, last_end}
+use Rattle.rkyv_btree_writer.specs.declared.fault.Fault.{Fault}
+use Rattle.rkyv_btree_writer.specs.declared.fault.Fault.TheVariants.{Length, LengthOverflow, PositionOverflow, OffsetOverflow, Writer, Memory, Entry, OutOfOrder}
+use Rattle.rkyv_btree_writing_laws.proofs.Accepting.{accepted_archive, archive_length}
+use Rattle.rkyv_btree_writer.proofs.WriteRuns.{AllReach-both, appended-append, stopped_past, stopped_stray}
 use Rattle.btreearc_commands.specs.Archive.{own_bytes, five, tree_writes, root_writes, archive_of, HasArchive, IsUnbuilt}
 use Rattle.btreearc_commands.specs.Opening.{IsArchive, root_of}
 

@@ -5,8 +5,8 @@ use Rattle.std.proofs.lemmas.List.{length-append}
 use Rattle.std.specs.Prelude.{Result}
 use Rattle.std.specs.Ordering.{nat_cmp}
 use Rattle.std.specs.declared.cmp.Ordering.TheVariants.{Less}
-use Rattle.rkyv_btree_base.specs.Increasing.{Increasing, IsOutOfOrder}
-use Rattle.rkyv_btree_base.proofs.Increasing.{nothing, alone, increasing_snoc}
+use Rattle.rkyv_btree_format.specs.Increasing.{Increasing, IsOutOfOrder}
+use Rattle.rkyv_btree_format.proofs.Increasing.{nothing, alone, increasing_snoc}
 use Rattle.btreearc_lines.specs.Grammar.{BadLine, IsEntry, IsLines}
 use Rattle.btreearc_lines.specs.Reading.{TakesLine}
 use Rattle.btreearc_lines.proofs.Splitting.{ReadLines, all_read, bad_read, one_read}

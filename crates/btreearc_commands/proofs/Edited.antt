@@ -6,13 +6,13 @@ use Rattle.std.specs.Ordering.{nat_cmp}
 use Rattle.std.specs.declared.cmp.Ordering.TheVariants.{Equal}
 use Rattle.std.proofs.lemmas.Bool.Decides.{nat_tests}
 use Rattle.std.proofs.lemmas.List.{get_or-map, length-map}
-use Rattle.rkyv_btree_base.specs.InPlace.{value_of}
-use Rattle.rkyv_btree_base.specs.Read.{entry_at}
-use Rattle.rkyv_btree_base.specs.Scalars.{u32_kind}
-use Rattle.rkyv_btree_base.specs.Spells.{Accepted}
-use Rattle.rkyv_btree_base.specs.laws.Natives.{u32_faithful}
-use Rattle.rkyv_btree_base.specs.laws.Scalars.{u32_laws}
-use Rattle.rkyv_btree_base.proofs.Readings.{map_is_read}
+use Rattle.rkyv_btree_portable.specs.InPlace.{value_of}
+use Rattle.rkyv_btree_format.specs.Read.{entry_at}
+use Rattle.rkyv_btree_portable.specs.Scalars.{u32_kind}
+use Rattle.rkyv_btree_format.specs.Spells.{Accepted}
+use Rattle.rkyv_btree_portable.specs.laws.Natives.{u32_faithful}
+use Rattle.rkyv_btree_portable.specs.laws.Scalars.{u32_laws}
+use Rattle.rkyv_btree_format.proofs.Readings.{map_is_read}
 use Rattle.rkyv_btree_seal.specs.Places.{FindsPlace, PutsEntry, SetsFound}
 use Rattle.rkyv_btree_seal.specs.Put.{put_bytes, put_value, WritesValues}
 use Rattle.rkyv_btree_walk.specs.Search.{AnyHit, OrderedBy}

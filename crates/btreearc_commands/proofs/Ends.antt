@@ -5,7 +5,7 @@ use Rattle.std.specs.Ordering.{nat_cmp}
 use Rattle.std.specs.Prelude.{nat_le}
 use Rattle.std.proofs.lemmas.Cmp.{nat_cmp_total}
 use Rattle.std.proofs.lemmas.List.{append-nil, get_or_default}
-use Rattle.rkyv_btree_base.specs.Refusal.{Refusal}
+use Rattle.rkyv_btree_portable.specs.declared.refusal.Refusal.{Refusal}
 use Rattle.rkyv_btree_view.specs.Query.{IsCut}
 use Rattle.rkyv_btree_walk.specs.Search.{AnyHit, IsHit, OrderedBy}
 use Rattle.rkyv_btree_view.specs.laws.Cuts.{order_cuts}

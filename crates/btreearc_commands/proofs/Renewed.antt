@@ -4,16 +4,16 @@ use Rattle.std.proofs.lemmas.List.{length-map}
 use Rattle.std.specs.Map.Iter.{TakesFirst, deref_pair}
 use Rattle.std.specs.Ordering.{nat_cmp}
 use Rattle.std.specs.Result.{result_map_both}
-use Rattle.rkyv_btree_base.specs.Archiving.{itself}
-use Rattle.rkyv_btree_base.specs.EntryFault.{EntryFault}
-use Rattle.rkyv_btree_base.specs.Entries.{now_of}
-use Rattle.rkyv_btree_base.specs.Fault.{Fault}
-use Rattle.rkyv_btree_base.specs.Fault.TheVariants.{Length, LengthOverflow, PositionOverflow, OffsetOverflow, Writer, Memory, Entry, OutOfOrder}
-use Rattle.rkyv_btree_base.specs.Scalars.{u32_kind}
-use Rattle.rkyv_btree_base.specs.Spells.{Accepted}
-use Rattle.rkyv_btree_base.specs.Writing.{Writing}
-use Rattle.rkyv_btree_base.proofs.Accepting.{archive_length}
-use Rattle.rkyv_btree_base.proofs.TreeSerialised.{entries_drained}
+use Rattle.rkyv_btree_writer.specs.Archiving.{itself}
+use Rattle.rkyv_btree_writer.specs.declared.fault.EntryFault.{EntryFault}
+use Rattle.rkyv_btree_writing_laws.specs.Entries.{now_of}
+use Rattle.rkyv_btree_writer.specs.declared.fault.Fault.{Fault}
+use Rattle.rkyv_btree_writer.specs.declared.fault.Fault.TheVariants.{Length, LengthOverflow, PositionOverflow, OffsetOverflow, Writer, Memory, Entry, OutOfOrder}
+use Rattle.rkyv_btree_portable.specs.Scalars.{u32_kind}
+use Rattle.rkyv_btree_format.specs.Spells.{Accepted}
+use Rattle.rkyv_btree_writer.specs.Writing.{Writing}
+use Rattle.rkyv_btree_writing_laws.proofs.Accepting.{archive_length}
+use Rattle.rkyv_btree_writing_laws.proofs.TreeSerialised.{entries_drained}
 use Rattle.rkyv_btree_convert.specs.Deserializing.{both, all}
 use Rattle.rkyv_btree_convert.specs.Maps.{last_wins, map_given, model_both}
 use Rattle.rkyv_btree_strict.specs.Migrated.{AreNative, Migrates, MigratesToStrict, IsUnmade, FailsToMigrate}

@@ -3,22 +3,22 @@ use Rattle.std.proofs.Common.{◌≡◌, ℕ, ◌+◌, ◌-◌, ◌*◌, ◌<◌
 use Rattle.std.proofs.lemmas.Bool.Decides.{nat_tests}
 use Rattle.std.proofs.lemmas.Grind.{div_ceil_times}
 use Rattle.std.proofs.lemmas.List.{length-append, length-map}
-use Rattle.rkyv_btree_base.specs.Image.{inner_write, inner_image, tree_image, row_image, child_image, tree_end, row_end, child_end, tree_root, child_root, row_roots, pointers_reach, root_bytes, root_reaches, leaf_bytes}
-use Rattle.rkyv_btree_base.specs.InPlace.{AreOwn, OwnBytes}
-use Rattle.rkyv_btree_base.specs.Layout.{align, inner_size, leaf_size, len_at, node_size, values_at, keys_at, node_align}
-use Rattle.rkyv_btree_base.specs.Mapped.{mapped, mapped_row, mapped_child}
-use Rattle.rkyv_btree_base.specs.Padding.{padding, zeros_write}
-use Rattle.rkyv_btree_base.specs.Plan.{plan, planned_alone}
-use Rattle.rkyv_btree_base.specs.Pointers.{offset_fits}
-use Rattle.rkyv_btree_base.specs.Rounding.{round_up}
-use Rattle.rkyv_btree_base.specs.Scalars.{u32_kind}
-use Rattle.rkyv_btree_base.specs.Tree.{Tree, leaf, inner, Row, last, step, Child, absent, child, row_entries, HasShape, RowHasShape, ChildHasShape, list, nodes, row_nodes, child_nodes}
-use Rattle.rkyv_btree_base.specs.Writing.{Write, AllReach, appended}
-use Rattle.rkyv_btree_base.specs.laws.Rounding.{le-round_up, round_up-lt}
-use Rattle.rkyv_btree_base.specs.laws.Scalars.{u32_laws}
-use Rattle.rkyv_btree_base.proofs.Mapped.{alone_mapped, entries_mapped}
-use Rattle.rkyv_btree_base.proofs.Smallest.{left_complete_is_smallest, plan_is_left_complete}
-use Rattle.rkyv_btree_base.proofs.WriteRuns.{AllReach-both, appended-append}
+use Rattle.rkyv_btree_writing_laws.specs.Image.{inner_write, inner_image, tree_image, row_image, child_image, tree_end, row_end, child_end, tree_root, child_root, row_roots, pointers_reach, root_bytes, root_reaches, leaf_bytes}
+use Rattle.rkyv_btree_portable.specs.InPlace.{AreOwn, OwnBytes}
+use Rattle.rkyv_btree_format.specs.Layout.{align, inner_size, leaf_size, len_at, node_size, values_at, keys_at, node_align}
+use Rattle.rkyv_btree_shape.specs.Mapped.{mapped, mapped_row, mapped_child}
+use Rattle.rkyv_btree_writer.specs.Padding.{padding, zeros_write}
+use Rattle.rkyv_btree_shape.specs.Plan.{plan, planned_alone}
+use Rattle.rkyv_btree_writer.specs.Pointers.{offset_fits}
+use Rattle.rkyv_btree_portable.specs.Rounding.{round_up}
+use Rattle.rkyv_btree_portable.specs.Scalars.{u32_kind}
+use Rattle.rkyv_btree_shape.specs.Tree.{Tree, leaf, inner, Row, last, step, Child, absent, child, row_entries, HasShape, RowHasShape, ChildHasShape, list, nodes, row_nodes, child_nodes}
+use Rattle.rkyv_btree_writer.specs.Writing.{Write, AllReach, appended}
+use Rattle.rkyv_btree_portable.specs.laws.Rounding.{le-round_up, round_up-lt}
+use Rattle.rkyv_btree_portable.specs.laws.Scalars.{u32_laws}
+use Rattle.rkyv_btree_shape.proofs.Mapped.{alone_mapped, entries_mapped}
+use Rattle.rkyv_btree_shape.proofs.Smallest.{left_complete_is_smallest, plan_is_left_complete}
+use Rattle.rkyv_btree_writer.proofs.WriteRuns.{AllReach-both, appended-append}
 use Rattle.rkyv_btree_writing_laws.proofs.Accepting.{root_length}
 use Rattle.rkyv_btree_writing_laws.proofs.Leaves.{leaf_bytes_length, length-padding}
 use Rattle.rkyv_btree_writing_laws.proofs.NodesHeld.{inner_length, length-roots}

@@ -3,10 +3,10 @@ use Rattle.std.proofs.Common.{◌≡◌, ℕ, List, length, Option, Some, Ok, Er
 use Rattle.std.specs.Ordering.{nat_cmp}
 use Rattle.std.specs.declared.alloc.AllocError.{AllocError}
 use Rattle.std.proofs.lemmas.List.{append_cancel_left}
-use Rattle.rkyv_btree_base.specs.Fault.{Fault}
-use Rattle.rkyv_btree_base.specs.Fault.TheVariants.{Length, LengthOverflow, PositionOverflow, OffsetOverflow, Writer, Memory as NoRoom, Entry, OutOfOrder}
-use Rattle.rkyv_btree_base.specs.Increasing.{Increasing, IsOutOfOrder}
-use Rattle.rkyv_btree_base.specs.Refusal.{Refusal}
+use Rattle.rkyv_btree_writer.specs.declared.fault.Fault.{Fault}
+use Rattle.rkyv_btree_writer.specs.declared.fault.Fault.TheVariants.{Length, LengthOverflow, PositionOverflow, OffsetOverflow, Writer, Memory as NoRoom, Entry, OutOfOrder}
+use Rattle.rkyv_btree_format.specs.Increasing.{Increasing, IsOutOfOrder}
+use Rattle.rkyv_btree_portable.specs.declared.refusal.Refusal.{Refusal}
 use Rattle.rkyv_btree_strict.specs.Strict.{no_map, out_of_order}
 use Rattle.btreearc_commands.specs.Archive.{archive_of, HasArchive, IsUnbuilt}
 use Rattle.btreearc_commands.specs.Commands.{ChecksStrict, Migrates, last_values, total}

@@ -2,15 +2,15 @@
 use Rattle.std.proofs.Common.{◌≡◌, ℕ, ◌≤◌, List, [], ◌∷◌, length, map, Option, sym, ap, subst, ◌∙◌, arith}
 use Rattle.std.proofs.lemmas.List.{length-map}
 use Rattle.std.specs.Iterator.{Drains}
-use Rattle.rkyv_btree_base.specs.Fault.{Fault}
-use Rattle.rkyv_btree_base.specs.Scalars.{u32_kind}
-use Rattle.rkyv_btree_base.specs.Fault.TheVariants.{Length, LengthOverflow, PositionOverflow, OffsetOverflow, Writer, Memory, Entry, OutOfOrder}
-use Rattle.rkyv_btree_base.specs.Serialising.{BuildFault, RootFault, Serialised}
-use Rattle.rkyv_btree_base.specs.Archiving.{itself}
-use Rattle.rkyv_btree_base.specs.TryBuilding.{TryFaulted}
-use Rattle.rkyv_btree_base.specs.Whole.{fresh}
-use Rattle.rkyv_btree_base.specs.Image.{root_image}
-use Rattle.rkyv_btree_base.specs.Writing.{Writing, position, Wrote, last_end}
+use Rattle.rkyv_btree_writer.specs.declared.fault.Fault.{Fault}
+use Rattle.rkyv_btree_portable.specs.Scalars.{u32_kind}
+use Rattle.rkyv_btree_writer.specs.declared.fault.Fault.TheVariants.{Length, LengthOverflow, PositionOverflow, OffsetOverflow, Writer, Memory, Entry, OutOfOrder}
+use Rattle.rkyv_btree_writing_laws.specs.Serialising.{BuildFault, RootFault, Serialised}
+use Rattle.rkyv_btree_writer.specs.Archiving.{itself}
+use Rattle.rkyv_btree_archive.specs.TryBuilding.{TryFaulted}
+use Rattle.rkyv_btree_writing_laws.specs.Whole.{fresh}
+use Rattle.rkyv_btree_writing_laws.specs.Image.{root_image}
+use Rattle.rkyv_btree_writer.specs.Writing.{Writing, position, Wrote, last_end}
 use Rattle.rkyv_btree_archive.specs.declared.try_build.TryFault.{TryFault}
 use Rattle.rkyv_btree_archive.specs.declared.try_build.TryFault.TheVariants.{Item, Build}
 use Rattle.btreearc_lines.specs.Grammar.{IsEntry}

@@ -2,15 +2,15 @@
 use Rattle.std.specs.Prelude.{◌≡◌, ℕ, ◌<◌, ◌≤◌, List, ◌++◌, length, map, unwrap_or}
 use Rattle.std.specs.Int.{w32, to_le_bytes}
 use Rattle.std.specs.Ordering.{nat_cmp}
-use Rattle.rkyv_btree_base.specs.Image.{child_image, child_root, root_image}
-use Rattle.rkyv_btree_base.specs.InPlace.{OwnBytes}
-use Rattle.rkyv_btree_base.specs.Layout.{NodeLayout, layout_of}
-use Rattle.rkyv_btree_base.specs.Scalars.{u32_kind}
-use Rattle.rkyv_btree_base.specs.Plan.{planned_alone}
-use Rattle.rkyv_btree_base.specs.Writing.{Write, appended, AllReach, last_end}
-use Rattle.rkyv_btree_base.specs.Fault.{Fault}
-use Rattle.rkyv_btree_base.specs.Fault.TheVariants.{Length, LengthOverflow, PositionOverflow, OffsetOverflow, Writer, Memory, Entry, OutOfOrder}
-use Rattle.rkyv_btree_base.specs.Increasing.{IsOutOfOrder}
+use Rattle.rkyv_btree_writing_laws.specs.Image.{child_image, child_root, root_image}
+use Rattle.rkyv_btree_portable.specs.InPlace.{OwnBytes}
+use Rattle.rkyv_btree_format.specs.Layout.{NodeLayout, layout_of}
+use Rattle.rkyv_btree_portable.specs.Scalars.{u32_kind}
+use Rattle.rkyv_btree_shape.specs.Plan.{planned_alone}
+use Rattle.rkyv_btree_writer.specs.Writing.{Write, appended, AllReach, last_end}
+use Rattle.rkyv_btree_writer.specs.declared.fault.Fault.{Fault}
+use Rattle.rkyv_btree_writer.specs.declared.fault.Fault.TheVariants.{Length, LengthOverflow, PositionOverflow, OffsetOverflow, Writer, Memory, Entry, OutOfOrder}
+use Rattle.rkyv_btree_format.specs.Increasing.{IsOutOfOrder}
 use Rattle.btreearc_commands.specs.Opening.{IsArchive}
 use Rattle.btreearc_lines.specs.declared.fault.ProgramFault.{ProgramFault}
 use Rattle.btreearc_lines.specs.declared.fault.ProgramFault.TheVariants.{NotBuilt}

@@ -3,7 +3,7 @@ use Rattle.std.specs.Prelude.{◌≡◌, ℕ, List, [], ◌∷◌, ◌++◌, ◌
 use Rattle.std.specs.Prelude.{IfSome, MatchOption, Result, Ok, Err, codes, decimal}
 use Rattle.std.specs.Io.KnownBytes.{Appends}
 use Rattle.std.specs.Ordering.{nat_cmp}
-use Rattle.rkyv_btree_base.specs.Increasing.{Increasing}
+use Rattle.rkyv_btree_format.specs.Increasing.{Increasing}
 use Rattle.rkyv_btree_walk.specs.Bounds.{IsRun}
 use Rattle.rkyv_btree_convert.specs.Maps.{last_wins}
 use Rattle.rkyv_btree_walk.specs.Search.{OrderedBy}

@@ -2,12 +2,12 @@
 use Rattle.std.specs.Prelude.{ℕ, ◌-◌, List, length, Option}
 use Rattle.std.specs.Option.{option_map}
 use Rattle.std.specs.Ordering.{nat_cmp}
-use Rattle.rkyv_btree_base.specs.Refusal.{Refusal}
-use Rattle.rkyv_btree_base.specs.Refusals.{RefusesMap}
-use Rattle.rkyv_btree_base.specs.Scalars.{u32_kind}
-use Rattle.rkyv_btree_base.specs.Read.{entry_at, map_tree, read_map}
-use Rattle.rkyv_btree_base.specs.Layout.{layout_of}
-use Rattle.rkyv_btree_base.specs.Spells.{Accepted}
+use Rattle.rkyv_btree_portable.specs.declared.refusal.Refusal.{Refusal}
+use Rattle.rkyv_btree_verify.specs.Refusals.{RefusesMap}
+use Rattle.rkyv_btree_portable.specs.Scalars.{u32_kind}
+use Rattle.rkyv_btree_format.specs.Read.{entry_at, map_tree, read_map}
+use Rattle.rkyv_btree_format.specs.Layout.{layout_of}
+use Rattle.rkyv_btree_format.specs.Spells.{Accepted}
 use Rattle.rkyv_btree_walk.specs.Search.{probe}
 use Rattle.rkyv_btree_strict.specs.Strict.{RefusesStrict}
 use Rattle.btreearc_lines.specs.declared.fault.ProgramFault.{ProgramFault}

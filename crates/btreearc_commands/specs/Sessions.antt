@@ -3,7 +3,7 @@ use Rattle.std.specs.Prelude.{◌≡◌, ℕ, List, ◌++◌, map, ◌==◌, if�
 use Rattle.std.specs.Io.KnownBytes.{Appends}
 use Rattle.std.specs.List.Sorted.{IsStrictlySortedBy}
 use Rattle.std.specs.Ordering.{nat_cmp}
-use Rattle.rkyv_btree_base.specs.Fault.TheVariants.{Writer, Memory as NoRoom}
+use Rattle.rkyv_btree_writer.specs.declared.fault.Fault.TheVariants.{Writer, Memory as NoRoom}
 use Rattle.btreearc_commands.specs.Commands.{Builds, Sets, BuildsStrict, Migrates}
 use Rattle.btreearc_lines.specs.Grammar.{IsLines}
 use Rattle.btreearc_lines.specs.declared.fault.ProgramFault.{ProgramFault}

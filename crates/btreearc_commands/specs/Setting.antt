@@ -3,7 +3,7 @@ use Rattle.std.specs.Prelude.{◌≡◌, ℕ, ◌+◌, ◌≤◌, ◌↔◌, Boo
 use Rattle.std.specs.Int.{w32, to_le_bytes}
 use Rattle.std.specs.Option.{IsSomeAnd}
 use Rattle.std.specs.Ordering.{nat_cmp}
-use Rattle.rkyv_btree_base.specs.Scalars.{u32_kind}
+use Rattle.rkyv_btree_portable.specs.Scalars.{u32_kind}
 use Rattle.rkyv_btree_seal.specs.Places.{IsNumber}
 use Rattle.rkyv_btree_seal.specs.Put.{put_bytes, put_value, value_place}
 use Rattle.rkyv_btree_walk.specs.Search.{OrderedBy}

@@ -1,7 +1,7 @@
 //! Archives of the entries of lines, in any order and in increasing order of their keys.
 ghost use Rattle.std.specs.Prelude.{◌≡◌, ℕ, List, length, true, Some, IfOk, OnOk, IfErr};
 ghost use Rattle.std.specs.Iterator.{at_most};
-ghost use Rattle.rkyv_btree_base.specs.Whole.{fresh};
+ghost use Rattle.rkyv_btree_writing_laws.specs.Whole.{fresh};
 ghost use Rattle.btreearc_lines.specs.Faults.{IsReadTry};
 ghost use Rattle.btreearc_lines.specs.Grammar.{IsLines};
 ghost use Rattle.btreearc_commands.specs.Archive.{HasArchive, IsArchived};
@@ -11,9 +11,10 @@ use crate::entries::count_lines;
 use crate::opening::Numbers;
 use btreearc_lines::entries::Entries;
 use btreearc_lines::fault::{ProgramFault, in_memory, program_fault};
-use rkyv_btree_base::io_writer::IoWriter;
-use rkyv_btree_base::place::{VecWriter, Writer};
-use rkyv_btree_base::try_build::TryFault;
+use rkyv_btree_archive::build_map::BuildMap;
+use rkyv_btree_archive::try_build::TryFault;
+use rkyv_btree_writer::io_writer::IoWriter;
+use rkyv_btree_writer::place::{VecWriter, Writer};
 use std::alloc::Global;
 use std::io;
 use std::io::BufRead;

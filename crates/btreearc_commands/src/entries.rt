@@ -6,7 +6,7 @@ ghost use Rattle.btreearc_commands.specs.Streaming.{AreCounted, FailsToTest, Kno
 
 use btreearc_lines::entries::{NextLine, next_line};
 use btreearc_lines::fault::ProgramFault;
-use rkyv_btree_base::fault::Fault;
+use rkyv_btree_writer::fault::Fault;
 use std::alloc::Global;
 use std::io::BufRead;
 

@@ -8,8 +8,8 @@ ghost use Rattle.btreearc_commands.specs.Sessions.{IsBuilt, IsBuiltStrict, IsMig
 use crate::opening::{one_list, refused_is_no_archive};
 use crate::program::run;
 use btreearc_lines::fault::ProgramFault;
-use rkyv_btree_base::numbers::ArchivedU32;
 use rkyv_btree_convert::native_map::last_values_count;
+use rkyv_btree_portable::numbers::ArchivedU32;
 use rkyv_btree_strict::strict_laws::neighbours_decide_order;
 use rkyv_btree_view::lookup::{increasing_keys_are_found, what_is_found_is_equal};
 use std::alloc::Global;

@@ -4,7 +4,7 @@ ghost use Rattle.std.specs.Iterator.{IsFinite};
 ghost use Rattle.rkyv_btree_view.specs.View.{view_entry};
 ghost use Rattle.btreearc_lines.specs.Grammar.{AppendsLines, text_of, line, AreShort, IsLines, IsSpelled};
 
-use rkyv_btree_base::numbers::ArchivedU32;
+use rkyv_btree_portable::numbers::ArchivedU32;
 use rkyv_btree_view::view::View;
 use std::alloc::AllocError;
 

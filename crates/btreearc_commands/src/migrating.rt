@@ -1,19 +1,19 @@
 //! Archives whose keys increase: their check, and how others become such archives.
 ghost use Rattle.std.specs.Prelude.{◌≡◌, ℕ, length, IfOk, OnOk, IfErr};
 ghost use Rattle.std.specs.Ordering.{nat_cmp};
-ghost use Rattle.rkyv_btree_base.specs.Increasing.{Increasing};
+ghost use Rattle.rkyv_btree_format.specs.Increasing.{Increasing};
 ghost use Rattle.btreearc_commands.specs.Archive.{archive_of, HasArchive, IsBuildFault};
 ghost use Rattle.btreearc_commands.specs.Commands.{last_values};
 ghost use Rattle.btreearc_commands.specs.Opening.{IsArchive, IsStrictOpenFault, entries_read};
 
 use crate::opening::{Numbers, open};
 use btreearc_lines::fault::ProgramFault;
-use rkyv_btree_base::numbers::ArchivedU32;
-use rkyv_btree_base::place::VecWriter;
 use rkyv_btree_convert::native_map::maps_are_given_by_entries;
+use rkyv_btree_portable::numbers::ArchivedU32;
 use rkyv_btree_strict::migrate::migrate;
 use rkyv_btree_strict::strict_map::StrictView;
 use rkyv_btree_view::view::View;
+use rkyv_btree_writer::place::VecWriter;
 use std::alloc::Global;
 
 /// How many entries an archive has whose keys increase.

@@ -1,13 +1,13 @@
 //! Opening archives that anybody wrote.
 ghost use Rattle.std.specs.Prelude.{◌≡◌, ℕ, List, IfOk, IfErr, IsOk, Err};
-ghost use Rattle.rkyv_btree_base.specs.Refusal.{Refusal};
+ghost use Rattle.rkyv_btree_portable.specs.declared.refusal.Refusal.{Refusal};
 ghost use Rattle.btreearc_commands.specs.Opening.{IsArchive, IsOpenFault, RefusesArchive, entries_read, root_of};
 
 use btreearc_lines::fault::ProgramFault;
-use rkyv_btree_base::laws::faults_are_exact;
-use rkyv_btree_base::map::ArchivedBTreeMap;
-use rkyv_btree_base::numbers::ArchivedU32;
-use rkyv_btree_base::refusal::Refusal;
+use rkyv_btree_portable::numbers::ArchivedU32;
+use rkyv_btree_portable::refusal::Refusal;
+use rkyv_btree_types::map::ArchivedBTreeMap;
+use rkyv_btree_verify::verify::faults_are_exact;
 use rkyv_btree_view::map_view::access;
 use rkyv_btree_view::view::View;
 

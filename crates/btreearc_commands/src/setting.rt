@@ -4,7 +4,7 @@ ghost use Rattle.btreearc_commands.specs.Opening.{IsArchive, root_of};
 ghost use Rattle.btreearc_commands.specs.Setting.{SetsValue};
 
 use crate::opening::Numbers;
-use rkyv_btree_base::numbers::ArchivedU32;
+use rkyv_btree_portable::numbers::ArchivedU32;
 use rkyv_btree_seal::edit_laws::writes_put_values;
 use rkyv_btree_seal::map_seal::MapSeal;
 

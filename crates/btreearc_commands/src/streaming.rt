@@ -1,6 +1,6 @@
 //! Archives of the lines of an input that is read more than once, written as they are built.
 ghost use Rattle.std.specs.Prelude.{◌≡◌, [], Some, None, IfOk, IfErr, OnOk, IfSome};
-ghost use Rattle.rkyv_btree_base.specs.StdWriters.{AreKnown, HoldsAll};
+ghost use Rattle.rkyv_btree_writer.specs.StdWriters.{AreKnown, HoldsAll};
 ghost use Rattle.btreearc_lines.specs.Faults.{IsWriteFault};
 ghost use Rattle.btreearc_commands.specs.Archive.{archive_of, HasArchive};
 ghost use Rattle.btreearc_commands.specs.Opening.{IsArchive};
@@ -10,7 +10,7 @@ use crate::build::{serialize_lines, test_count};
 use crate::entries::count_lines;
 use btreearc_lines::fault::ProgramFault;
 use btreearc_lines::reopen::Reopen;
-use rkyv_btree_base::io_writer::IoWriter;
+use rkyv_btree_writer::io_writer::IoWriter;
 use std::alloc::Global;
 use std::io::{BufRead, Write};
 

@@ -3,7 +3,7 @@ use Rattle.std.proofs.Common.{◌≡◌, ℕ, ◌+◌, List, [], ◌∷◌, ◌+
 use Rattle.std.specs.Iterator.{Yields, Drains}
 use Rattle.btreearc_lines.specs.Grammar.{AreEach, lines}
 use Rattle.btreearc_lines.specs.Reading.{GivesItem, TakesLine}
-use Rattle.rkyv_btree_base.specs.TryBuilding.{OkSteps}
+use Rattle.rkyv_btree_archive.specs.TryBuilding.{OkSteps}
 
 -- lines are these items in one way, since each is one item alone
 module _ {X : Type 0} (Is : List ℕ → X → Type 0) (once : (line : List ℕ) (x y : X) → Is line x → Is line y → x ≡ y) where

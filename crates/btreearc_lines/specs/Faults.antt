@@ -3,10 +3,10 @@ use Rattle.std.specs.Prelude.{ℕ, List, ◌++◌, codes, decimal, alloc_error}
 use Rattle.std.specs.declared.alloc.AllocError.{AllocError}
 use Rattle.rkyv_btree_archive.specs.declared.try_build.TryFault.{TryFault}
 use Rattle.rkyv_btree_archive.specs.declared.try_build.TryFault.TheVariants.{Item, Build}
-use Rattle.rkyv_btree_base.specs.Fault.{Fault}
-use Rattle.rkyv_btree_base.specs.Fault.TheVariants as building
-use Rattle.rkyv_btree_base.specs.FaultText.{fault_text}
-use Rattle.rkyv_btree_base.specs.RefusalText.{refusal_text}
+use Rattle.rkyv_btree_writer.specs.declared.fault.Fault.{Fault}
+use Rattle.rkyv_btree_writer.specs.declared.fault.Fault.TheVariants as building
+use Rattle.rkyv_btree_writer.specs.FaultText.{fault_text}
+use Rattle.rkyv_btree_portable.specs.RefusalText.{refusal_text}
 use Rattle.btreearc_lines.specs.declared.fault.ProgramFault.{ProgramFault}
 use Rattle.btreearc_lines.specs.declared.fault.ProgramFault.TheVariants.{Usage, Line, Refused, NotBuilt, InputFailed, OutputFailed, Memory}
 

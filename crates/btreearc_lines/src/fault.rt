@@ -2,9 +2,9 @@
 ghost use Rattle.std.specs.Prelude.{◌≡◌, Some};
 ghost use Rattle.btreearc_lines.specs.Faults.{in_memory, line_of, program_fault};
 
-use rkyv_btree_base::fault::Fault;
-use rkyv_btree_base::refusal::Refusal;
-use rkyv_btree_base::try_build::TryFault;
+use rkyv_btree_archive::try_build::TryFault;
+use rkyv_btree_portable::refusal::Refusal;
+use rkyv_btree_writer::fault::Fault;
 use std::alloc::AllocError;
 use std::error::Error;
 use std::fmt;

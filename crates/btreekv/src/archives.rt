@@ -2,138 +2,140 @@
 
 use crate::output::Output;
 use crate::progress::Progress;
-use crate::{say, words};
+use crate::system::{Ended, Names, System, bad_byte_of};
+use crate::words;
 use btreearc_lines::fault::ProgramFault;
 use btreearc_lines::streams::{read_all, write_all};
 use btreekv_commands::update_fault::UpdateFault;
 use btreekv_commands::{differences, merging, updating};
 use clap::ArgMatches;
-use std::fs::File;
-
-/// An error whose line is written.
-#[derive(Drop)]
-struct Reported;
-
-/// Writes the line of an error.
-fn report(rt: &HostRuntime, fault: &ProgramFault) -> Reported {
-    say(rt, fault);
-    Reported
-}
 
 /// Writes the line of an error of archives of these names.
-fn report_update(rt: &HostRuntime, fault: &UpdateFault, names: &[&str]) -> Reported {
-    let _ = match fault {
-        UpdateFault::Line(line) => eprintln!(rt; "btreekv: line {line}: not UTF-8"),
-        UpdateFault::OutOfOrder(line) => eprintln!(rt; "btreekv: line {line}: out of order"),
+fn fail(system: &System<'_>, archives: &[&str], fault: UpdateFault) -> Ended {
+    let nameless = Names::of_input(None);
+    match fault {
+        UpdateFault::Line(line) => system.fail(nameless, &ProgramFault::Line(line)),
+        UpdateFault::OutOfOrder(line) => system.out_of_order(None, line),
         UpdateFault::Archive(which, refusal) => {
-            let name = names.get(*which).copied().unwrap_or("");
-            eprintln!(rt; "btreekv: refused: {name}: {refusal}")
+            let name = archives.get(which).copied();
+            system.fail(Names::of_input(name), &ProgramFault::Refused(refusal))
         }
-        UpdateFault::NotBuilt(fault) => eprintln!(rt; "btreekv: not built: {fault}"),
-        UpdateFault::Memory => eprintln!(rt; "btreekv: out of memory"),
-    };
-    Reported
+        UpdateFault::NotBuilt(fault) => system.fail(nameless, &ProgramFault::NotBuilt(fault)),
+        UpdateFault::Memory => system.fail(nameless, &ProgramFault::Memory),
+    }
+}
+
+/// Writes the line of an error of an update by lines of this name.
+fn fail_update(
+    system: &System<'_>,
+    archive: &str,
+    name: Option<&str>,
+    changes: &[u8],
+    fault: UpdateFault,
+) -> Ended {
+    match fault {
+        UpdateFault::Line(line) => {
+            let byte = bad_byte_of(system.alloc(), &changes, line).unwrap_or(1);
+            system.not_utf8(name, line, byte)
+        }
+        UpdateFault::OutOfOrder(line) => system.out_of_order(name, line),
+        fault => fail(system, &[archive], fault),
+    }
 }
 
 /// Reads a file, or standard input.
-fn read(rt: &HostRuntime, path: Option<&str>) -> Result<Vec<u8>, Reported> {
-    let alloc = rt.alloc();
+fn read(system: &System<'_>, path: Option<&str>) -> Result<Vec<u8>, Ended> {
+    let alloc = system.alloc();
     let read = match path {
-        None => read_all(alloc, &mut Progress::new(rt, rt.stdin())),
-        Some(path) => match File::open(rt, path) {
-            Ok(file) => read_all(alloc, &mut Progress::new(rt, file)),
-            Err(_) => Err(ProgramFault::InputFailed),
-        },
-    };
-    match (read, path) {
-        (Ok(bytes), _) => Ok(bytes),
-        (Err(ProgramFault::InputFailed), Some(path)) => {
-            let _ = eprintln!(rt; "btreekv: input failed: {path}");
-            Err(Reported)
+        None => read_all(alloc, &mut Progress::new(system, system.rt.stdin())),
+        Some(path) => {
+            let file = system.open(path)?;
+            read_all(alloc, &mut Progress::new(system, file))
         }
-        (Err(fault), _) => Err(report(rt, &fault)),
+    };
+    match read {
+        Ok(bytes) => Ok(bytes),
+        Err(fault) => Err(system.fail(Names::of_input(path), &fault)),
     }
 }
 
 /// Writes bytes to a file, in place of an old one.
-fn write_file(rt: &HostRuntime, path: &str, bytes: &[u8]) -> Result<(), ProgramFault> {
-    let output = Output::open(rt, path)?;
+fn write_file(system: &System<'_>, path: &str, bytes: &[u8]) -> Result<(), ProgramFault> {
+    let output = Output::open(system, path)?;
     let written = match output.file() {
-        Ok(mut file) => write_all(&mut file, bytes),
+        Ok(file) => write_all(&mut system.writing(file), bytes),
         Err(fault) => Err(fault),
     };
-    output.finish(written)
+    match written {
+        Ok(()) => output.finish(),
+        Err(fault) => {
+            output.abandon();
+            Err(fault)
+        }
+    }
 }
 
 /// Writes bytes to a file or to standard output, and returns the exit status.
-fn write(rt: &HostRuntime, path: Option<&str>, bytes: &[u8]) -> Result<u8, Reported> {
-    let written = match path {
-        Some(path) => write_file(rt, path, bytes),
-        None => write_all(&mut rt.stdout(), bytes),
+fn write(system: &System<'_>, output: Option<&str>, bytes: &[u8]) -> Result<u8, Ended> {
+    let written = match output {
+        Some(path) => write_file(system, path, bytes),
+        None => write_all(&mut system.stdout(), bytes),
     };
     match written {
         Ok(()) => Ok(0),
-        Err(fault) => Err(report(rt, &fault)),
-    }
-}
-
-/// Writes the archive of an archive's entries after changes.
-fn updated(rt: &HostRuntime, matches: &ArgMatches<'_>) -> Result<u8, Reported> {
-    let name = matches.get_str("ARCHIVE").unwrap_or("");
-    let archive = read(rt, Some(name))?;
-    let changes = read(rt, matches.get_str("CHANGES"))?;
-    let sorts = matches.get_flag("sort");
-    match updating::update(rt.alloc(), sorts, &archive, &changes) {
-        Ok(bytes) => write(rt, words::output_of("update", matches), &bytes),
-        Err(fault) => Err(report_update(rt, &fault, &[name])),
-    }
-}
-
-/// Writes the archive of the entries of several archives.
-fn merged(rt: &HostRuntime, matches: &ArgMatches<'_>) -> Result<u8, Reported> {
-    let alloc = rt.alloc();
-    let first = matches.get_str("ARCHIVE").unwrap_or("");
-    let mut names = Vec::new(alloc);
-    let mut others = Vec::new(alloc);
-    let archive = read(rt, Some(first))?;
-    if names.push(first).is_err() {
-        return Err(report(rt, &ProgramFault::Memory));
-    }
-    for name in matches.get_strs("OTHERS").unwrap_or(&[]) {
-        let other = read(rt, Some(*name))?;
-        if others.push(other).is_err() || names.push(*name).is_err() {
-            return Err(report(rt, &ProgramFault::Memory));
-        }
-    }
-    match merging::merge(alloc, &archive, &others) {
-        Ok(bytes) => write(rt, words::output_of("merge", matches), &bytes),
-        Err(fault) => Err(report_update(rt, &fault, &names)),
-    }
-}
-
-/// Writes the lines of the changes that lead from one archive to another.
-fn compared(rt: &HostRuntime, matches: &ArgMatches<'_>) -> Result<u8, Reported> {
-    let old_name = matches.get_str("OLD").unwrap_or("");
-    let new_name = matches.get_str("NEW").unwrap_or("");
-    let old = read(rt, Some(old_name))?;
-    let new = read(rt, Some(new_name))?;
-    match differences::diff(rt.alloc(), &old, &new) {
-        Ok(text) => write(rt, None, text.as_bytes()),
-        Err(fault) => Err(report_update(rt, &fault, &[old_name, new_name])),
+        Err(fault) => Err(system.fail(
+            Names {
+                input: None,
+                output,
+            },
+            &fault,
+        )),
     }
 }
 
 /// Runs `update`, and returns the exit status.
-pub fn update(rt: &HostRuntime, matches: &ArgMatches<'_>) -> u8 {
-    updated(rt, matches).unwrap_or(2)
+pub fn update(system: &System<'_>, matches: &ArgMatches<'_>) -> Result<u8, Ended> {
+    let name = matches.get_str("ARCHIVE").unwrap_or("");
+    let changes_name = matches.get_str("CHANGES");
+    let archive = read(system, Some(name))?;
+    let changes = read(system, changes_name)?;
+    let sorts = matches.get_flag("sort");
+    match updating::update(system.alloc(), sorts, &archive, &changes) {
+        Ok(bytes) => write(system, words::output_of("update", matches), &bytes),
+        Err(fault) => { Err(fail_update(system, name, changes_name, &changes, fault)) }
+    }
 }
 
 /// Runs `merge`, and returns the exit status.
-pub fn merge(rt: &HostRuntime, matches: &ArgMatches<'_>) -> u8 {
-    merged(rt, matches).unwrap_or(2)
+pub fn merge(system: &System<'_>, matches: &ArgMatches<'_>) -> Result<u8, Ended> {
+    let alloc = system.alloc();
+    let first = matches.get_str("ARCHIVE").unwrap_or("");
+    let mut names = Vec::new(alloc);
+    let mut others = Vec::new(alloc);
+    let archive = read(system, Some(first))?;
+    if names.push(first).is_err() {
+        return Err(system.fail(Names::of_input(None), &ProgramFault::Memory));
+    }
+    for name in matches.get_strs("OTHERS").unwrap_or(&[]) {
+        let other = read(system, Some(*name))?;
+        if others.push(other).is_err() || names.push(*name).is_err() {
+            return Err(system.fail(Names::of_input(None), &ProgramFault::Memory));
+        }
+    }
+    match merging::merge(alloc, &archive, &others) {
+        Ok(bytes) => write(system, words::output_of("merge", matches), &bytes),
+        Err(fault) => { Err(fail(system, &names, fault)) }
+    }
 }
 
 /// Runs `diff`, and returns the exit status.
-pub fn diff(rt: &HostRuntime, matches: &ArgMatches<'_>) -> u8 {
-    compared(rt, matches).unwrap_or(2)
+pub fn diff(system: &System<'_>, matches: &ArgMatches<'_>) -> Result<u8, Ended> {
+    let old_name = matches.get_str("OLD").unwrap_or("");
+    let new_name = matches.get_str("NEW").unwrap_or("");
+    let old = read(system, Some(old_name))?;
+    let new = read(system, Some(new_name))?;
+    match differences::diff(system.alloc(), &old, &new) {
+        Ok(text) => write(system, None, text.as_bytes()),
+        Err(fault) => { Err(fail(system, &[old_name, new_name], fault)) }
+    }
 }

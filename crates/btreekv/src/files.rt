@@ -2,6 +2,7 @@
 ghost use Rattle.std.specs.Prelude.{None};
 
 use crate::progress::Progress;
+use crate::system::System;
 use btreearc_lines::fault::ProgramFault;
 use btreearc_lines::reopen::{Reopen, from_start};
 use btreearc_lines::spool::buffered;
@@ -11,32 +12,36 @@ use std::io::BufReader;
 
 /// A file that can seek. When it is read for the first time, lines are written on standard error, as `Progress` does.
 #[derive(Drop)]
-pub struct Lines<'a> {
-    rt: &'a HostRuntime,
+pub struct Lines<'s, 'a> {
+    system: &'s System<'a>,
     file: File,
     is_read: Cell<bool>,
 }
 
-impl<'a> Lines<'a> {
+impl<'s, 'a> Lines<'s, 'a> {
     /// Returns the input of all bytes of a file.
-    pub fn new(rt: &'a HostRuntime, file: File) -> Lines<'a> {
+    pub fn new(system: &'s System<'a>, file: File) -> Lines<'s, 'a> {
         let is_read = Cell::new(false);
-        Lines { rt, file, is_read }
+        Lines {
+            system,
+            file,
+            is_read,
+        }
     }
 }
 
-impl<'a> Reopen for Lines<'a> {
-    type Reader = BufReader<Progress<'a, File>>;
+impl<'s, 'a> Reopen for Lines<'s, 'a> {
+    type Reader = BufReader<Progress<'s, 'a, File>>;
 
     ghost bytes = { λ _. None };
 
-    fn reopen(&self) -> Result<BufReader<Progress<'a, File>>, ProgramFault> {
+    fn reopen(&self) -> Result<BufReader<Progress<'s, 'a, File>>, ProgramFault> {
         let file = from_start(&self.file)?;
         let file = if self.is_read.replace(true) {
-            Progress::silent(self.rt, file)
+            Progress::silent(self.system, file)
         } else {
-            Progress::new(self.rt, file)
+            Progress::new(self.system, file)
         };
-        buffered(self.rt.alloc(), file)
+        buffered(self.system.alloc(), file)
     }
 }

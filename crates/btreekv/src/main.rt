@@ -3,8 +3,10 @@
 
 mod archives;
 mod files;
+mod lookups;
 mod output;
 mod progress;
+mod system;
 mod words;
 
 use btreearc_lines::fault::ProgramFault;
@@ -21,141 +23,158 @@ use std::env;
 use std::fs::File;
 use std::io::{BufWriter, Read};
 use std::process::ExitCode;
+use system::{Ended, Names, System};
 
 /// The number of bytes that one write of an archive has.
 const WRITE_LEN: usize = 65536;
 
-/// Writes the line of an error.
-pub(crate) fn say(rt: &HostRuntime, fault: &ProgramFault) {
-    let _ = match fault {
-        ProgramFault::Usage => eprintln!(rt; "btreekv: arguments failed"),
-        ProgramFault::Line(line) => eprintln!(rt; "btreekv: line {line}: not KEY TAB VALUE"),
-        ProgramFault::Refused(refusal) => eprintln!(rt; "btreekv: refused: {refusal}"),
-        ProgramFault::NotBuilt(fault) => eprintln!(rt; "btreekv: not built: {fault}"),
-        ProgramFault::InputFailed => eprintln!(rt; "btreekv: input failed"),
-        ProgramFault::OutputFailed => eprintln!(rt; "btreekv: output failed"),
-        ProgramFault::Memory => eprintln!(rt; "btreekv: out of memory"),
-    };
-}
-
-/// Opens a file.
-fn open(rt: &HostRuntime, path: &str) -> Result<File, ProgramFault> {
-    match File::open(rt, path) {
-        Ok(file) => Ok(file),
-        Err(_) => Err(ProgramFault::InputFailed),
-    }
-}
-
 /// Runs a command over an input, and a file or standard output.
 fn run_over<R: Read>(
-    rt: &HostRuntime,
+    system: &System<'_>,
     command: &Command,
     input: &mut R,
     output: Option<File>,
 ) -> Result<u8, ProgramFault> {
     match output {
-        Some(mut file) => run(rt.alloc(), command, input, &mut file),
-        None => run(rt.alloc(), command, input, &mut rt.stdout()),
+        Some(file) => run(system.alloc(), command, input, &mut system.writing(file)),
+        None => run(system.alloc(), command, input, &mut system.stdout()),
     }
 }
 
-/// Writes the archive of the lines of an input that can be read again to a file or to standard output.
+/// Writes the archive of the lines of an input that can be read again, to a file or to standard output.
 fn build_lines<R: Reopen>(
-    rt: &HostRuntime,
-    is_strict: bool,
+    system: &System<'_>,
+    command: &Command,
     input: &R,
     output: Option<File>,
 ) -> Result<u8, ProgramFault> {
-    let alloc = rt.alloc();
+    let is_strict = match command {
+        Command::Build => false,
+        Command::BuildStrict => true,
+        _ => return run_over(system, command, &mut input.reopen()?, output),
+    };
+    let alloc = system.alloc();
     if let Some(file) = output {
-        let Ok(output) = BufWriter::with_capacity(alloc, WRITE_LEN, file) else {
+        let Ok(output) = BufWriter::with_capacity(alloc, WRITE_LEN, system.writing(file)) else {
             return Err(ProgramFault::Memory);
         };
         return streaming::build(alloc, is_strict, input, output).0;
     }
-    let Ok(output) = BufWriter::with_capacity(alloc, WRITE_LEN, rt.stdout()) else {
+    let Ok(output) = BufWriter::with_capacity(alloc, WRITE_LEN, system.stdout()) else {
         return Err(ProgramFault::Memory);
     };
     streaming::build(alloc, is_strict, input, output).0
 }
 
+/// Writes the archive of the lines of an input that can be read again. An error names the first line that is no entry.
+fn build_named<R: Reopen>(
+    system: &System<'_>,
+    command: &Command,
+    names: Names<'_>,
+    input: &R,
+    output: Option<File>,
+) -> Result<u8, Ended> {
+    match (build_lines(system, command, input, output), command) {
+        (Ok(status), Command::BuildFrom(_)) => Ok(status),
+        (Ok(status), _) => {
+            system.warn_of_returns(names.input, input);
+            Ok(status)
+        }
+        (Err(ProgramFault::Line(number)), Command::BuildFrom(_)) => {
+            Err(system.bad_record(names.input, number))
+        }
+        (Err(fault), _) => Err(system.fail_at(names, input, &fault)),
+    }
+}
+
 /// Writes the archive of the lines of an input that can't seek.
 fn build_bytes<R: Read + Drop>(
-    rt: &HostRuntime,
-    is_strict: bool,
+    system: &System<'_>,
+    command: &Command,
+    names: Names<'_>,
     input: R,
     output: Option<File>,
-) -> Result<u8, ProgramFault> {
-    match read_bytes(rt, Progress::new(rt, input))? {
-        Bytes::Held(bytes) => {
-            let command = if is_strict {
-                Command::BuildStrict
-            } else {
-                Command::Build
-            };
-            run_over(rt, &command, &mut bytes.as_slice(), output)
-        }
-        Bytes::Spooled(spooled) => build_lines(rt, is_strict, &spooled, output),
+) -> Result<u8, Ended> {
+    match read_bytes(system.rt, Progress::new(system, input)) {
+        Ok(Bytes::Held(bytes)) => { build_named(system, command, names, &bytes.as_slice(), output) }
+        Ok(Bytes::Spooled(spooled)) => build_named(system, command, names, &spooled, output),
+        Err(fault) => Err(system.fail(names, &fault)),
     }
 }
 
 /// Writes the archive of the lines of a file, or of standard input.
 fn build(
-    rt: &HostRuntime,
-    is_strict: bool,
-    path: Option<&str>,
+    system: &System<'_>,
+    command: &Command,
+    names: Names<'_>,
     output: Option<File>,
-) -> Result<u8, ProgramFault> {
-    let Some(path) = path else {
-        return build_bytes(rt, is_strict, rt.stdin(), output);
+) -> Result<u8, Ended> {
+    let Some(path) = names.input else {
+        return build_bytes(system, command, names, system.rt.stdin(), output);
     };
-    let file = open(rt, path)?;
+    let file = system.open(path)?;
     if from_start(&file).is_ok() {
-        build_lines(rt, is_strict, &Lines::new(rt, file), output)
+        build_named(system, command, names, &Lines::new(system, file), output)
     } else {
-        build_bytes(rt, is_strict, file, output)
+        build_bytes(system, command, names, file, output)
     }
 }
 
-/// Runs a command over a file or standard input, and a file or standard output.
-fn start(
-    rt: &HostRuntime,
-    command: &Command,
-    path: Option<&str>,
-    output: Option<File>,
-) -> Result<u8, ProgramFault> {
-    match command {
-        Command::Build => return build(rt, false, path, output),
-        Command::BuildStrict => return build(rt, true, path, output),
-        _ => {}
-    }
-    match path {
-        None => run_over(rt, command, &mut Progress::new(rt, rt.stdin()), output),
-        Some(path) => run_over(rt, command, &mut Progress::new(rt, open(rt, path)?), output),
-    }
-}
-
-/// Runs a command whose output takes the place of a file.
-fn start_into(
-    rt: &HostRuntime,
-    command: &Command,
-    path: Option<&str>,
-    output: &str,
-) -> Result<u8, ProgramFault> {
-    let output = Output::open(rt, output)?;
-    let done = match output.file() {
-        Ok(file) => start(rt, command, path, Some(file)),
-        Err(fault) => Err(fault),
+/// Runs a command over an archive, which is a file or standard input.
+fn read(system: &System<'_>, command: &Command, names: Names<'_>) -> Result<u8, Ended> {
+    let done = match names.input {
+        None => {
+            let mut input = Progress::new(system, system.rt.stdin());
+            run_over(system, command, &mut input, None)
+        }
+        Some(path) => {
+            let file = system.open(path)?;
+            run_over(system, command, &mut Progress::new(system, file), None)
+        }
     };
-    output.finish(done)
+    match done {
+        Ok(status) => Ok(status),
+        Err(fault) => Err(system.fail(names, &fault)),
+    }
+}
+
+/// Writes an archive of lines that takes the place of a file.
+fn build_into(
+    system: &System<'_>,
+    command: &Command,
+    names: Names<'_>,
+    path: &str,
+) -> Result<u8, Ended> {
+    let output = match Output::open(system, path) {
+        Ok(output) => output,
+        Err(fault) => return Err(system.fail(names, &fault)),
+    };
+    let file = match output.file() {
+        Ok(file) => file,
+        Err(fault) => {
+            output.abandon();
+            return Err(system.fail(names, &fault));
+        }
+    };
+    match build(system, command, names, Some(file)) {
+        Ok(_) => {}
+        Err(ended) => {
+            output.abandon();
+            return Err(ended);
+        }
+    }
+    match output.finish() {
+        Ok(()) => Ok(0),
+        Err(fault) => Err(system.fail(names, &fault)),
+    }
 }
 
 /// Returns the words of the command line.
-fn arguments(rt: &HostRuntime) -> Result<Vec<String>, ProgramFault> {
-    let Ok(args) = env::args(rt) else {
+fn arguments(system: &System<'_>) -> Result<Vec<String>, ProgramFault> {
+    let Ok(args) = env::args(system.rt) else {
         return Err(ProgramFault::Usage);
     };
-    let mut words = Vec::new(rt.alloc());
+    let mut words = Vec::new(system.alloc());
     for word in args {
         if words.push(word).is_err() {
             return Err(ProgramFault::Memory);
@@ -165,44 +184,49 @@ fn arguments(rt: &HostRuntime) -> Result<Vec<String>, ProgramFault> {
 }
 
 /// Does what the words of a command over one file say, and returns the exit status.
-fn one_file(rt: &HostRuntime, name: &str, matches: &ArgMatches<'_>) -> Result<u8, ProgramFault> {
-    let Ok(command) = words::command_of(rt.alloc(), name, matches) else {
-        return Err(ProgramFault::Memory);
+fn one_file(system: &System<'_>, name: &str, matches: &ArgMatches<'_>) -> Result<u8, Ended> {
+    let names = Names {
+        input: matches.get_str("FILE"),
+        output: words::output_of(name, matches),
     };
-    let path = matches.get_str("FILE");
-    match words::output_of(name, matches) {
-        Some(output) => start_into(rt, &command, path, output),
-        None => start(rt, &command, path, None),
+    let Ok(command) = words::command_of(system.alloc(), name, matches) else {
+        return Err(system.fail(names, &ProgramFault::Memory));
+    };
+    match names.output {
+        Some(output) => build_into(system, &command, names, output),
+        None if name == "build" => build(system, &command, names, None),
+        None => read(system, &command, names),
     }
 }
 
 /// Does what the words say, and returns the exit status.
-fn status(rt: &HostRuntime) -> Result<u8, ProgramFault> {
-    let words = arguments(rt)?;
-    let matches = match words::parse(rt.alloc(), words.as_slice()) {
+fn status(system: &System<'_>) -> Result<u8, Ended> {
+    let words = match arguments(system) {
+        Ok(words) => words,
+        Err(fault) => return Err(system.fail(Names::of_input(None), &fault)),
+    };
+    let matches = match words::parse(system.alloc(), words.as_slice()) {
         Ok(matches) => matches,
         Err(error) => {
-            let _ = error.print(rt);
+            let _ = error.print(system.rt);
             return Ok(if error.use_stderr() { 2 } else { 0 });
         }
     };
     let Some((name, matches)) = matches.subcommand() else {
-        return Err(ProgramFault::Usage);
+        return Err(system.fail(Names::of_input(None), &ProgramFault::Usage));
     };
     match name {
-        "update" => Ok(archives::update(rt, matches)),
-        "merge" => Ok(archives::merge(rt, matches)),
-        "diff" => Ok(archives::diff(rt, matches)),
-        _ => one_file(rt, name, matches),
+        "update" => archives::update(system, matches),
+        "merge" => archives::merge(system, matches),
+        "diff" => archives::diff(system, matches),
+        "get" => lookups::get(system, matches),
+        _ => one_file(system, name, matches),
     }
 }
 
 fn main(rt: HostRuntime) -> ExitCode {
-    match status(&rt) {
+    match status(&System::new(&rt)) {
         Ok(status) => ExitCode::from(status),
-        Err(fault) => {
-            say(&rt, &fault);
-            ExitCode::from(2)
-        }
+        Err(ended) => ExitCode::from(ended.status),
     }
 }

@@ -1,15 +1,16 @@
 //! Outputs that are files: a reader sees the old file or the new one.
 
+use crate::system::System;
 use btreearc_lines::fault::ProgramFault;
 use std::fs::{File, OpenOptions};
 use std::io::ErrorKind;
 use std::path::{Path, PathBuf};
-use std::{fs, process};
+use std::{fs, io, process};
 
 /// A file under a temporary name, in the folder of the file that it is to replace.
 #[derive(Drop)]
-pub struct NewFile<'a> {
-    rt: &'a HostRuntime,
+pub struct NewFile<'s, 'a> {
+    system: &'s System<'a>,
     file: File,
     temporary: PathBuf,
     path: PathBuf,
@@ -17,9 +18,9 @@ pub struct NewFile<'a> {
 
 /// Where an output goes.
 #[derive(Drop)]
-pub enum Output<'a> {
+pub enum Output<'s, 'a> {
     /// To a file that takes the place of an old one, if there is one.
-    Replaces(NewFile<'a>),
+    Replaces(NewFile<'s, 'a>),
     /// To what is no regular file, as a pipe or a device.
     Direct(File),
 }
@@ -36,7 +37,8 @@ fn real_path(rt: &HostRuntime, path: &str) -> Result<PathBuf, ProgramFault> {
 }
 
 /// Makes an empty file in the folder of another one. No file that is there has its name.
-fn beside(rt: &HostRuntime, path: &Path<'_>) -> Result<(File, PathBuf), ProgramFault> {
+fn beside(system: &System<'_>, path: &Path<'_>) -> Result<(File, PathBuf), ProgramFault> {
+    let rt = system.rt;
     let alloc = rt.alloc();
     let id = process::id(rt.process());
     for number in 0..1000u32 {
@@ -50,7 +52,7 @@ fn beside(rt: &HostRuntime, path: &Path<'_>) -> Result<(File, PathBuf), ProgramF
             Ok(file) => return Ok((file, temporary)),
             Err(error) => {
                 if error.kind() != ErrorKind::AlreadyExists {
-                    return Err(ProgramFault::OutputFailed);
+                    return Err(system.write_failed(&error));
                 }
             }
         }
@@ -58,52 +60,58 @@ fn beside(rt: &HostRuntime, path: &Path<'_>) -> Result<(File, PathBuf), ProgramF
     Err(ProgramFault::OutputFailed)
 }
 
-impl<'a> NewFile<'a> {
-    /// Removes the file, and returns an error.
-    fn remove(self, fault: ProgramFault) -> ProgramFault {
-        let _ = fs::remove_file(self.rt, &self.temporary);
-        fault
+impl<'s, 'a> NewFile<'s, 'a> {
+    /// Removes the file.
+    fn remove(self) {
+        let _ = fs::remove_file(self.system.rt, &self.temporary);
     }
 
-    /// Gives the file the name, in place of the old file.
+    /// Gives the file the name, if all of it is on the disk.
+    fn renamed(&self) -> io::Result<()> {
+        self.file.sync_all()?;
+        fs::rename(self.system.rt, &self.temporary, &self.path)
+    }
+
+    /// Gives the file the name, in place of the old file, or removes it.
     fn rename(self) -> Result<(), ProgramFault> {
-        if self.file.sync_all().is_err() {
-            return Err(self.remove(ProgramFault::OutputFailed));
-        }
-        match fs::rename(self.rt, &self.temporary, &self.path) {
-            Ok(()) => Ok(()),
-            Err(_) => Err(self.remove(ProgramFault::OutputFailed)),
-        }
+        let fault = match self.renamed() {
+            Ok(()) => return Ok(()),
+            Err(error) => self.system.write_failed(&error),
+        };
+        self.remove();
+        Err(fault)
     }
 }
 
-impl<'a> Output<'a> {
+impl<'s, 'a> Output<'s, 'a> {
     /// Opens the output of a path. A file that is there stays as it is until `finish`, and the new one has its mode.
     ///
     /// # Errors
     ///
     /// `OutputFailed` if no file can be made or written there, and `Memory` if an allocation fails.
-    pub fn open(rt: &'a HostRuntime, path: &str) -> Result<Output<'a>, ProgramFault> {
+    pub fn open(system: &'s System<'a>, path: &str) -> Result<Output<'s, 'a>, ProgramFault> {
+        let rt = system.rt;
         let path = real_path(rt, path)?;
         let old = fs::metadata(rt, &path);
         if let Ok(metadata) = &old {
             if !metadata.is_file() {
                 return match OpenOptions::new().write(true).open(rt, &path) {
                     Ok(file) => Ok(Output::Direct(file)),
-                    Err(_) => Err(ProgramFault::OutputFailed),
+                    Err(error) => Err(system.write_failed(&error)),
                 };
             }
         }
-        let (file, temporary) = beside(rt, &path.as_path())?;
+        let (file, temporary) = beside(system, &path.as_path())?;
         let new = NewFile {
-            rt,
+            system,
             file,
             temporary,
             path,
         };
         if let Ok(metadata) = old {
-            if new.file.set_permissions(metadata.permissions()).is_err() {
-                return Err(new.remove(ProgramFault::OutputFailed));
+            if let Err(error) = new.file.set_permissions(metadata.permissions()) {
+                new.remove();
+                return Err(system.write_failed(&error));
             }
         }
         Ok(Output::Replaces(new))
@@ -125,19 +133,22 @@ impl<'a> Output<'a> {
         }
     }
 
-    /// Puts the file in its place if all of it was written, and removes it otherwise.
+    /// Removes the file, and leaves the old one as it was.
+    pub fn abandon(self) {
+        if let Output::Replaces(new) = self {
+            new.remove();
+        }
+    }
+
+    /// Puts the file in its place.
     ///
     /// # Errors
     ///
-    /// The error of writing, or `OutputFailed` if the file can't be put there.
-    pub fn finish<T: Drop>(self, written: Result<T, ProgramFault>) -> Result<T, ProgramFault> {
-        match (self, written) {
-            (Output::Direct(_), written) => written,
-            (Output::Replaces(new), Err(fault)) => Err(new.remove(fault)),
-            (Output::Replaces(new), Ok(value)) => match new.rename() {
-                Ok(()) => Ok(value),
-                Err(fault) => Err(fault),
-            },
+    /// `OutputFailed` if it can't be put there. It is removed then.
+    pub fn finish(self) -> Result<(), ProgramFault> {
+        match self {
+            Output::Direct(_) => Ok(()),
+            Output::Replaces(new) => new.rename(),
         }
     }
 }

@@ -1,12 +1,13 @@
 //! A line on standard error that says how much was read.
 
+use crate::system::System;
 use std::io::{IsTerminal, Read, Result};
 use std::time::{Duration, Instant};
 
-/// A reader that writes once a second how many bytes were read, if standard error is a terminal.
+/// A reader that keeps why it failed. If standard error is a terminal, it writes there once a second how many bytes were read.
 #[derive(Drop)]
-pub struct Progress<'a, R> {
-    rt: &'a HostRuntime,
+pub struct Progress<'s, 'a, R> {
+    system: &'s System<'a>,
     input: R,
     /// When the last line was written, or reading began. Without it no line is written.
     last: Option<Instant>,
@@ -14,29 +15,35 @@ pub struct Progress<'a, R> {
     is_written: bool,
 }
 
-impl<'a, R> Progress<'a, R> {
+impl<'s, 'a, R> Progress<'s, 'a, R> {
     /// Returns a reader over a reader.
-    pub fn new(rt: &'a HostRuntime, input: R) -> Progress<'a, R> {
+    pub fn new(system: &'s System<'a>, input: R) -> Progress<'s, 'a, R> {
+        let rt = system.rt;
         let mut last = None;
         if rt.stderr().is_terminal() {
             if let Ok(now) = Instant::now(rt) {
                 last = Some(now);
             }
         }
-        let mut progress = Progress::silent(rt, input);
+        let mut progress = Progress::silent(system, input);
         progress.last = last;
         progress
     }
 
     /// Returns a reader over a reader that writes no lines.
-    pub fn silent(rt: &'a HostRuntime, input: R) -> Progress<'a, R> {
+    pub fn silent(system: &'s System<'a>, input: R) -> Progress<'s, 'a, R> {
         Progress {
-            rt,
+            system,
             input,
             last: None,
             bytes: 0,
             is_written: false,
         }
+    }
+
+    /// Returns how many bytes were read.
+    pub fn bytes_read(&self) -> u64 {
+        self.bytes
     }
 }
 
@@ -52,13 +59,19 @@ fn second_after(rt: &HostRuntime, last: Option<Instant>) -> Option<Instant> {
     Some(now)
 }
 
-impl<'a, R: Read> Read for Progress<'a, R> {
+impl<'s, 'a, R: Read> Read for Progress<'s, 'a, R> {
     ghost remaining = { λ progress. R.remaining progress.input };
 
     fn read(&mut self, buf: &mut [u8]) -> Result<usize> {
-        let count = self.input.read(buf)?;
+        let count = match self.input.read(buf) {
+            Ok(count) => count,
+            Err(error) => {
+                self.system.read_failed(&error);
+                return Err(error);
+            }
+        };
         self.bytes = self.bytes.saturating_add(count as u64);
-        let rt = self.rt;
+        let rt = self.system.rt;
         let bytes = self.bytes;
         if let Some(now) = second_after(rt, self.last) {
             let _ = eprint!(rt; "\rbtreekv: {bytes} bytes read");

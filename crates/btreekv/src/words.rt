@@ -1,8 +1,37 @@
 //! The words of the command line.
 
 use btreekv_commands::command;
+use btreekv_commands::forms::Form;
+use btreekv_commands::records::Records;
 use clap::{Arg, ArgAction, ArgMatches, Command, Error};
 use std::alloc::{AllocError, Global};
+
+/// Examples of the program.
+const EXAMPLES: &str = "Examples:
+  printf 'apple\\tred\\nfig\\tblue\\n' | btreekv build --strict -o fruits
+  btreekv get fig fruits
+  btreekv list fruits
+  printf 'fig\\tgreen\\napple\\n' | btreekv update --sort -o fruits fruits
+
+`btreekv help COMMAND` describes a command.";
+
+/// Examples of `build`.
+const BUILD_EXAMPLES: &str = "Examples:
+  btreekv build --strict -o fruits fruits.lines
+  sort -u words | sed 's/$/\\t1/' | btreekv build > words.archive
+  btreekv list --escape old | btreekv build --sort --escape -o new";
+
+/// Examples of `list`.
+const LIST_EXAMPLES: &str = "Examples:
+  btreekv list fruits | head
+  btreekv list --ndjson fruits | jq -r .value
+  btreekv list --null fruits | sort -z";
+
+/// Examples of `get`.
+const GET_EXAMPLES: &str = "Examples:
+  btreekv get fig fruits
+  btreekv get --json fig fruits
+  btreekv get --keys-from keys fruits";
 
 /// Returns a flag of a command.
 fn flag<'a>(alloc: Global, name: &'a str, help: &'a str) -> Arg<'a> {
@@ -44,6 +73,31 @@ fn required<'a>(alloc: Global, name: &'a str, help: &'a str) -> Arg<'a> {
         .action(ArgAction::Set)
 }
 
+/// Adds the flags of how entries are written.
+fn with_forms<'a>(alloc: Global, command: Command<'a>) -> Result<Command<'a>, AllocError> {
+    let escape = flag(
+        alloc,
+        "escape",
+        "write \\t, \\n and \\\\ for tabs, line feeds and backslashes",
+    );
+    let null = flag(
+        alloc,
+        "null",
+        "end each with a zero byte, in place of a line feed",
+    );
+    command.arg(escape.conflicts_with("null")?)?.arg(null)
+}
+
+/// Adds the flag of a JSON object for each entry.
+fn with_json_lines<'a>(alloc: Global, command: Command<'a>) -> Result<Command<'a>, AllocError> {
+    let lines = flag(
+        alloc,
+        "ndjson",
+        "write a JSON object a line, with key and value",
+    );
+    command.arg(lines.conflicts_with("escape")?.conflicts_with("null")?)
+}
+
 /// Returns the words of `build`.
 fn build<'a>(alloc: Global) -> Result<Command<'a>, AllocError> {
     let sort = flag(
@@ -51,10 +105,23 @@ fn build<'a>(alloc: Global) -> Result<Command<'a>, AllocError> {
         "sort",
         "sort by keys, in memory; of equal keys the last value counts",
     );
+    let escape = flag(
+        alloc,
+        "escape",
+        "read \\t, \\n and \\\\ as tabs, line feeds and backslashes; with --sort",
+    );
+    let null = flag(
+        alloc,
+        "null",
+        "a zero byte ends an entry, in place of a line feed; with --sort",
+    );
     Command::new(alloc, "build")
         .about("write the archive of lines KEY TAB VALUE")
+        .after_help(BUILD_EXAMPLES)
         .arg(sort.conflicts_with("strict")?)?
         .arg(flag(alloc, "strict", "fail unless the keys increase"))?
+        .arg(escape.requires_arg("sort")?.conflicts_with("null")?)?
+        .arg(null.requires_arg("sort")?)?
         .arg(output(alloc))?
         .arg(file(alloc))
 }
@@ -101,9 +168,16 @@ fn diff<'a>(alloc: Global) -> Result<Command<'a>, AllocError> {
 
 /// Returns the words of `list`.
 fn list<'a>(alloc: Global) -> Result<Command<'a>, AllocError> {
-    Command::new(alloc, "list")
+    let json = flag(alloc, "json", "write one JSON object");
+    let command = Command::new(alloc, "list")
         .about("write the lines of an archive")
-        .arg(flag(alloc, "json", "write a JSON object"))?
+        .after_help(LIST_EXAMPLES);
+    with_json_lines(alloc, with_forms(alloc, command)?)?
+        .arg(
+            json.conflicts_with("escape")?
+                .conflicts_with("null")?
+                .conflicts_with("ndjson")?,
+        )?
         .arg(file(alloc))
 }
 
@@ -131,17 +205,40 @@ fn explain<'a>(alloc: Global) -> Result<Command<'a>, AllocError> {
 
 /// Returns the words of `get`.
 fn get<'a>(alloc: Global) -> Result<Command<'a>, AllocError> {
-    Command::new(alloc, "get")
+    let keys = Arg::new(alloc, "keys-from")
+        .long("keys-from")
+        .value_name("KEYS")
+        .help(
+            "write KEY TAB VALUE of each key in this file, or - for standard input; FILE in place of KEY",
+        )
+        .action(ArgAction::Set);
+    let json = flag(alloc, "json", "write a JSON string");
+    let command = Command::new(alloc, "get")
         .about("write the value of a key")
-        .arg(flag(alloc, "json", "write a JSON string"))?
+        .after_help(GET_EXAMPLES);
+    with_forms(alloc, command)?
+        .arg(json.conflicts_with("escape")?.conflicts_with("null")?)?
+        .arg(flag(alloc, "validate", "validate all of FILE first"))?
+        .arg(flag(
+            alloc,
+            "stats",
+            "write to standard error how many bytes were read",
+        ))?
+        .arg(
+            keys.conflicts_with("json")?
+                .conflicts_with("escape")?
+                .conflicts_with("null")?,
+        )?
         .arg(word(alloc, "KEY"))?
-        .arg(file(alloc))
+        .arg(file(alloc).conflicts_with("keys-from")?)
 }
 
 /// Returns the words of `range`.
 fn range<'a>(alloc: Global) -> Result<Command<'a>, AllocError> {
-    Command::new(alloc, "range")
-        .about("write the lines of the keys from LOW to HIGH, both included")
+    let command = Command::new(alloc, "range").about(
+        "write the lines of the keys from LOW to HIGH, both included",
+    );
+    with_json_lines(alloc, with_forms(alloc, command)?)?
         .arg(word(alloc, "LOW"))?
         .arg(word(alloc, "HIGH"))?
         .arg(file(alloc))
@@ -149,8 +246,10 @@ fn range<'a>(alloc: Global) -> Result<Command<'a>, AllocError> {
 
 /// Returns the words of `prefix`.
 fn prefix<'a>(alloc: Global) -> Result<Command<'a>, AllocError> {
-    Command::new(alloc, "prefix")
-        .about("write the lines of the keys that begin with TEXT")
+    let command = Command::new(alloc, "prefix").about(
+        "write the lines of the keys that begin with TEXT",
+    );
+    with_json_lines(alloc, with_forms(alloc, command)?)?
         .arg(word(alloc, "TEXT"))?
         .arg(file(alloc))
 }
@@ -180,6 +279,8 @@ fn with_readers<'a>(alloc: Global, command: Command<'a>) -> Result<Command<'a>, 
 fn grammar<'a>(alloc: Global) -> Result<Command<'a>, AllocError> {
     let command = Command::new(alloc, "btreekv")
         .about("Builds, validates, queries and changes archived maps of texts")
+        .version("0.1.0")
+        .after_help(EXAMPLES)
         .subcommand_required(true);
     with_readers(alloc, with_makers(alloc, command)?)
 }
@@ -190,8 +291,36 @@ pub fn parse<'a>(alloc: Global, words: &'a [String]) -> Result<ArgMatches<'a>, E
 }
 
 /// Returns a word as a text of its own.
-fn owned(alloc: Global, matches: &ArgMatches<'_>, name: &str) -> Result<String, AllocError> {
+pub fn owned(alloc: Global, matches: &ArgMatches<'_>, name: &str) -> Result<String, AllocError> {
     String::from_str(alloc, matches.get_str(name).unwrap_or(""))
+}
+
+/// Returns how a command writes entries and values.
+pub fn form_of(matches: &ArgMatches<'_>) -> Form {
+    if matches.get_flag("escape") {
+        Form::Escaped
+    } else if matches.get_flag("null") {
+        Form::Null
+    } else if matches.get_flag("json") || matches.get_flag("ndjson") {
+        Form::Json
+    } else {
+        Form::Plain
+    }
+}
+
+/// Returns the command of the words of `build`.
+fn build_command(matches: &ArgMatches<'_>) -> command::Command {
+    if matches.get_flag("strict") {
+        command::Command::BuildStrict
+    } else if matches.get_flag("escape") {
+        command::Command::BuildFrom(Records::Escaped)
+    } else if matches.get_flag("null") {
+        command::Command::BuildFrom(Records::Null)
+    } else if matches.get_flag("sort") {
+        command::Command::BuildSorted
+    } else {
+        command::Command::Build
+    }
 }
 
 /// Returns the command of the matches of a subcommand.
@@ -200,16 +329,9 @@ pub fn command_of(
     name: &str,
     matches: &ArgMatches<'_>,
 ) -> Result<command::Command, AllocError> {
+    let form = form_of(matches);
     match name {
-        "build" => {
-            if matches.get_flag("strict") {
-                return Ok(command::Command::BuildStrict);
-            }
-            if matches.get_flag("sort") {
-                return Ok(command::Command::BuildSorted);
-            }
-            Ok(command::Command::Build)
-        }
+        "build" => Ok(build_command(matches)),
         "check" => {
             if matches.get_flag("strict") {
                 return Ok(command::Command::CheckStrict);
@@ -220,24 +342,19 @@ pub fn command_of(
         "explain" => Ok(command::Command::Explain),
         "get" => {
             let key = owned(alloc, matches, "KEY")?;
-            if matches.get_flag("json") {
-                return Ok(command::Command::GetJson(key));
-            }
-            Ok(command::Command::Get(key))
+            Ok(command::Command::Get(key, form))
         }
         "range" => {
             let low = owned(alloc, matches, "LOW")?;
             let high = owned(alloc, matches, "HIGH")?;
-            Ok(command::Command::Range(low, high))
+            Ok(command::Command::Range(low, high, form))
         }
-        "prefix" => Ok(command::Command::Prefix(owned(alloc, matches, "TEXT")?)),
-        "list" => {
-            if matches.get_flag("json") {
-                return Ok(command::Command::ListJson);
-            }
-            Ok(command::Command::List)
+        "prefix" => {
+            let text = owned(alloc, matches, "TEXT")?;
+            Ok(command::Command::Prefix(text, form))
         }
-        _ => Ok(command::Command::List),
+        "list" if matches.get_flag("json") => Ok(command::Command::ListJson),
+        _ => Ok(command::Command::List(form)),
     }
 }
 

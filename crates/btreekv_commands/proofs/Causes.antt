@@ -3,11 +3,11 @@ use Rattle.std.proofs.Common.{◌≡◌, ℕ, List, [], length, Bool, true, fals
 use Rattle.std.specs.Prelude.{Result}
 use Rattle.std.specs.declared.alloc.AllocError.{AllocError}
 use Rattle.std.specs.Io.KnownBytes.{Keeps, Appends}
-use Rattle.rkyv_btree_base.specs.Archiving.{Archival, IsUnserialised, StopsIn}
-use Rattle.rkyv_btree_base.specs.Fault.{Fault}
-use Rattle.rkyv_btree_base.specs.Fault.TheVariants.{Length, LengthOverflow, PositionOverflow, OffsetOverflow, Writer, Memory, Entry as EntryRefused, OutOfOrder}
-use Rattle.rkyv_btree_base.specs.Whole.{IsUnplaced, fresh}
-use Rattle.rkyv_btree_base.specs.Writing.{Writing}
+use Rattle.rkyv_btree_writer.specs.Archiving.{Archival, IsUnserialised, StopsIn}
+use Rattle.rkyv_btree_writer.specs.declared.fault.Fault.{Fault}
+use Rattle.rkyv_btree_writer.specs.declared.fault.Fault.TheVariants.{Length, LengthOverflow, PositionOverflow, OffsetOverflow, Writer, Memory, Entry as EntryRefused, OutOfOrder}
+use Rattle.rkyv_btree_writing_laws.specs.Whole.{IsUnplaced, fresh}
+use Rattle.rkyv_btree_writer.specs.Writing.{Writing}
 use Rattle.rkyv_btree_archive.specs.declared.try_build.TryFault.{TryFault}
 use Rattle.rkyv_btree_archive.specs.declared.try_build.TryFault.TheVariants.{Item, Build}
 use Rattle.btreearc_lines.specs.declared.fault.ProgramFault.{ProgramFault}

@@ -8,6 +8,6 @@ pub found_none : (written : List ℕ → List ℕ) (o : Option Entry) (text : Li
 found_none written None text found none = (none, refl)
 found_none written (Some e) text found none = absurd (cc found)
 
-pub found_some : (written : List ℕ → List ℕ) (o : Option Entry) (value text : List ℕ) → Some value ≡ option_map (λ (e : Entry). e.1) o → text ≡ written value ++ 10 ∷ [] → FoundValue written o text 0
+pub found_some : (written : List ℕ → List ℕ) (o : Option Entry) (value text : List ℕ) → Some value ≡ option_map (λ (e : Entry). e.1) o → text ≡ written value → FoundValue written o text 0
 found_some written None value text found is = absurd (cc found)
-found_some written (Some e) value text found is = let same : value ≡ e.1 = cc found in (is ∙ ap (λ (v : List ℕ). written v ++ 10 ∷ []) same, refl)
+found_some written (Some e) value text found is = let same : value ≡ e.1 = cc found in (is ∙ ap written same, refl)

@@ -2,12 +2,15 @@ pub mod Causes
 pub mod ChangeLines
 pub mod ChangesListed
 pub mod Counting
+pub mod Escaped
 pub mod Fits
 pub mod Found
 pub mod JsonTexts
 pub mod Listed
+pub mod LookedUp
 pub mod Merges
 pub mod Ordering
+pub mod Recorded
 pub mod RoundTrip
 pub mod Sorted
 pub mod SortedChanges

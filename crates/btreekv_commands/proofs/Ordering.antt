@@ -4,8 +4,8 @@ use Rattle.std.proofs.lemmas.List.{length-append}
 use Rattle.std.specs.Cmp.Lexicographic.{slice_cmp, nat_list_cmp_total}
 use Rattle.std.specs.Ordering.{nat_cmp}
 use Rattle.std.specs.declared.cmp.Ordering.TheVariants.{Less}
-use Rattle.rkyv_btree_base.specs.Increasing.{IsOutOfOrder}
-use Rattle.rkyv_btree_base.proofs.Increasing.{nothing, alone, increasing_snoc}
+use Rattle.rkyv_btree_format.specs.Increasing.{IsOutOfOrder}
+use Rattle.rkyv_btree_format.proofs.Increasing.{nothing, alone, increasing_snoc}
 use Rattle.btreekv_commands.specs.Lines.{Entry, AreLines}
 use Rattle.btreekv_commands.specs.Opening.{KeysIncrease}
 use Rattle.btreekv_commands.proofs.Taken.{Left, Steps, one_taken}

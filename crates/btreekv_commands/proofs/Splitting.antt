@@ -9,7 +9,7 @@ use Rattle.btreekv_commands.specs.Lines.{Entry, Lacks, IsEntry, AreEntries, AreL
 
 -- A byte that isn't among some.
 
-lacks_rest : (b x : ℕ) (xs : List ℕ) → Lacks b (x ∷ xs) → Lacks b xs
+pub lacks_rest : (b x : ℕ) (xs : List ℕ) → Lacks b (x ∷ xs) → Lacks b xs
 lacks_rest b x xs h k inside = h (suc k) (omega arith)
 
 middle : (xs : List ℕ) (y : ℕ) (ys : List ℕ) → slice_index (xs ++ y ∷ ys) (length xs) ≡ y
@@ -23,7 +23,7 @@ inside (x ∷ xs) y ys = let rest = inside xs y ys in omega arith
 pub no_split : (b : ℕ) (bytes xs ys : List ℕ) → Lacks b bytes → bytes ≡ xs ++ b ∷ ys → ⊥
 no_split b bytes xs ys lacks is = subst (Lacks b) is lacks (length xs) (inside xs b ys) (middle xs b ys)
 
-one_split : (b : ℕ) (xs ys us vs : List ℕ) → Lacks b xs → Lacks b us → xs ++ b ∷ ys ≡ us ++ b ∷ vs → (xs ≡ us) × (ys ≡ vs)
+pub one_split : (b : ℕ) (xs ys us vs : List ℕ) → Lacks b xs → Lacks b us → xs ++ b ∷ ys ≡ us ++ b ∷ vs → (xs ≡ us) × (ys ≡ vs)
 one_split b [] ys [] vs p q e = (refl, cc)
 one_split b [] ys (u ∷ us) vs p q e = let same : u ≡ b = cc in absurd (q 0 (omega arith) same)
 one_split b (x ∷ xs) ys [] vs p q e = let same : x ≡ b = cc in absurd (p 0 (omega arith) same)

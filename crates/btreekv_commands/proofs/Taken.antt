@@ -2,8 +2,8 @@
 use Rattle.std.proofs.Common.{◌≡◌, ℕ, ◌+◌, List, [], ◌∷◌, ◌++◌, length, map, Option, Some, None, IfSome, refl, sym, ap, subst, ◌∙◌, arith}
 use Rattle.std.specs.Iterator.{Yields, Drains}
 use Rattle.btreearc_lines.specs.Grammar.{lines}
-use Rattle.rkyv_btree_base.specs.TryBuilding.{OkSteps}
-use Rattle.rkyv_btree_base.specs.Entries.{both_borrowed}
+use Rattle.rkyv_btree_archive.specs.TryBuilding.{OkSteps}
+use Rattle.rkyv_btree_writing_laws.specs.Entries.{both_borrowed}
 use Rattle.btreekv_commands.specs.Lines.{Entry, IsEntry, AreEntries, AreLines}
 use Rattle.btreekv_commands.specs.Reading.{GivesEntry, TakesEntry}
 use Rattle.btreekv_commands.proofs.Splitting.{entry_parts}

@@ -1,11 +1,11 @@
 -- Texts whose write is refused.
 use Rattle.std.proofs.Common.{◌≡◌, ◌<◌, true, List, ℕ, [], refl}
-use Rattle.rkyv_btree_base.specs.Archiving.{IsUnserialised}
-use Rattle.rkyv_btree_base.specs.Fault.{Fault}
-use Rattle.rkyv_btree_base.specs.Fault.TheVariants.{Length, LengthOverflow, PositionOverflow, OffsetOverflow, Writer, Memory, Entry, OutOfOrder}
-use Rattle.rkyv_btree_base.specs.TextArchival.{text_writes, text_archival}
-use Rattle.rkyv_btree_base.specs.Writing.{Writing, Refused, position, last_end}
-use Rattle.rkyv_btree_base.proofs.WriteRuns.{stopped-one}
+use Rattle.rkyv_btree_writer.specs.Archiving.{IsUnserialised}
+use Rattle.rkyv_btree_writer.specs.declared.fault.Fault.{Fault}
+use Rattle.rkyv_btree_writer.specs.declared.fault.Fault.TheVariants.{Length, LengthOverflow, PositionOverflow, OffsetOverflow, Writer, Memory, Entry, OutOfOrder}
+use Rattle.rkyv_btree_writer.specs.TextArchival.{text_writes, text_archival}
+use Rattle.rkyv_btree_writer.specs.Writing.{Writing, Refused, position, last_end}
+use Rattle.rkyv_btree_writer.proofs.WriteRuns.{stopped-one}
 
 -- a text's one write is refused
 pub text_refused : {E : Type 0} (text : List ℕ) (s t : Writing) (fault : Fault E) → (text ≡ [] → last_end < position s) → Refused fault s (record { bytes = text; reaches = true }) t → IsUnserialised (text_archival (λ bytes. bytes)) text s fault t

@@ -7,35 +7,35 @@ use Rattle.std.specs.Iterator.{Yields, Drains}
 use Rattle.std.specs.Prelude.{String, ◌-◌, replicate, Result}
 use Rattle.std.specs.declared.alloc.AllocError.{AllocError}
 use Rattle.std.specs.declared.alloc.Global.{Global}
-use Rattle.rkyv_btree_base.specs.Archiving.{Archival, IsArchived, IsUnserialised, Serialises, itself}
-use Rattle.rkyv_btree_base.specs.Causes.{HasCauses}
-use Rattle.rkyv_btree_base.specs.Entries.{both_borrowed}
-use Rattle.rkyv_btree_base.specs.Fault.{Fault}
-use Rattle.rkyv_btree_base.specs.Fault.TheVariants.{Length, LengthOverflow, PositionOverflow, OffsetOverflow, Writer, Memory, Entry, OutOfOrder}
-use Rattle.rkyv_btree_base.specs.Fields.{FirstUnfit, a_pointer}
-use Rattle.rkyv_btree_base.specs.Image.{root_bytes, root_image, root_reaches}
-use Rattle.rkyv_btree_base.specs.Miscounts.{IsMiscount}
-use Rattle.rkyv_btree_base.specs.Padding.{padding, zeros_write}
-use Rattle.rkyv_btree_base.specs.Pointers.{FitsOffset, offset_fits, pointer, no_pointer}
+use Rattle.rkyv_btree_writer.specs.Archiving.{Archival, IsArchived, IsUnserialised, Serialises, itself}
+use Rattle.rkyv_btree_writer.specs.Causes.{HasCauses}
+use Rattle.rkyv_btree_writing_laws.specs.Entries.{both_borrowed}
+use Rattle.rkyv_btree_writer.specs.declared.fault.Fault.{Fault}
+use Rattle.rkyv_btree_writer.specs.declared.fault.Fault.TheVariants.{Length, LengthOverflow, PositionOverflow, OffsetOverflow, Writer, Memory, Entry, OutOfOrder}
+use Rattle.rkyv_btree_writer.specs.Fields.{FirstUnfit, a_pointer}
+use Rattle.rkyv_btree_writing_laws.specs.Image.{root_bytes, root_image, root_reaches}
+use Rattle.rkyv_btree_writing_laws.specs.Miscounts.{IsMiscount}
+use Rattle.rkyv_btree_writer.specs.Padding.{padding, zeros_write}
+use Rattle.rkyv_btree_writer.specs.Pointers.{FitsOffset, offset_fits, pointer, no_pointer}
 use Rattle.std.specs.Int.{w32, to_le_bytes}
-use Rattle.rkyv_btree_base.specs.ResolveFault.TheVariants as resolving
-use Rattle.rkyv_btree_base.specs.Rounding.{round_up}
-use Rattle.rkyv_btree_base.specs.Serialising.{BuildFault, RootFault, Serialised}
-use Rattle.rkyv_btree_base.specs.Text.{text_kind}
-use Rattle.rkyv_btree_base.specs.TextArchival.{text_archival}
-use Rattle.rkyv_btree_base.specs.TreeArchival.{tree_archival}
-use Rattle.rkyv_btree_base.specs.Whole.{IsUnplaced, IsUnarchived, fresh}
-use Rattle.rkyv_btree_base.specs.Writing.{Writing, Write, AllReach, appended, last_end, position}
-use Rattle.rkyv_btree_base.specs.laws.Rounding.{le-round_up}
-use Rattle.rkyv_btree_base.specs.laws.TextLaws.{text_laws}
-use Rattle.rkyv_btree_base.proofs.TreeSerialised.{list_serialised, list_unserialised}
-use Rattle.rkyv_btree_base.proofs.WriteRuns.{AllReach-both, appended-append, stopped_past, stopped_stray}
+use Rattle.rkyv_btree_writer.specs.declared.fault.ResolveFault.TheVariants as resolving
+use Rattle.rkyv_btree_portable.specs.Rounding.{round_up}
+use Rattle.rkyv_btree_writing_laws.specs.Serialising.{BuildFault, RootFault, Serialised}
+use Rattle.rkyv_btree_portable.specs.Text.{text_kind}
+use Rattle.rkyv_btree_writer.specs.TextArchival.{text_archival}
+use Rattle.rkyv_btree_writing_laws.specs.TreeArchival.{tree_archival}
+use Rattle.rkyv_btree_writing_laws.specs.Whole.{IsUnplaced, IsUnarchived, fresh}
+use Rattle.rkyv_btree_writer.specs.Writing.{Writing, Write, AllReach, appended, last_end, position}
+use Rattle.rkyv_btree_portable.specs.laws.Rounding.{le-round_up}
+use Rattle.rkyv_btree_portable.specs.laws.TextLaws.{text_laws}
+use Rattle.rkyv_btree_writing_laws.proofs.TreeSerialised.{list_serialised, list_unserialised}
+use Rattle.rkyv_btree_writer.proofs.WriteRuns.{AllReach-both, appended-append, stopped_past, stopped_stray}
 use Rattle.btreekv_commands.specs.Building.{Native, entries_archival, IsTried, IsUnbuilt}
 use Rattle.btreekv_commands.specs.Lines.{Entry as TextEntry}
 use Rattle.btreekv_commands.specs.Opening.{texts}
 use Rattle.btreekv_commands.specs.Reading.{GivesEntry}
 use Rattle.btreekv_commands.proofs.Taken.{Left, all_taken, drained}
-use Rattle.rkyv_btree_base.specs.TryBuilding.{OkSteps, TryFaulted, IsItemOrMiscount}
+use Rattle.rkyv_btree_archive.specs.TryBuilding.{OkSteps, TryFaulted, IsItemOrMiscount}
 use Rattle.rkyv_btree_archive.specs.declared.try_build.TryFault.{TryFault}
 use Rattle.rkyv_btree_archive.specs.declared.try_build.TryFault.TheVariants.{Item, Build}
 use Rattle.btreearc_lines.specs.declared.fault.ProgramFault.{ProgramFault}

@@ -8,16 +8,16 @@ use Rattle.std.specs.Cmp.Lexicographic.{slice_cmp, nat_list_cmp_total}
 use Rattle.std.specs.Ordering.{nat_cmp}
 use Rattle.std.specs.declared.alloc.AllocError.{AllocError}
 use Rattle.std.specs.declared.cmp.Ordering.{Ordering}
-use Rattle.rkyv_btree_base.specs.Archiving.{itself}
-use Rattle.rkyv_btree_base.specs.Fault.{Fault}
-use Rattle.rkyv_btree_base.specs.Fault.TheVariants as building
-use Rattle.rkyv_btree_base.specs.Increasing.{Increasing, IsOutOfOrder}
-use Rattle.rkyv_btree_base.specs.Spells.{Accepted}
-use Rattle.rkyv_btree_base.specs.Text.{text_kind}
-use Rattle.rkyv_btree_base.specs.Whole.{fresh}
-use Rattle.rkyv_btree_base.specs.Writing.{Writing, position}
-use Rattle.rkyv_btree_base.specs.laws.TextLaws.{text_laws}
-use Rattle.rkyv_btree_base.proofs.MapLaws.{map_laws}
+use Rattle.rkyv_btree_writer.specs.Archiving.{itself}
+use Rattle.rkyv_btree_writer.specs.declared.fault.Fault.{Fault}
+use Rattle.rkyv_btree_writer.specs.declared.fault.Fault.TheVariants as building
+use Rattle.rkyv_btree_format.specs.Increasing.{Increasing, IsOutOfOrder}
+use Rattle.rkyv_btree_format.specs.Spells.{Accepted}
+use Rattle.rkyv_btree_portable.specs.Text.{text_kind}
+use Rattle.rkyv_btree_writing_laws.specs.Whole.{fresh}
+use Rattle.rkyv_btree_writer.specs.Writing.{Writing, position}
+use Rattle.rkyv_btree_portable.specs.laws.TextLaws.{text_laws}
+use Rattle.rkyv_btree_verify.proofs.MapLaws.{map_laws}
 use Rattle.rkyv_btree_convert.proofs.LastWins.{counts_last}
 use Rattle.rkyv_btree_convert.proofs.StdMaps.{ascending_meant}
 use Rattle.rkyv_btree_strict.proofs.Ordered.{not_both}
@@ -32,7 +32,7 @@ use Rattle.btreekv_commands.specs.Updating.{changed_entries, text_lent}
 use Rattle.btreekv_commands.specs.declared.update_fault.UpdateFault.{UpdateFault}
 use Rattle.btreekv_commands.specs.declared.update_fault.UpdateFault.TheVariants.{Line, OutOfOrder, Archive, NotBuilt, Memory}
 use Rattle.btreekv_commands.specs.Opening.{RefusesStrictArchive}
-use Rattle.rkyv_btree_base.specs.Refusal.{Refusal}
+use Rattle.rkyv_btree_portable.specs.declared.refusal.Refusal.{Refusal}
 
 abbrev pub Lent : Type 0
 Lent = Bor (List ℕ)

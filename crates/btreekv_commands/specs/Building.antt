@@ -4,13 +4,13 @@ use Rattle.std.specs.Cmp.Lexicographic.{slice_cmp}
 use Rattle.std.specs.Ordering.{nat_cmp}
 use Rattle.std.specs.declared.alloc.AllocError.{AllocError}
 use Rattle.std.specs.declared.alloc.Global.{Global}
-use Rattle.rkyv_btree_base.specs.Archiving.{Archival}
-use Rattle.rkyv_btree_base.specs.Fault.{Fault}
-use Rattle.rkyv_btree_base.specs.Fault.TheVariants.{OutOfOrder}
-use Rattle.rkyv_btree_base.specs.Increasing.{IsOutOfOrder}
-use Rattle.rkyv_btree_base.specs.TextArchival.{text_archival}
-use Rattle.rkyv_btree_base.specs.TreeArchival.{tree_archival}
-use Rattle.rkyv_btree_base.specs.Whole.{IsUnarchived}
+use Rattle.rkyv_btree_writer.specs.Archiving.{Archival}
+use Rattle.rkyv_btree_writer.specs.declared.fault.Fault.{Fault}
+use Rattle.rkyv_btree_writer.specs.declared.fault.Fault.TheVariants.{OutOfOrder}
+use Rattle.rkyv_btree_format.specs.Increasing.{IsOutOfOrder}
+use Rattle.rkyv_btree_writer.specs.TextArchival.{text_archival}
+use Rattle.rkyv_btree_writing_laws.specs.TreeArchival.{tree_archival}
+use Rattle.rkyv_btree_writing_laws.specs.Whole.{IsUnarchived}
 use Rattle.rkyv_btree_archive.specs.declared.try_build.TryFault.{TryFault}
 use Rattle.rkyv_btree_archive.specs.declared.try_build.TryFault.TheVariants.{Item, Build}
 use Rattle.rkyv_btree_convert.specs.Maps.{last_wins}

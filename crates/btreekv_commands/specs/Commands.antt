@@ -6,23 +6,26 @@ use Rattle.std.specs.Io.KnownBytes.{Appends}
 use Rattle.std.specs.Ordering.{nat_cmp}
 use Rattle.std.specs.declared.alloc.AllocError.{AllocError}
 use Rattle.std.specs.declared.ops.Bound.TheVariants.{Included}
-use Rattle.rkyv_btree_base.specs.Fault.{Fault}
-use Rattle.rkyv_btree_base.specs.Refusal.{Refusal}
-use Rattle.rkyv_btree_base.specs.Text.{text_kind}
-use Rattle.rkyv_btree_base.specs.Whole.{own_at}
+use Rattle.rkyv_btree_writer.specs.declared.fault.Fault.{Fault}
+use Rattle.rkyv_btree_portable.specs.declared.refusal.Refusal.{Refusal}
+use Rattle.rkyv_btree_portable.specs.Text.{text_kind}
+use Rattle.rkyv_btree_format.specs.OwnBytes.{own_at}
 use Rattle.rkyv_btree_walk.specs.Bounds.{IsRun, IsWithin}
 use Rattle.rkyv_btree_view.specs.Lookup.{found_at}
 use Rattle.btreearc_lines.specs.declared.fault.ProgramFault.{ProgramFault}
 use Rattle.btreearc_lines.specs.declared.fault.ProgramFault.TheVariants.{Line, Refused, NotBuilt, InputFailed, OutputFailed, Memory}
 use Rattle.btreekv_commands.specs.Building.{last_values, IsUnbuilt, IsUnbuiltInOrder, IsUnbuiltMap}
 use Rattle.btreekv_commands.specs.Figures.{archive_nodes, figures}
-use Rattle.btreekv_commands.specs.Json.{json_object, json_string}
-use Rattle.btreekv_commands.specs.Lines.{Entry, AreLines, IsBadLine, text_of}
+use Rattle.btreekv_commands.specs.Forms.{text_in, value_line}
+use Rattle.btreekv_commands.specs.Json.{json_object}
+use Rattle.btreekv_commands.specs.Lines.{Entry, AreLines, IsBadLine}
 use Rattle.btreekv_commands.specs.Opening.{texts, IsArchive, KeysIncrease, CountsStrict, RefusesArchive, RefusesStrictArchive}
 use Rattle.btreekv_commands.specs.Prefixes.{HasPrefix}
+use Rattle.btreekv_commands.specs.Records.{AreRecords, IsBadRecord}
+use Rattle.btreekv_commands.specs.declared.records.Records.{Records}
 use Rattle.btreekv_commands.specs.declared.command.Command.{Command}
-use Rattle.btreekv_commands.specs.declared.command.Command.TheVariants.{Build, BuildStrict, BuildSorted, List as ListEntries}
-use Rattle.btreekv_commands.specs.declared.command.Command.TheVariants.{Check, CheckStrict, Explain, Get, GetJson, ListJson, Prefix, Range, Stat}
+use Rattle.btreekv_commands.specs.declared.command.Command.TheVariants.{Build, BuildFrom, BuildStrict, BuildSorted, List as ListEntries}
+use Rattle.btreekv_commands.specs.declared.command.Command.TheVariants.{Check, CheckStrict, Explain, Get, ListJson, Prefix, Range, Stat}
 
 -- the line of an archive of so many entries
 abbrev pub total : ℕ → List ℕ
@@ -32,10 +35,10 @@ total count = codes "ok " ++ (decimal count ++ (codes " entries" ++ 10 ∷ []))
 abbrev pub found_in_archive : List ℕ → List ℕ → Option Entry
 found_in_archive b key = found_at text_kind text_kind 5 b (own_at texts b) (slice_cmp nat_cmp key)
 
--- the line of the value that is found, as it is written, with status 0; or nothing, with status 1
+-- the value that is found, as it is written, with status 0; or nothing, with status 1
 abbrev pub FoundValue : (List ℕ → List ℕ) → Option Entry → List ℕ → ℕ → Type 0
 FoundValue written None text status = (text ≡ []) × (status ≡ 1)
-FoundValue written (Some e) text status = (text ≡ written e.1 ++ 10 ∷ []) × (status ≡ 0)
+FoundValue written (Some e) text status = (text ≡ written e.1) × (status ≡ 0)
 
 -- these entries of a list are a run of it, and those from the key `low` to the key `high`
 pub record IsBetween (low high : List ℕ) (entries within : List Entry) : Type 0 where
@@ -50,7 +53,10 @@ Outputs BuildStrict input text status =
 Outputs BuildSorted input text status =
     (status ≡ 0) × ((entries : List Entry) × AreLines input entries
     × IsArchive text (last_values entries) × KeysIncrease (last_values entries))
-Outputs ListEntries input text status = (status ≡ 0) × ((entries : List Entry) × IsArchive input entries × (text ≡ text_of entries))
+Outputs (BuildFrom form) input text status =
+    (status ≡ 0) × ((entries : List Entry) × AreRecords form input entries
+    × IsArchive text (last_values entries) × KeysIncrease (last_values entries))
+Outputs (ListEntries form) input text status = (status ≡ 0) × ((entries : List Entry) × IsArchive input entries × (text ≡ text_in form entries))
 Outputs ListJson input text status =
     (status ≡ 0) × ((entries : List Entry) × IsArchive input entries × (text ≡ json_object entries ++ 10 ∷ []))
 Outputs Check input text status = (status ≡ 0) × ((entries : List Entry) × IsArchive input entries × (text ≡ total (length entries)))
@@ -59,17 +65,15 @@ Outputs Stat input text status =
     (status ≡ 0) × ((entries : List Entry) × (is : IsArchive input entries)
     × (text ≡ figures (length entries) (archive_nodes input entries is) (length input)))
 Outputs Explain input text status = (status ≡ 0) × ((entries : List Entry) × IsArchive input entries)
-Outputs (Get key) input text status =
-    ((entries : List Entry) × IsArchive input entries) × FoundValue (λ v. v) (found_in_archive input (string_bytes key)) text status
-Outputs (GetJson key) input text status =
+Outputs (Get key form) input text status =
     ((entries : List Entry) × IsArchive input entries)
-    × FoundValue json_string (found_in_archive input (string_bytes key)) text status
-Outputs (Range low high) input text status =
+    × FoundValue (value_line form) (found_in_archive input (string_bytes key)) text status
+Outputs (Range low high form) input text status =
     (status ≡ 0) × ((entries within : List Entry) × IsArchive input entries
-    × IsBetween (string_bytes low) (string_bytes high) entries within × (text ≡ text_of within))
-Outputs (Prefix prefix) input text status =
+    × IsBetween (string_bytes low) (string_bytes high) entries within × (text ≡ text_in form within))
+Outputs (Prefix prefix form) input text status =
     (status ≡ 0) × ((entries within : List Entry) × IsArchive input entries
-    × HasPrefix (string_bytes prefix) entries within × (text ≡ text_of within))
+    × HasPrefix (string_bytes prefix) entries within × (text ≡ text_in form within))
 
 -- why an archive isn't built of an input: its first bad line, or why its entries have no archive; or reading it failed, or
 -- there is no memory
@@ -79,6 +83,14 @@ FailsToBuild Unbuilt input (NotBuilt fault) = (entries : List Entry) × AreLines
 FailsToBuild Unbuilt input InputFailed = Unit {0}
 FailsToBuild Unbuilt input Memory = Unit {0}
 FailsToBuild Unbuilt input _ = ⊥
+
+-- why an archive isn't built of records: the first bad one, or why their entries have no archive; or there is no memory
+abbrev pub FailsToBuildFrom : Records → List ℕ → ProgramFault → Type 0
+FailsToBuildFrom form input (Line n) = IsBadRecord form input n
+FailsToBuildFrom form input (NotBuilt fault) =
+    (entries : List Entry) × AreRecords form input entries × IsUnbuiltMap (last_values entries) fault
+FailsToBuildFrom form input Memory = Unit {0}
+FailsToBuildFrom form input _ = ⊥
 
 -- why an archive isn't read: the first error of bytes that are none; or there is no memory
 abbrev pub FailsToRead : (List ℕ → Refusal → Type 0) → List ℕ → ProgramFault → Type 0
@@ -91,6 +103,7 @@ abbrev pub Fails : Command → List ℕ → ProgramFault → Type 0
 Fails Build input fault = FailsToBuild IsUnbuilt input fault
 Fails BuildStrict input fault = FailsToBuild IsUnbuiltInOrder input fault
 Fails BuildSorted input fault = FailsToBuild (λ entries. IsUnbuiltMap (last_values entries)) input fault
+Fails (BuildFrom form) input fault = FailsToBuildFrom form input fault
 Fails CheckStrict input fault = FailsToRead RefusesStrictArchive input fault
 Fails _ input fault = FailsToRead RefusesArchive input fault
 

@@ -1,9 +1,9 @@
 -- How large an archive is.
 use Rattle.std.specs.Prelude.{ℕ, ◌+◌, ◌++◌, ◌∷◌, [], List, codes, decimal, nat_eq, if◌then◌else◌}
-use Rattle.rkyv_btree_base.specs.Logarithm.{ilog}
-use Rattle.rkyv_btree_base.specs.Spells.{accepted_nodes}
-use Rattle.rkyv_btree_base.specs.Text.{text_kind}
-use Rattle.rkyv_btree_base.specs.Whole.{own_at}
+use Rattle.rkyv_btree_shape.specs.Logarithm.{ilog}
+use Rattle.rkyv_btree_format.specs.Spells.{accepted_nodes}
+use Rattle.rkyv_btree_portable.specs.Text.{text_kind}
+use Rattle.rkyv_btree_format.specs.OwnBytes.{own_at}
 use Rattle.btreekv_commands.specs.Lines.{Entry}
 use Rattle.btreekv_commands.specs.Opening.{texts, IsArchive}
 

@@ -1,12 +1,16 @@
 pub mod Building
 pub mod Changing
 pub mod Commands
+pub mod Escapes
 pub mod Figures
+pub mod Forms
 pub mod Json
 pub mod Lines
 pub mod Opening
 pub mod Prefixes
 pub mod Reading
+pub mod Records
+pub mod Sourced
 pub mod Streaming
 pub mod Texts
 pub mod Updating

@@ -1,7 +1,6 @@
 -- Lines of a key, a tab and a value.
-use Rattle.std.specs.Prelude.{◌≡◌, ◌≢◌, ℕ, ◌+◌, ◌<◌, List, [], ◌∷◌, ◌++◌, length, flat_map, map, IsUtf8, slice_index, Option}
-use Rattle.std.specs.Prelude.{String, string_bytes}
-use Rattle.std.specs.Iterator.{Drains}
+use Rattle.std.specs.Prelude.{◌≡◌, ◌≢◌, ℕ, ◌+◌, ◌<◌, List, [], ◌∷◌, ◌++◌, length, IsUtf8, slice_index}
+use Rattle.std.specs.Str.{IsValidUpTo}
 use Rattle.btreearc_lines.specs.Grammar.{lines}
 use Rattle.btreearc_lines.specs.declared.fault.ProgramFault.{ProgramFault}
 use Rattle.btreearc_lines.specs.declared.fault.ProgramFault.TheVariants.{Line, Memory}
@@ -42,6 +41,12 @@ pub record IsBadLine (bytes : List ℕ) (n : ℕ) : Type 0 where
   pub no_entry : (x : Entry) → ¬ IsEntry bad x
   pub number : n ≡ length before + 1
 
+-- byte n, counted from 1, is the first of a line that isn't UTF-8
+pub record IsBadByte (line : List ℕ) (n : ℕ) : Type 0 where
+  pub at : ℕ
+  pub number : n ≡ at + 1
+  pub valid : IsValidUpTo line at
+
 -- an error of reading lines: the first bad line, or there is no memory
 abbrev pub IsLineFault : List ℕ → ProgramFault → Type 0
 IsLineFault bytes (Line n) = IsBadLine bytes n
@@ -51,11 +56,3 @@ IsLineFault bytes _ = ⊥
 -- an entry's line as it is written
 abbrev pub line_of : Entry → List ℕ
 line_of x = x.0 ++ (9 ∷ x.1 ++ 10 ∷ [])
-
-abbrev pub text_of : List Entry → List ℕ
-text_of entries = flat_map line_of entries
-
--- a text has become longer by the lines of all entries that an iterator's items show
-abbrev pub AppendsLines : {S A Z : Type 0} → (S → Option A → S → Type 0) → (A → Entry) → S → String Z → String Z → Type 0
-AppendsLines {S} {A} steps shows start old new =
-    (items : List A) × Drains steps start items × (string_bytes new ≡ string_bytes old ++ text_of (map shows items))

@@ -2,13 +2,13 @@
 use Rattle.std.specs.Prelude.{◌≡◌, ℕ, List, length}
 use Rattle.std.specs.Cmp.Lexicographic.{slice_cmp}
 use Rattle.std.specs.Ordering.{nat_cmp}
-use Rattle.rkyv_btree_base.specs.Increasing.{Increasing}
-use Rattle.rkyv_btree_base.specs.Kind.{Kind}
-use Rattle.rkyv_btree_base.specs.Map.{map_kind}
-use Rattle.rkyv_btree_base.specs.Refusal.{Refusal}
-use Rattle.rkyv_btree_base.specs.Refusals.{RefusesMap}
-use Rattle.rkyv_btree_base.specs.Text.{text_kind}
-use Rattle.rkyv_btree_base.specs.Whole.{IsArchiveOf}
+use Rattle.rkyv_btree_format.specs.Increasing.{Increasing}
+use Rattle.rkyv_btree_portable.specs.Kind.{Kind}
+use Rattle.rkyv_btree_verify.specs.Map.{map_kind}
+use Rattle.rkyv_btree_portable.specs.declared.refusal.Refusal.{Refusal}
+use Rattle.rkyv_btree_verify.specs.Refusals.{RefusesMap}
+use Rattle.rkyv_btree_portable.specs.Text.{text_kind}
+use Rattle.rkyv_btree_format.specs.OwnBytes.{IsArchiveOf}
 use Rattle.rkyv_btree_strict.specs.Strict.{RefusesStrict}
 use Rattle.rkyv_btree_convert.specs.Whole.{IsUnopened}
 use Rattle.btreearc_lines.specs.declared.fault.ProgramFault.{ProgramFault}

@@ -5,15 +5,15 @@ use Rattle.std.specs.Cmp.Lexicographic.{slice_cmp}
 use Rattle.std.specs.List.{fold}
 use Rattle.std.specs.Ordering.{nat_cmp}
 use Rattle.std.specs.declared.alloc.AllocError.{AllocError}
-use Rattle.rkyv_btree_base.specs.Archiving.{Archival}
-use Rattle.rkyv_btree_base.specs.Fault.{Fault}
-use Rattle.rkyv_btree_base.specs.Fault.TheVariants as building
-use Rattle.rkyv_btree_base.specs.Increasing.{IsOutOfOrder}
-use Rattle.rkyv_btree_base.specs.Refusal.{Refusal}
-use Rattle.rkyv_btree_base.specs.Text.{text_kind}
-use Rattle.rkyv_btree_base.specs.TextArchival.{text_archival}
-use Rattle.rkyv_btree_base.specs.Whole.{fresh}
-use Rattle.rkyv_btree_base.specs.Writing.{Writing}
+use Rattle.rkyv_btree_writer.specs.Archiving.{Archival}
+use Rattle.rkyv_btree_writer.specs.declared.fault.Fault.{Fault}
+use Rattle.rkyv_btree_writer.specs.declared.fault.Fault.TheVariants as building
+use Rattle.rkyv_btree_format.specs.Increasing.{IsOutOfOrder}
+use Rattle.rkyv_btree_portable.specs.declared.refusal.Refusal.{Refusal}
+use Rattle.rkyv_btree_portable.specs.Text.{text_kind}
+use Rattle.rkyv_btree_writer.specs.TextArchival.{text_archival}
+use Rattle.rkyv_btree_writing_laws.specs.Whole.{fresh}
+use Rattle.rkyv_btree_writer.specs.Writing.{Writing}
 use Rattle.rkyv_btree_update.specs.Differences.{IsDifference}
 use Rattle.rkyv_btree_update.specs.Updated.{all_put, updated}
 use Rattle.rkyv_btree_update.specs.Written.{FailsToWrite}

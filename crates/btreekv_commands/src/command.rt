@@ -1,5 +1,8 @@
 //! The commands.
 
+use crate::forms::Form;
+use crate::records::Records;
+
 /// A command of the program.
 #[derive(Debug, Drop)]
 pub enum Command {
@@ -9,8 +12,10 @@ pub enum Command {
     BuildStrict,
     /// Archive the input's lines in increasing order of their keys. Of equal keys the last value counts.
     BuildSorted,
-    /// Write the lines of the input's archive.
-    List,
+    /// Archive the entries of the input's records in increasing order of their keys. Of equal keys the last value counts.
+    BuildFrom(Records),
+    /// Write the entries of the input's archive.
+    List(Form),
     /// Write the entries of the input's archive as a JSON object.
     ListJson,
     /// Write how many entries the input's archive has.
@@ -22,11 +27,9 @@ pub enum Command {
     /// Write the bytes of the input's archive with their meaning.
     Explain,
     /// Write the value of this key.
-    Get(String),
-    /// Write the value of this key as a JSON string.
-    GetJson(String),
-    /// Write the lines of the keys from the first to the second, both included.
-    Range(String, String),
-    /// Write the lines of the keys that begin with this text.
-    Prefix(String),
+    Get(String, Form),
+    /// Write the entries of the keys from the first to the second, both included.
+    Range(String, String, Form),
+    /// Write the entries of the keys that begin with this text.
+    Prefix(String, Form),
 }

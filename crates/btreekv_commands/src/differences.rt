@@ -8,7 +8,7 @@ ghost use Rattle.btreekv_commands.specs.Updating.{FailsDiff, IsDiff, IsStrictArc
 
 use crate::opening::{Texts, open_increasing};
 use crate::update_fault::UpdateFault;
-use rkyv_btree_base::text::ArchivedText;
+use rkyv_btree_portable::text::ArchivedText;
 use rkyv_btree_update::change::Change;
 use rkyv_btree_update::diff;
 use std::alloc::{AllocError, Global};

@@ -14,7 +14,7 @@ use crate::lines::entry_of;
 use crate::text::Text;
 use btreearc_lines::fault::ProgramFault;
 use btreearc_lines::streams::read_line;
-use rkyv_btree_base::fault::Fault;
+use rkyv_btree_writer::fault::Fault;
 use std::alloc::Global;
 use std::io::BufRead;
 

@@ -2,8 +2,8 @@
 ghost use Rattle.std.specs.Prelude.{◌≡◌, ◌≤◌, IfErr};
 
 use btreearc_lines::fault::ProgramFault;
-use rkyv_btree_base::layout::{key_at, len_at, lesser_at, value_at};
-use rkyv_btree_base::text::ArchivedText;
+use rkyv_btree_format::layout::{key_at, len_at, lesser_at, value_at};
+use rkyv_btree_portable::text::ArchivedText;
 use std::alloc::{AllocError, Global};
 
 /// How many entries an inner node has, and a leaf at most.

@@ -1,16 +1,16 @@
 //! How large an archive is.
 ghost use Rattle.std.specs.Prelude.{◌≡◌, ◌++◌, List, length, string_bytes, OnOk, IfOk, IfErr};
-ghost use Rattle.rkyv_btree_base.specs.Whole.{own_at};
+ghost use Rattle.rkyv_btree_format.specs.OwnBytes.{own_at};
 ghost use Rattle.btreekv_commands.specs.Figures.{archive_nodes, figure, figures, least_levels};
 ghost use Rattle.btreekv_commands.specs.Lines.{Entry};
 ghost use Rattle.btreekv_commands.specs.Opening.{IsArchive, texts};
 
 use btreearc_lines::fault::ProgramFault;
-use rkyv_btree_base::check::Window;
-use rkyv_btree_base::layout::entries_to_height;
-use rkyv_btree_base::steps::StepCounter;
-use rkyv_btree_base::text::ArchivedText;
-use rkyv_btree_base::verify::verify_counted;
+use rkyv_btree_portable::check::Window;
+use rkyv_btree_portable::steps::StepCounter;
+use rkyv_btree_portable::text::ArchivedText;
+use rkyv_btree_shape::height::entries_to_height;
+use rkyv_btree_verify::verify::verify_counted;
 use std::alloc::{AllocError, Global};
 
 /// Returns the number of levels of the smallest tree of so many entries.

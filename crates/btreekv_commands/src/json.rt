@@ -4,7 +4,7 @@ ghost use Rattle.std.specs.Iterator.{IsFinite};
 ghost use Rattle.rkyv_btree_view.specs.View.{view_entry};
 ghost use Rattle.btreekv_commands.specs.Json.{AppendsObject, escaped, hex_digit, json_string, member, short_escape};
 
-use rkyv_btree_base::text::ArchivedText;
+use rkyv_btree_portable::text::ArchivedText;
 use rkyv_btree_view::view::View;
 use std::alloc::AllocError;
 

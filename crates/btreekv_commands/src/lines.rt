@@ -1,7 +1,7 @@
 //! Entries in lines of a key, a tab and a value.
-ghost use Rattle.std.specs.Prelude.{◌≡◌, ◌<◌, ◌++◌, ◌∷◌, length, IfOk, IfErr, IfSome, IfNone, map};
+ghost use Rattle.std.specs.Prelude.{◌≡◌, ◌<◌, ◌++◌, ◌∷◌, length, IfOk, IfErr, IfSome, IfNone, IsUtf8, map};
 ghost use Rattle.btreearc_lines.specs.Grammar.{lines};
-ghost use Rattle.btreekv_commands.specs.Lines.{AreLines, Entry, IsEntry, IsLineFault, Lacks};
+ghost use Rattle.btreekv_commands.specs.Lines.{AreLines, Entry, IsBadByte, IsEntry, IsLineFault, Lacks};
 ghost use Rattle.btreekv_commands.specs.Texts.{texts_of};
 
 use btreearc_lines::fault::ProgramFault;
@@ -37,6 +37,17 @@ pub(crate) fn entry_of(line: &[u8]) -> Option<(&str, &str)>
         return None;
     };
     Some((key, value))
+}
+
+/// Returns the first byte of a line that isn't UTF-8, counted from 1, or `None` if all are.
+pub fn bad_byte(line: &[u8]) -> Option<u64>
+    ensures bad { IfSome result (IsBadByte line.now) }
+    ensures none { IfNone result (IsUtf8 line.now) }
+{
+    match from_utf8(line) {
+        Ok(_) => None,
+        Err(error) => Some(error.valid_up_to() as u64 + 1),
+    }
 }
 
 /// Returns the first line, and the bytes after it.

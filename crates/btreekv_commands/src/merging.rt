@@ -1,16 +1,16 @@
 //! One archive of several, of which the later ones win.
 ghost use Rattle.std.specs.Prelude.{List, IfOk, IfErr, map};
-ghost use Rattle.rkyv_btree_base.specs.Text.{text_kind};
+ghost use Rattle.rkyv_btree_portable.specs.Text.{text_kind};
 ghost use Rattle.rkyv_btree_view.specs.View.{entries_of};
 ghost use Rattle.btreekv_commands.specs.Lines.{Entry};
 ghost use Rattle.btreekv_commands.specs.Updating.{FailsMerge, FailsNext, IsMerge, IsStrictArchive, IsUnwrittenFault, put_over};
 
 use crate::opening::open_increasing;
 use crate::update_fault::UpdateFault;
-use rkyv_btree_base::place::VecWriter;
-use rkyv_btree_base::text::ArchivedText;
+use rkyv_btree_portable::text::ArchivedText;
 use rkyv_btree_strict::strict_map::StrictView;
 use rkyv_btree_update::update;
+use rkyv_btree_writer::place::VecWriter;
 use std::alloc::Global;
 
 /// Returns the archive of a map's entries put over those of another.

@@ -1,18 +1,18 @@
 //! Opening archives that anybody wrote.
 ghost use Rattle.std.specs.Prelude.{◌≡◌, IfOk, IfErr};
-ghost use Rattle.rkyv_btree_base.specs.Text.{text_kind};
-ghost use Rattle.rkyv_btree_base.specs.Whole.{own_at};
+ghost use Rattle.rkyv_btree_portable.specs.Text.{text_kind};
+ghost use Rattle.rkyv_btree_format.specs.OwnBytes.{own_at};
 ghost use Rattle.rkyv_btree_view.specs.View.{entries_of};
 ghost use Rattle.btreekv_commands.specs.Opening.{texts, CountsStrict, IsArchive, IsOpenFault, RefusesArchive, RefusesStrictArchive};
 ghost use Rattle.btreekv_commands.specs.Updating.{IsStrictArchive};
 
 use btreearc_lines::fault::ProgramFault;
-use rkyv_btree_base::map::ArchivedBTreeMap;
-use rkyv_btree_base::refusal::Refusal;
-use rkyv_btree_base::text::ArchivedText;
 use rkyv_btree_convert::from_archive as whole;
+use rkyv_btree_portable::refusal::Refusal;
+use rkyv_btree_portable::text::ArchivedText;
 use rkyv_btree_strict::strict::open_strict;
 use rkyv_btree_strict::strict_map::StrictView;
+use rkyv_btree_types::map::ArchivedBTreeMap;
 use rkyv_btree_view::view::View;
 
 /// The maps that the program archives.

@@ -3,11 +3,11 @@ ghost use Rattle.std.specs.Iterator.{IsFinite};
 ghost use Rattle.rkyv_btree_view.specs.Items.{ShowsAll};
 ghost use Rattle.rkyv_btree_view.specs.Range.{range_left};
 ghost use Rattle.rkyv_btree_view.specs.View.{entries_of, view_entry};
-ghost use Rattle.rkyv_btree_base.specs.Text.{text_kind};
+ghost use Rattle.rkyv_btree_portable.specs.Text.{text_kind};
 ghost use Rattle.btreekv_commands.specs.Prefixes.{HasPrefix};
 
 use crate::opening::Texts;
-use rkyv_btree_base::text::ArchivedText;
+use rkyv_btree_portable::text::ArchivedText;
 use rkyv_btree_strict::prefix::compare_prefix;
 use rkyv_btree_view::range::Range;
 use rkyv_btree_view::view::View;

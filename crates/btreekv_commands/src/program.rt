@@ -1,17 +1,19 @@
 //! The commands over a reader and a writer.
 ghost use Rattle.std.specs.Prelude.{◌≡◌, IfOk, IfErr, string_bytes};
 ghost use Rattle.btreekv_commands.specs.Commands.{Does, Fails, FailsToBuild, FailsToRead, Outputs, total};
-ghost use Rattle.btreekv_commands.specs.declared.command.Command.TheVariants.{Build, BuildStrict, BuildSorted, List as ListEntries};
-ghost use Rattle.btreekv_commands.specs.declared.command.Command.TheVariants.{Check, CheckStrict, Explain, Get, GetJson, ListJson, Prefix, Range, Stat};
+ghost use Rattle.btreekv_commands.specs.declared.command.Command.TheVariants.{Build, BuildFrom, BuildStrict, BuildSorted, List as ListEntries};
+ghost use Rattle.btreekv_commands.specs.declared.command.Command.TheVariants.{Check, CheckStrict, Explain, Get, ListJson, Prefix, Range, Stat};
 
 use crate::command::Command;
 use crate::entries::{check_order, count_lines};
 use crate::figures::figures_of;
-use crate::json::{push_object, push_string};
+use crate::forms::{Form, push_value};
+use crate::json::push_object;
 use crate::lines::parse_lines;
 use crate::listing::write_entries;
 use crate::opening::{open, strict_count};
 use crate::prefixes::with_prefix;
+use crate::records::{Records, parse_records};
 use crate::{building, explaining};
 use btreearc_lines::fault::ProgramFault;
 use btreearc_lines::streams::{read_all, write_all};
@@ -19,14 +21,14 @@ use std::alloc::Global;
 use std::io::{Read, Write};
 use std::ops::Bound;
 
-/// Returns the lines of an archive.
-fn list(alloc: Global, archive: &[u8]) -> Result<String, ProgramFault>
-    ensures ok { IfOk result (λ text. Outputs ListEntries archive.now (string_bytes text) 0) }
-    ensures err { IfErr result (Fails ListEntries archive.now) }
+/// Returns the entries of an archive as they are written.
+fn list(alloc: Global, archive: &[u8], form: Form) -> Result<Vec<u8>, ProgramFault>
+    ensures ok { IfOk result (λ text. Outputs (ListEntries form) archive.now text.items 0) }
+    ensures err { IfErr result (Fails (ListEntries form) archive.now) }
 {
     let map = open(archive)?;
-    let mut text = String::new(alloc);
-    match write_entries(&mut text, map.iter()) {
+    let mut text = Vec::new(alloc);
+    match write_entries(&mut text, form, map.iter()) {
         Ok(()) => Ok(text),
         Err(_) => Err(ProgramFault::Memory),
     }
@@ -100,73 +102,66 @@ fn explain(alloc: Global, archive: &[u8]) -> Result<String, ProgramFault>
     explaining::explain(alloc, archive, map.pos)
 }
 
-/// Returns the line of a key's value, or no line and the status 1.
-fn get(alloc: Global, archive: &[u8], key: &String) -> Result<(String, u8), ProgramFault>
-    ensures ok { IfOk result (λ r. Outputs (Get key.now) archive.now (string_bytes r.0) r.1) }
-    ensures err { IfErr result (Fails (Get key.now) archive.now) }
-{
-    let map = open(archive)?;
-    let mut text = String::new(alloc);
-    match map.get_by(key.as_str()) {
-        None => Ok((text, 1)),
-        Some(value) => {
-            if writeln!(text, "{}", value.as_str()).is_err() {
-                return Err(ProgramFault::Memory);
-            }
-            Ok((text, 0))
-        }
-    }
-}
-
-/// Returns the line of a key's value as a JSON string, or no line and the status 1.
-fn get_json(alloc: Global, archive: &[u8], key: &String) -> Result<(Vec<u8>, u8), ProgramFault>
-    ensures ok { IfOk result (λ r. Outputs (GetJson key.now) archive.now r.0.items r.1) }
-    ensures err { IfErr result (Fails (GetJson key.now) archive.now) }
+/// Returns a key's value as it is written, or nothing and the status 1.
+fn get(
+    alloc: Global,
+    archive: &[u8],
+    key: &String,
+    form: Form,
+) -> Result<(Vec<u8>, u8), ProgramFault>
+    ensures ok { IfOk result (λ r. Outputs (Get key.now form) archive.now r.0.items r.1) }
+    ensures err { IfErr result (Fails (Get key.now form) archive.now) }
 {
     let map = open(archive)?;
     let mut out = Vec::new(alloc);
     match map.get_by(key.as_str()) {
         None => Ok((out, 1)),
-        Some(value) => {
-            if push_string(&mut out, value.as_str()).is_err() {
-                return Err(ProgramFault::Memory);
-            }
-            match out.push(b'\n') {
-                Ok(()) => Ok((out, 0)),
-                Err(_) => Err(ProgramFault::Memory),
-            }
-        }
+        Some(value) => match push_value(&mut out, form, value.as_str()) {
+            Ok(()) => Ok((out, 0)),
+            Err(_) => Err(ProgramFault::Memory),
+        },
     }
 }
 
-/// Returns the lines of the keys from one to another.
-fn range(alloc: Global, archive: &[u8], low: &String, high: &String) -> Result<String, ProgramFault>
+/// Returns the entries of the keys from one to another as they are written.
+fn range(
+    alloc: Global,
+    archive: &[u8],
+    low: &String,
+    high: &String,
+    form: Form,
+) -> Result<Vec<u8>, ProgramFault>
     ensures ok { IfOk result (λ text.
-        Outputs (Range low.now high.now) archive.now (string_bytes text) 0) }
-    ensures err { IfErr result (Fails (Range low.now high.now) archive.now) }
+        Outputs (Range low.now high.now form) archive.now text.items 0) }
+    ensures err { IfErr result (Fails (Range low.now high.now form) archive.now) }
 {
     let map = open(archive)?;
     let entries = map.range_by(
         Bound::Included(low.as_str()),
         Bound::Included(high.as_str()),
     );
-    let mut text = String::new(alloc);
-    match write_entries(&mut text, entries) {
+    let mut text = Vec::new(alloc);
+    match write_entries(&mut text, form, entries) {
         Ok(()) => Ok(text),
         Err(_) => Err(ProgramFault::Memory),
     }
 }
 
-/// Returns the lines of the keys that begin with a text.
-fn prefix(alloc: Global, archive: &[u8], prefix: &String) -> Result<String, ProgramFault>
+/// Returns the entries of the keys that begin with a text as they are written.
+fn prefix(
+    alloc: Global,
+    archive: &[u8],
+    prefix: &String,
+    form: Form,
+) -> Result<Vec<u8>, ProgramFault>
     ensures ok { IfOk result (λ text.
-        Outputs (Prefix prefix.now) archive.now (string_bytes text) 0) }
-    ensures err { IfErr result (Fails (Prefix prefix.now) archive.now) }
+        Outputs (Prefix prefix.now form) archive.now text.items 0) }
+    ensures err { IfErr result (Fails (Prefix prefix.now form) archive.now) }
 {
     let map = open(archive)?;
     let entries = with_prefix(map, prefix.as_str());
-    let mut text = String::new(alloc);
-    match write_entries(&mut text, entries) {
+    let mut text = Vec::new(alloc);
+    match write_entries(&mut text, form, entries) {
         Ok(()) => Ok(text),
         Err(_) => Err(ProgramFault::Memory),
     }
@@ -209,6 +204,15 @@ fn build_sorted(alloc: Global, text: &[u8]) -> Result<Vec<u8>, ProgramFault>
     building::sorted_archive(alloc, entries)
 }
 
+/// Returns the archive of records in increasing order of their keys.
+fn build_from(alloc: Global, form: Records, text: &[u8]) -> Result<Vec<u8>, ProgramFault>
+    ensures ok { IfOk result (λ bytes. Outputs (BuildFrom form) text.now bytes.items 0) }
+    ensures err { IfErr result (Fails (BuildFrom form) text.now) }
+{
+    let entries = parse_records(alloc, form, text)?;
+    building::sorted_archive(alloc, entries)
+}
+
 /// Returns what a command writes of an input, and its status.
 fn output_of(alloc: Global, command: &Command, input: &[u8]) -> Result<(Vec<u8>, u8), ProgramFault>
     ensures ok { IfOk result (λ r. Outputs command.now input.now r.0.items r.1) }
@@ -218,19 +222,16 @@ fn output_of(alloc: Global, command: &Command, input: &[u8]) -> Result<(Vec<u8>,
         Command::Build => Ok((build(alloc, input)?, 0)),
         Command::BuildStrict => Ok((build_strict(alloc, input)?, 0)),
         Command::BuildSorted => Ok((build_sorted(alloc, input)?, 0)),
-        Command::List => Ok((list(alloc, input)?.into_bytes(), 0)),
+        Command::BuildFrom(form) => Ok((build_from(alloc, *form, input)?, 0)),
+        Command::List(form) => Ok((list(alloc, input, *form)?, 0)),
         Command::ListJson => Ok((list_json(alloc, input)?, 0)),
         Command::Check => Ok((check(alloc, input)?.into_bytes(), 0)),
         Command::CheckStrict => Ok((check_strict(alloc, input)?.into_bytes(), 0)),
         Command::Stat => Ok((stat(alloc, input)?.into_bytes(), 0)),
         Command::Explain => Ok((explain(alloc, input)?.into_bytes(), 0)),
-        Command::Get(key) => {
-            let (text, status) = get(alloc, input, key)?;
-            Ok((text.into_bytes(), status))
-        }
-        Command::GetJson(key) => get_json(alloc, input, key),
-        Command::Range(low, high) => Ok((range(alloc, input, low, high)?.into_bytes(), 0)),
-        Command::Prefix(text) => Ok((prefix(alloc, input, text)?.into_bytes(), 0)),
+        Command::Get(key, form) => get(alloc, input, key, *form),
+        Command::Range(low, high, form) => Ok((range(alloc, input, low, high, *form)?, 0)),
+        Command::Prefix(text, form) => Ok((prefix(alloc, input, text, *form)?, 0)),
     }
 }
 

@@ -1,6 +1,6 @@
 //! Archives of the lines of an input that is read more than once, written as they are built.
 ghost use Rattle.std.specs.Prelude.{◌≡◌, ℕ, [], List, Some, None, true, length, IfOk, IfErr, OnOk, IfSome};
-ghost use Rattle.rkyv_btree_base.specs.StdWriters.{AreKnown, HoldsAll};
+ghost use Rattle.rkyv_btree_writer.specs.StdWriters.{AreKnown, HoldsAll};
 ghost use Rattle.btreearc_lines.specs.Faults.{IsWriteFault};
 ghost use Rattle.btreekv_commands.specs.Building.{IsOutOfOrderAt, IsReadOrBuildFault, IsUnbuilt};
 ghost use Rattle.btreekv_commands.specs.Commands.{Does, Fails};
@@ -12,7 +12,7 @@ use crate::building::serialize_lines;
 use crate::entries::{check_order, count_lines};
 use btreearc_lines::fault::{ProgramFault, program_fault};
 use btreearc_lines::reopen::Reopen;
-use rkyv_btree_base::io_writer::IoWriter;
+use rkyv_btree_writer::io_writer::IoWriter;
 use std::alloc::Global;
 use std::io;
 use std::io::{BufRead, Write};

@@ -1,21 +1,20 @@
 //! Texts that are serialized, each by its bytes.
 ghost use Rattle.std.specs.Prelude.{◌≡◌, ◌+◌, ◌≤◌, ◌<◌, ◌↔◌, length, true, false, IfOk, OnOk, IfErr, IsErrOf};
-ghost use Rattle.rkyv_btree_base.specs.Pointers.{FitsOffset};
+ghost use Rattle.rkyv_btree_writer.specs.Pointers.{FitsOffset};
 ghost use Rattle.std.specs.Cmp.Lexicographic.{slice_cmp};
 ghost use Rattle.std.specs.Ordering.{nat_cmp};
 ghost use Rattle.std.specs.declared.cmp.Ordering.TheVariants.{Less};
-ghost use Rattle.rkyv_btree_base.specs.Archiving.{IsUnresolved, itself};
-ghost use Rattle.rkyv_btree_base.specs.Text.{text_kind};
-ghost use Rattle.rkyv_btree_base.specs.TextArchival.{FitsText, text_own, text_archival};
-ghost use Rattle.rkyv_btree_base.specs.laws.TextLaws.{text_laws};
+ghost use Rattle.rkyv_btree_writer.specs.Archiving.{IsUnresolved, itself};
+ghost use Rattle.rkyv_btree_portable.specs.Text.{text_kind};
+ghost use Rattle.rkyv_btree_writer.specs.TextArchival.{FitsText, text_own, text_archival};
+ghost use Rattle.rkyv_btree_portable.specs.laws.TextLaws.{text_laws};
 ghost use Rattle.rkyv_btree_writer.proofs.TextArchived.{text_archived, text_causes};
 
-use rkyv_btree_base::archive::{Archive, Serialize};
-use rkyv_btree_base::fault::{Fault, ResolveFault};
-use rkyv_btree_base::place::{Place, Writer};
-use rkyv_btree_base::text::ArchivedText;
+use rkyv_btree_archive::archive::{Archive, Serialize};
+use rkyv_btree_portable::text::ArchivedText;
 use rkyv_btree_writer::bounded_writes::{LAST_END, put};
-use rkyv_btree_writer::place::write_offset;
+use rkyv_btree_writer::fault::{Fault, ResolveFault};
+use rkyv_btree_writer::place::{Place, Writer, write_offset};
 use smallvec::SmallVec;
 use std::alloc::{AllocError, Global};
 use std::marker::Model;

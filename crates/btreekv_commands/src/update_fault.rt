@@ -1,7 +1,7 @@
 //! Why archives aren't updated, merged or compared.
 
-use rkyv_btree_base::fault::Fault;
-use rkyv_btree_base::refusal::Refusal;
+use rkyv_btree_portable::refusal::Refusal;
+use rkyv_btree_writer::fault::Fault;
 use std::alloc::AllocError;
 
 /// Why archives aren't updated, merged or compared.

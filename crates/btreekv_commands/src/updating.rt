@@ -1,6 +1,6 @@
 //! New archives of old ones and of changes in lines.
 ghost use Rattle.std.specs.Prelude.{◌≡◌, ◌+◌, ◌<◌, ◌^◌, ℕ, IfOk, IfErr, OnOk};
-ghost use Rattle.rkyv_btree_base.specs.Text.{text_kind};
+ghost use Rattle.rkyv_btree_portable.specs.Text.{text_kind};
 ghost use Rattle.rkyv_btree_update.specs.Updated.{changes_meant};
 ghost use Rattle.rkyv_btree_view.specs.View.{entries_of};
 ghost use Rattle.btreekv_commands.specs.Changing.{ChangesIncrease};
@@ -9,12 +9,12 @@ ghost use Rattle.btreekv_commands.specs.Updating.{FailsChanges, FailsUpdate, IsS
 use crate::changes::read_changes;
 use crate::opening::open_increasing;
 use crate::update_fault::UpdateFault;
-use rkyv_btree_base::fault::Fault;
-use rkyv_btree_base::place::VecWriter;
-use rkyv_btree_base::text::ArchivedText;
+use rkyv_btree_portable::text::ArchivedText;
 use rkyv_btree_strict::strict_map::StrictView;
 use rkyv_btree_update::change::Change;
 use rkyv_btree_update::update;
+use rkyv_btree_writer::fault::Fault;
+use rkyv_btree_writer::place::VecWriter;
 use std::alloc::{AllocError, Global};
 
 /// Returns the program's fault for one of writing entries after changes. The line of a change out of order is counted from 1.

@@ -23,6 +23,15 @@ pub fn archive_of(alloc: Global, prices: &[(String, u64)]) -> Result<(Vec<u8>, u
     Ok((writer.into_vec(), root))
 }
 
+/// Returns the archive of a list of prices, in its own order.
+pub fn prices_of(alloc: Global, prices: &[(String, u64)]) -> Result<Vec<u8>> {
+    sizes_fit::<Prices>();
+    let items = prices
+        .iter()
+        .map(|price: &(String, u64)| (&price.0, &price.1));
+    Ok(Prices::to_archive_of(alloc, items)?)
+}
+
 /// Serializes a list of prices to a file, and returns the position of the map in it.
 pub fn write_to(alloc: Global, file: File, prices: &[(String, u64)]) -> Result<u32> {
     sizes_fit::<Prices>();
@@ -40,18 +49,14 @@ pub fn write_to(alloc: Global, file: File, prices: &[(String, u64)]) -> Result<u
 pub fn squares(alloc: Global, count: u32) -> Result<Vec<u8>> {
     sizes_fit::<Squares>();
     let items = (0..count).map(|n: u32| (n, u64::from(n).wrapping_mul(u64::from(n))));
-    let mut writer = VecWriter::new(alloc);
-    let tree = Squares::serialize_from_ordered_iter(alloc, count as usize, items, &mut writer)?;
-    Squares::write_root(count as usize, tree, &mut writer)?;
-    Ok(writer.into_vec())
+    Ok(Squares::to_archive_of(alloc, items)?)
 }
 
-/// Returns the archive of words and their lengths, in the order of the words. No word is copied before it is written.
-pub fn word_lengths(alloc: Global, words: &[&str]) -> Result<Vec<u8>> {
+/// Serializes words and their lengths in their order, and copies no word before. Returns the bytes, and the position of the map in them.
+pub fn word_lengths(alloc: Global, words: &[&str]) -> Result<(Vec<u8>, u32)> {
     sizes_fit::<Prices>();
     let items = words.iter().map(|word: &&str| (*word, word.len() as u64));
     let mut writer = VecWriter::new(alloc);
-    let tree = Prices::serialize_from_exact_iter(alloc, items, &mut writer)?;
-    Prices::write_root(words.len(), tree, &mut writer)?;
-    Ok(writer.into_vec())
+    let root = Prices::write_map(alloc, items, &mut writer)?;
+    Ok((writer.into_vec(), root))
 }

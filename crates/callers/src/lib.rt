@@ -1,9 +1,14 @@
 //! Small callers of the library, which the documents show. One loop needs a measure; nothing else needs a proof file.
 #![tactic(auto)]
 
+pub mod accounts;
 pub mod building;
 pub mod editing;
+pub mod many;
 pub mod merging;
+pub mod nested;
+pub mod pairs;
 pub mod reading;
 #[cfg(test)]
 mod tried;
+pub mod typed;

@@ -6,6 +6,7 @@ ghost use Rattle.rkyv_btree.specs.View.{entries_of};
 
 use anyhow::Result;
 use rkyv_btree::prelude::*;
+use std::alloc::Global;
 use std::collections::BTreeMap;
 
 /// Names and their prices.
@@ -21,6 +22,14 @@ pub fn price_in(bytes: &[u8], name: &str) -> Result<Option<u64>> {
 /// Returns the price of a name.
 pub fn price(map: View<'_, Prices>, name: &str) -> Option<u64> {
     map.get_native_by(name)
+}
+
+/// Returns the last name and its price in a line of text, or `None` if there is none.
+pub fn last_line(alloc: Global, map: View<'_, Prices>) -> Result<Option<String>> {
+    let Some((name, price)) = map.last() else {
+        return Ok(None);
+    };
+    Ok(Some(format!(in alloc; "{name} costs {price}")?))
 }
 
 /// Validates the bytes and the order of their keys, and returns the price of a name.

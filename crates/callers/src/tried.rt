@@ -1,17 +1,23 @@
 //! The callers, run once each on a list of two prices.
 
-use crate::building::{Squares, archive_of, squares, word_lengths};
+use crate::accounts::{Account, Ledger, pay};
+use crate::building::{Squares, archive_of, prices_of, squares, word_lengths};
 use crate::editing::{double_all, double_along, raise_price, set_price, set_price_strict};
+use crate::many::total_in;
 use crate::merging::merge;
+use crate::nested::{Days, archive_of_inbox, sent_between, sent_on};
+use crate::pairs::{Visits, correct, visits, visits_between, visits_in};
 use crate::reading::{
-    Prices, count, first_above, first_longer, price_in, price_in_strict, price_unverified,
-    price_with, total, total_between, total_between_unverified, total_of, total_of_prefix,
-    total_unverified,
+    Prices, count, first_above, first_longer, last_line, price_in, price_in_strict,
+    price_unverified, price_with, total, total_between, total_between_unverified, total_of,
+    total_of_prefix, total_unverified,
 };
+use crate::typed::{are_prices, change_typed, name_of_celsius, price_typed, typed_archive_of};
 use rkyv_btree::prelude::*;
 use std::alloc::Global;
-use std::collections::BTreeSet;
+use std::collections::{BTreeMap, BTreeSet};
 use std::convert::AsStr;
+use std::io::Cursor;
 use std::test::Fail;
 
 type Numbers = Archived<BTreeSet<u32>>;
@@ -38,6 +44,9 @@ fn prices_are_read(rt: HostRuntime) -> Result<(), Fail> {
     assert_eq!(rt; total_between(map, "b", "q"), 5);
     assert_eq!(rt; total_of(map, &["pear", "plum", "apple", "pear"]), 13);
     assert_eq!(rt; count(map), 2);
+    assert_eq!(rt; map.keys().len(), map.len());
+    let line = last_line(rt.alloc(), map)?.expect(&rt, "a line");
+    assert_eq!(rt; line.as_str(), "pear costs 5");
     Ok(())
 }
 
@@ -61,10 +70,72 @@ fn prices_are_edited(rt: HostRuntime) -> Result<(), Fail> {
 }
 
 #[test]
+fn prices_are_read_while_they_are_edited(rt: HostRuntime) -> Result<(), Fail> {
+    let mut bytes = two(rt.alloc())?;
+    sizes_fit::<Prices>();
+    let mut map = open_strict_mut::<Prices>(bytes.as_mut_slice())?;
+    assert!(rt; map.set_by("apple", 4));
+    assert_eq!(rt; map.get_native_by("apple"), Some(4));
+    assert!(rt; map.contains_by("pear") && !map.contains_by("plum"));
+    assert!(rt; map.get_by("plum").is_none());
+    assert_eq!(rt; (map.len(), map.is_empty()), (2, false));
+    let (first, _) = map.first().expect(&rt, "a first entry");
+    assert_eq!(rt; AsStr::as_str(&first), "apple");
+    let (last, _) = map.last().expect(&rt, "a last entry");
+    assert_eq!(rt; AsStr::as_str(&last), "pear");
+    Ok(())
+}
+
+#[test]
+fn prices_are_found_in_a_file(rt: HostRuntime) -> Result<(), Fail> {
+    let bytes = two(rt.alloc())?;
+    let (total, read) = total_in(Cursor::new(bytes.as_slice()), &["pear", "plum"], 4096)?;
+    assert_eq!(rt; total, 5);
+    assert!(rt; 0 < read && read < 4096);
+    assert!(rt; total_in(Cursor::new(bytes.as_slice()), &["pear"], 8).is_err());
+    Ok(())
+}
+
+#[test]
+fn accounts_are_paid_into(rt: HostRuntime) -> Result<(), Fail> {
+    let alloc = rt.alloc();
+    sizes_fit::<Ledger>();
+    let mut accounts: BTreeMap<String, Account> = BTreeMap::new(alloc);
+    let account = Account {
+        cents: 1000,
+        flags: 1,
+        branch: 12,
+    };
+    accounts.insert(String::from_str(alloc, "ann")?, account)?;
+    let mut bytes = to_archive(alloc, &accounts)?;
+    assert_eq!(rt; pay(bytes.as_mut_slice(), "ann", 50)?, Some(1000));
+    assert_eq!(rt; pay(bytes.as_mut_slice(), "bob", 50)?, None);
+    let ledger = open_strict::<Ledger>(bytes.as_slice())?;
+    let paid = ledger.get_native_by("ann").expect(&rt, "an account");
+    assert_eq!(rt; paid.cents, 1050);
+    assert_eq!(rt; (paid.flags, paid.branch), (1, 12));
+    Ok(())
+}
+
+#[test]
 fn words_are_archived_where_they_are(rt: HostRuntime) -> Result<(), Fail> {
-    let bytes = word_lengths(rt.alloc(), &["", "bar", "foobar"])?;
+    let (bytes, _) = word_lengths(rt.alloc(), &["", "bar", "foobar"])?;
     assert_eq!(rt; price_in_strict(bytes.as_slice(), "")?, Some(0));
     assert_eq!(rt; price_in_strict(bytes.as_slice(), "foobar")?, Some(6));
+    Ok(())
+}
+
+#[test]
+fn lists_become_archives(rt: HostRuntime) -> Result<(), Fail> {
+    let alloc = rt.alloc();
+    let prices = [
+        (String::from_str(alloc, "apple")?, 3),
+        (String::from_str(alloc, "pear")?, 5),
+    ];
+    assert_eq!(rt;
+        prices_of(alloc, &prices)?.as_slice(),
+        two(alloc)?.as_slice()
+    );
     Ok(())
 }
 
@@ -136,6 +207,9 @@ fn sets_are_read(rt: HostRuntime) -> Result<(), Fail> {
         .map(|number| number.to_native());
     assert_eq!(rt; last, Some(7));
     assert_eq!(rt; set.len(), 3);
+    assert_eq!(rt; set.iter().len(), set.len());
+    assert_eq!(rt; set.first().map(|number| number.to_native()), Some(2));
+    assert_eq!(rt; set.last().map(|number| number.to_native()), Some(7));
     assert_eq!(rt; strict.len(), 3);
     Ok(())
 }
@@ -175,5 +249,58 @@ fn strict_prices_are_read(rt: HostRuntime) -> Result<(), Fail> {
     assert_eq!(rt; view.position() as usize, bytes.len().saturating_sub(8));
     let (name, _) = view.get_key_value_by("pear").expect(&rt, "a pear");
     assert_eq!(rt; AsStr::as_str(&name), "pear");
+    Ok(())
+}
+
+#[test]
+fn typed_files_are_opened(rt: HostRuntime) -> Result<(), Fail> {
+    let alloc = rt.alloc();
+    let prices = [
+        (String::from_str(alloc, "apple")?, 3),
+        (String::from_str(alloc, "pear")?, 5),
+    ];
+    let mut bytes = typed_archive_of(alloc, &prices)?;
+    are_prices(bytes.as_slice())?;
+    assert!(rt; are_prices(two(alloc)?.as_slice()).is_err());
+    assert_eq!(rt; price_typed(bytes.as_slice(), "pear")?, Some(5));
+    assert!(rt; change_typed(bytes.as_mut_slice(), "pear", 6)?);
+    assert_eq!(rt; price_in(bytes.as_slice(), "pear")?, Some(6));
+    assert_eq!(rt; name_of_celsius(alloc)?.as_str(), "<Celsius>");
+    Ok(())
+}
+
+#[test]
+#[tactic(auto, unfolding(rkyv_btree_portable::specs::Rounding::round_up))]
+fn pairs_are_keys(rt: HostRuntime) -> Result<(), Fail> {
+    let alloc = rt.alloc();
+    sizes_fit::<Visits>();
+    let mut by_city: BTreeMap<(String, u32), u64> = BTreeMap::new(alloc);
+    for (city, year, count) in [("oslo", 2020, 3), ("bern", 2020, 4), ("oslo", 2022, 5)] {
+        by_city.insert((String::from_str(alloc, city)?, year), count)?;
+    }
+    let mut bytes = to_archive(alloc, &by_city)?;
+    assert_eq!(rt; visits(bytes.as_slice(), "oslo", 2020)?, Some(3));
+    assert_eq!(rt; visits(bytes.as_slice(), "oslo", 2021)?, None);
+    assert_eq!(rt; visits_between(bytes.as_slice(), "oslo", 2020, 2022)?, 8);
+    assert_eq!(rt; visits_in(bytes.as_slice(), 2020)?, 7);
+    assert!(rt; correct(bytes.as_mut_slice(), "bern", 2020, 6)?);
+    assert_eq!(rt; visits_in(bytes.as_slice(), 2020)?, 9);
+    Ok(())
+}
+
+#[test]
+fn maps_are_values(rt: HostRuntime) -> Result<(), Fail> {
+    let alloc = rt.alloc();
+    let mut days: Days = BTreeMap::new(alloc);
+    days.insert(3, 10)?;
+    days.insert(5, 20)?;
+    let mut inbox: BTreeMap<String, Days> = BTreeMap::new(alloc);
+    inbox.insert(String::from_str(alloc, "ann")?, days)?;
+    let bytes = archive_of_inbox(alloc, &inbox)?;
+    assert_eq!(rt; sent_on(bytes.as_slice(), "ann", 5)?, Some(20));
+    assert_eq!(rt; sent_on(bytes.as_slice(), "ann", 4)?, None);
+    assert_eq!(rt; sent_on(bytes.as_slice(), "bob", 5)?, None);
+    assert_eq!(rt; sent_between(bytes.as_slice(), "ann", 3, 5)?, 30);
+    assert_eq!(rt; sent_between(bytes.as_slice(), "bob", 3, 5)?, 0);
     Ok(())
 }

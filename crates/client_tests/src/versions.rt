@@ -2,6 +2,7 @@
 
 use crate::shared::{number, same};
 use examples::version::{ArchivedVersion, NO_VERSION, Version};
+use rkyv_btree::base::build::BuildMap;
 use rkyv_btree::base::fault::{EntryFault, Fault};
 use rkyv_btree::base::layout;
 use rkyv_btree::base::map::ArchivedBTreeMap;

@@ -4,7 +4,7 @@ use Rattle.std.specs.Prelude.{Result}
 use Rattle.rkyv_btree_base.specs.EntryFault.{EntryFault}
 use Rattle.rkyv_btree_base.specs.Kind.{Kind, IsLawful}
 use Rattle.rkyv_btree_base.specs.Refusal.{Refusal}
-use Rattle.rkyv_btree_base.specs.Whole.{IsArchiveOf, own_at}
+use Rattle.rkyv_btree_base.specs.OwnBytes.{IsArchiveOf, own_at}
 use Rattle.rkyv_btree.specs.FromArchiveFault.{FromArchiveFault}
 use Rattle.rkyv_btree.specs.FromArchiveFault.TheVariants.{Refused, NotMade}
 use Rattle.rkyv_btree.specs.Whole.{IsUnmade}

@@ -3,7 +3,7 @@ use Rattle.std.specs.Prelude.{ℕ, List}
 use Rattle.rkyv_btree_base.specs.Map.{map_kind}
 use Rattle.rkyv_btree_base.specs.Scalars.{u32_kind}
 use Rattle.rkyv_btree_base.specs.Text.{text_kind}
-use Rattle.rkyv_btree_base.specs.Whole.{IsArchiveOf}
+use Rattle.rkyv_btree_base.specs.OwnBytes.{IsArchiveOf}
 use Rattle.rkyv_btree_base.specs.Increasing.{Increasing}
 
 -- the bytes are an archive of these prices, whose names increase

@@ -91,6 +91,27 @@ pub(crate) fn open<K: CheckBytes + Shown, V: CheckBytes + Shown, const E: usize>
     list::<K, V, E>(alloc, input.rest, pos, out)
 }
 
+/// Appends how many keys and values the map of a case has by their iterators, and its first and its last entry.
+pub(crate) fn ends<K: CheckBytes + Shown, V: CheckBytes + Shown, const E: usize>(
+    case: &[u8],
+    out: &mut String,
+) -> anyhow::Result<()> {
+    let mut input = Input { rest: case };
+    let pos = input.number()?;
+    let Some(map) = opened::<K, V, E>(input.rest, pos, out)? else {
+        return Ok(());
+    };
+    let (keys, values) = (map.keys().len(), map.values().len());
+    write!(out, "{keys} keys, {values} values:")?;
+    for end in [map.first(), map.last()] {
+        match end {
+            None => write!(out, " none")?,
+            Some((key, value)) => show_entry(key, value, out)?,
+        }
+    }
+    Ok(())
+}
+
 /// Appends how many items an iterator has left by its length, and whether its hint differs.
 fn show_left(left: usize, hint: (usize, Option<usize>), out: &mut String) -> anyhow::Result<()> {
     write!(out, "/{left}")?;

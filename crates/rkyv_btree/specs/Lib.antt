@@ -23,6 +23,13 @@ pub use Rattle.rkyv_btree_seal.specs.declared.seal.Seal
 pub use Rattle.rkyv_btree_strict.specs.Migrated
 pub use Rattle.rkyv_btree_strict.specs.Stays
 pub use Rattle.rkyv_btree_strict.specs.Strict
+pub use Rattle.rkyv_btree_typed.specs.Stripping
+pub use Rattle.rkyv_btree_typed.specs.TypeHeader
+pub use Rattle.rkyv_btree_typed.specs.TypeNames
+pub use Rattle.rkyv_btree_typed.specs.TypedOpening
+pub use Rattle.rkyv_btree_typed.specs.TypedWriting
+pub use Rattle.rkyv_btree_typed.specs.declared.header.HeaderFault
+pub use Rattle.rkyv_btree_typed.specs.declared.type_check.TypedRefusal
 pub use Rattle.rkyv_btree_view.specs.Items
 pub use Rattle.rkyv_btree_view.specs.Iter
 pub use Rattle.rkyv_btree_view.specs.Keys

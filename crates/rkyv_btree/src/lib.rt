@@ -75,7 +75,8 @@ pub mod laws {
         natives_are_ordered_alike, neighbours_decide_order, pairs_are_ordered_alike,
         std_maps_are_increasing, visits_keep_strict_maps, writes_keep_strict_maps,
     };
-    pub use rkyv_btree_unverified::unverified_laws::{lookups_are_determined, maps_are_searched};
+    pub use rkyv_btree_typed::type_laws::names_are_apart;
+    pub use rkyv_btree_unverified::laws::{lookups_are_determined, maps_are_searched};
     pub use rkyv_btree_view::lookup::{
         increasing_keys_are_found, searched_trees_are_spelled, what_is_found_is_equal,
     };
@@ -120,13 +121,13 @@ pub mod set {
 
 /// Lookups in a source of bytes that isn't read whole, as a file.
 pub mod source {
+    pub use rkyv_btree_source::fault::SourceFault;
     pub use rkyv_btree_source::fetch::Fetch;
+    pub use rkyv_btree_source::laws::takes_cover_reads;
     pub use rkyv_btree_source::piece::{Missing, Piece};
     pub use rkyv_btree_source::pieces::Pieces;
     pub use rkyv_btree_source::reader::Reader;
     pub use rkyv_btree_source::source::{ReadAt, SeekSource};
-    pub use rkyv_btree_source::source_fault::SourceFault;
-    pub use rkyv_btree_source::source_laws::takes_cover_reads;
     pub use rkyv_btree_source::unverified_source::UnverifiedSource;
 }
 
@@ -144,14 +145,27 @@ pub mod strict {
     pub use rkyv_btree_strict::strict_map::{Strict, StrictView};
 }
 
+/// Files that state the type of their map: a header with its name, and then an archive.
+pub mod typed {
+    pub use rkyv_btree_typed::found_name::FoundName;
+    pub use rkyv_btree_typed::from_typed::{FromTypedFault, from_typed_archive};
+    pub use rkyv_btree_typed::header::{HeaderFault, header_of, type_name_of};
+    pub use rkyv_btree_typed::open_typed::{
+        open_typed, open_typed_mut, open_typed_strict, open_typed_strict_mut, open_typed_unverified,
+    };
+    pub use rkyv_btree_typed::to_typed::{to_typed_archive, write_header};
+    pub use rkyv_btree_typed::type_check::{OtherType, TypedRefusal, check_type};
+    pub use rkyv_btree_typed::type_name::{NameOf, StatedName, TypeName};
+}
+
 /// Lookups in bytes that nobody has validated.
 pub mod unverified {
+    pub use rkyv_btree_unverified::get_many::{UnverifiedKeyLookups, UnverifiedLookups};
+    pub use rkyv_btree_unverified::iter::UnverifiedIter;
+    pub use rkyv_btree_unverified::keys::UnverifiedKeys;
+    pub use rkyv_btree_unverified::range::UnverifiedRange;
+    pub use rkyv_btree_unverified::range_keys::UnverifiedRangeKeys;
     pub use rkyv_btree_unverified::unverified::Unverified;
-    pub use rkyv_btree_unverified::unverified_get_many::{UnverifiedKeyLookups, UnverifiedLookups};
-    pub use rkyv_btree_unverified::unverified_iter::UnverifiedIter;
-    pub use rkyv_btree_unverified::unverified_keys::UnverifiedKeys;
-    pub use rkyv_btree_unverified::unverified_range::UnverifiedRange;
-    pub use rkyv_btree_unverified::unverified_range_keys::UnverifiedRangeKeys;
 }
 
 /// Values in a buffer.
@@ -168,10 +182,16 @@ pub mod whole {
 /// What most programs name.
 pub mod prelude {
     pub use rkyv_btree_base::archive::{Archive, Archived, Native, Serialize};
+    pub use rkyv_btree_base::build::{BuildMap, BuildSet};
+    pub use rkyv_btree_base::byte_string::ArchivedBytes;
     pub use rkyv_btree_base::check::{CheckBytes, InPlace, Portable};
     pub use rkyv_btree_base::fault::Fault;
     pub use rkyv_btree_base::io_writer::IoWriter;
     pub use rkyv_btree_base::map::ArchivedBTreeMap;
+    pub use rkyv_btree_base::non_zeros::{
+        ArchivedNonZeroI16, ArchivedNonZeroI32, ArchivedNonZeroI64, ArchivedNonZeroU16,
+        ArchivedNonZeroU64,
+    };
     pub use rkyv_btree_base::numbers::{ArchivedU16, ArchivedU32, ArchivedU64};
     pub use rkyv_btree_base::place::VecWriter;
     pub use rkyv_btree_base::refusal::Refusal;
@@ -195,8 +215,16 @@ pub mod prelude {
     pub use rkyv_btree_seal::seal::Seal;
     pub use rkyv_btree_strict::strict::{CheckStrict, access_strict, open_strict, open_strict_mut};
     pub use rkyv_btree_strict::strict_map::{Strict, StrictView};
+    pub use rkyv_btree_typed::from_typed::from_typed_archive;
+    pub use rkyv_btree_typed::header::type_name_of;
+    pub use rkyv_btree_typed::open_typed::{
+        open_typed, open_typed_mut, open_typed_strict, open_typed_strict_mut, open_typed_unverified,
+    };
+    pub use rkyv_btree_typed::to_typed::{to_typed_archive, write_header};
+    pub use rkyv_btree_typed::type_check::TypedRefusal;
+    pub use rkyv_btree_typed::type_name::{StatedName, TypeName};
+    pub use rkyv_btree_unverified::get_many::{UnverifiedKeyLookups, UnverifiedLookups};
     pub use rkyv_btree_unverified::unverified::Unverified;
-    pub use rkyv_btree_unverified::unverified_get_many::{UnverifiedKeyLookups, UnverifiedLookups};
     pub use rkyv_btree_view::compare::{ViewEq, ViewHash, ViewOrd};
     pub use rkyv_btree_view::compare_native::{CompareWith, SameAs};
     pub use rkyv_btree_view::map_view::access;

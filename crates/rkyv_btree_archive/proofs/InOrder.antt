@@ -13,11 +13,11 @@ use Rattle.rkyv_btree_writer.specs.Writing.{Writing}
 use Rattle.rkyv_btree_writer.specs.declared.fault.Fault.{Fault}
 use Rattle.rkyv_btree_writer.specs.declared.fault.Fault.TheVariants.{Length, LengthOverflow, PositionOverflow, OffsetOverflow, Writer, Memory, Entry, OutOfOrder}
 use Rattle.rkyv_btree_writing_laws.specs.Entries.{both_borrowed}
-use Rattle.rkyv_btree_writing_laws.specs.Increasing.{Increasing, IsOutOfOrder}
+use Rattle.rkyv_btree_format.specs.Increasing.{Increasing, IsOutOfOrder}
 use Rattle.rkyv_btree_writing_laws.specs.Miscounts.{IsLimited, IsMiscount}
 use Rattle.rkyv_btree_writing_laws.specs.Serialising.{BeginClaimed, Serialised, StoppedBuilding, Miscounted}
 use Rattle.rkyv_btree_writing_laws.specs.StrictBuilding.{SerialisedInOrder, MetOutOfOrder, StoppedInOrder, StrictFault}
-use Rattle.rkyv_btree_writing_laws.proofs.Increasing.{alone, increasing_snoc, nothing}
+use Rattle.rkyv_btree_format.proofs.Increasing.{alone, increasing_snoc, nothing}
 use Rattle.rkyv_btree_archive.specs.declared.items.Source.{Source}
 use Rattle.rkyv_btree_archive.specs.declared.strict_build.InOrder.{InOrder}
 use Rattle.rkyv_btree_archive.specs.mirror.Ended.{CountsTo, FaultAt}

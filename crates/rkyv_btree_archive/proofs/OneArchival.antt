@@ -6,6 +6,7 @@ use Rattle.rkyv_btree_portable.specs.Entry.{value_offset, entry_size}
 use Rattle.rkyv_btree_archive.specs.EntryArchival.{EntryWrites, EntryResolves, entry_archival}
 use Rattle.rkyv_btree_portable.specs.Bytes.{filled}
 use Rattle.rkyv_btree_portable.specs.Kind.{Kind}
+use Rattle.rkyv_btree_writer.specs.BytesArchival.{bytes_archival}
 use Rattle.rkyv_btree_writer.specs.TextArchival.{text_archival, text_own, text_writes}
 use Rattle.rkyv_btree_writer.specs.Writing.{Write, appended}
 use Rattle.rkyv_btree_writer.specs.declared.fault.EntryFault.{EntryFault}
@@ -43,3 +44,9 @@ module _ {X M N R S : Type 0} (K : Archival M R) (V : Archival N S) (pair : X �
 
   pub entry_determined : IsDetermined (entry_archival K V pair)
   entry_determined = record { serialised = both_serialised; resolved = both_resolved }
+
+pub bytes_determined : {X : Type 0} (bytes : X → List ℕ) → IsDetermined (bytes_archival bytes)
+bytes_determined bytes = record {
+  serialised = λ x y from writes others r q same a b. (a.1 ∙ (ap text_writes same ∙ sym b.1), a.0 ∙ sym b.0);
+  resolved = λ x y r at own other same a b. a.1 ∙ (ap (λ (own : List ℕ). text_own at r (length own)) same ∙ sym b.1);
+}

@@ -1,4 +1,5 @@
 pub mod EntryArchival
+pub mod ListArchives
 pub mod TryBuilding
 pub mod laws
 pub mod mirror

@@ -1,31 +1,27 @@
 //! Building archived maps.
 ghost use Rattle.rkyv_btree_writing_laws.specs.Entries.{both_borrowed};
-ghost use Rattle.std.specs.Prelude.{◌≡◌, ℕ, ◌+◌, ◌-◌, ◌*◌, ◌^◌, ◌<◌, ◌≤◌, ◌↔◌, length, true, None, IsOk, OnOk, OnErr, IfOk, IfErr, IsErrOf, IsTrue};
+ghost use Rattle.std.specs.Prelude.{◌≡◌, ℕ, ◌+◌, ◌*◌, ◌^◌, ◌<◌, ◌≤◌, length, None, IfOk, IfErr, IsTrue};
 ghost use Rattle.std.specs.Iterator.{UpTo};
 ghost use Rattle.rkyv_btree_writing_laws.specs.Archives.{SerialisedIsAccepted, EmptyIsAccepted, WrittenIsHeld};
 ghost use Rattle.rkyv_btree_writing_laws.specs.Alike.{TreesAreDetermined};
-ghost use Rattle.rkyv_btree_writing_laws.specs.Image.{root_bytes, root_reaches};
+ghost use Rattle.rkyv_btree_writing_laws.specs.Building.{IsRootFilled};
 ghost use Rattle.rkyv_btree_format.specs.Layout.{layout_of, are_fitting};
 ghost use Rattle.rkyv_btree_shape.specs.Logarithm.{ilog};
 ghost use Rattle.rkyv_btree_archive.specs.mirror.Ended.{IsBuiltTo, IsUnbuiltAt};
 ghost use Rattle.rkyv_btree_archive.specs.mirror.Scratch.{IsFree, IsReserved};
 ghost use Rattle.rkyv_btree_archive.specs.mirror.Source.{Gives};
 ghost use Rattle.rkyv_btree_writing_laws.specs.Miscounts.{IsLimited};
-ghost use Rattle.rkyv_btree_writer.specs.Writing.{last_end};
-ghost use Rattle.rkyv_btree_writing_laws.specs.Building.{IsBuilt, IsUnbuilt, IsRootWritten, IsRootUnwritten};
 
 use crate::archive::{Archive, Serialize};
 use crate::borrow::Borrow;
-use crate::items::{AnyOrder, Look, Source, none_left};
-use crate::map_type::ArchivedBTreeMap;
+use crate::items::{Look, Source, none_left};
 use crate::node_writes::reserve_scratch;
 use crate::tree::{Lists, Written, write_tree};
-use rkyv_btree_format::layout;
 use rkyv_btree_portable::check::Portable;
 use rkyv_btree_shape::height::entries_to_height;
-use rkyv_btree_writer::bounded_writes::{LAST_END, pad, put};
-use rkyv_btree_writer::fault::{Fault, IteratorLengthMismatch, ResolveFault};
-use rkyv_btree_writer::place::{Place, Writer, write_offset};
+use rkyv_btree_writer::bounded_writes::LAST_END;
+use rkyv_btree_writer::fault::{Fault, ResolveFault};
+use rkyv_btree_writer::place::{Writer, write_offset};
 use std::alloc::{AllocError, Allocator};
 use std::marker::Model;
 
@@ -180,62 +176,6 @@ where
     build_some::<BKU, BVU, KU, VU, K, V, W, A, I, L, E>(alloc, len, source, writer)
 }
 
-impl<K: Portable, V: Portable, const E: usize> ArchivedBTreeMap<K, V, E> {
-    /// Serializes the items of an iterator, in their order, as the tree of a map, and returns the position of its root node.
-    /// `len` is the declared number of items. The entries of a node are serialized before the node is written, each key before
-    /// its value. All memory is reserved before the first byte is written. `next` isn't called again after it has returned `None`.
-    /// Items lend their keys and values, so owned ones do as well as references. Only those of the open nodes and of one leaf are kept.
-    ///
-    /// # Errors
-    ///
-    /// - `LengthOverflow` if `len` is past 32 bits. No item is taken then.
-    /// - `Memory` if an allocation fails. The writer's contents are unchanged, unless the memory was for serializing a key or value.
-    /// - `Length` if there are fewer or more items than `len`. With too many items it has the count of all of them.
-    /// - `PositionOverflow` or `OffsetOverflow` if a position or the distance of a pointer doesn't fit.
-    /// - `Writer` with the writer's own error, and `Entry` with that of a key or value.
-    ///
-    /// After an error the writer's contents begin with the old ones.
-    ///
-    /// # Examples
-    ///
-    /// ```rust
-    /// Numbers::serialize_from_ordered_iter(alloc, entries.len(), items, writer)
-    /// ```
-    pub fn serialize_from_ordered_iter<BKU, BVU, KU, VU, W, A, I>(
-        alloc: A,
-        len: usize,
-        iter: I,
-        writer: &mut W,
-    ) -> Result<BTreeMapResolver, Fault<W::Error>>
-    where
-        BKU: Borrow<KU> + Drop,
-        BVU: Borrow<VU> + Drop,
-        KU: Archive<Archived = K> + Serialize<W, A>,
-        VU: Archive<Archived = V> + Serialize<W, A>,
-        W: Writer,
-        A: Allocator + Copy,
-        I: Iterator<Item = (BKU, BVU)>,
-        requires fitting { IsTrue (are_fitting K.kind V.kind E) }
-        requires can { I.can_next iter }
-        requires ends { UpTo (I.remaining iter) 18446744073709551615 }
-        ensures ok { IfOk result
-            (IsBuilt K.kind V.kind E KU.archival VU.archival
-            (both_borrowed BKU.borrowed BVU.borrowed) I.next_gives iter len W.state writer.old
-            writer.new) }
-        ensures err { IfErr result
-            (IsUnbuilt K.kind V.kind E KU.archival VU.archival
-            (both_borrowed BKU.borrowed BVU.borrowed) I.next_gives iter len W.state writer.old
-            writer.new) }
-        ensures limits { IsLimited len (W.state writer.old) (W.state writer.new) result }
-    {
-        let mut source = Source {
-            items: iter,
-            look: AnyOrder {},
-        };
-        build_from::<BKU, BVU, KU, VU, K, V, W, A, I, AnyOrder, E>(alloc, len, &mut source, writer)
-    }
-}
-
 /// Fills the eight bytes of a map at position `pos`.
 pub(crate) fn fill_root(
     pos: u32,
@@ -244,10 +184,7 @@ pub(crate) fn fill_root(
     root: u32,
 ) -> Result<(), ResolveFault>
     requires { length bytes.old ≡ 8 }
-    ensures ok { OnOk result (bytes.new ≡ root_bytes pos root len) }
-    ensures err { OnErr result (bytes.new ≡ bytes.old) }
-    ensures fits { IsOk result ↔ ((len ≤ last_end) × (root_reaches pos root len ≡ true)) }
-    ensures length { IsErrOf result ResolveFault.LengthOverflow ↔ (last_end < len) }
+    ensures filled { IsRootFilled pos root len bytes.old bytes.new result }
 {
     let Ok(count) = u32::try_from(len) else {
         return Err(ResolveFault::LengthOverflow);
@@ -262,69 +199,6 @@ pub(crate) fn fill_root(
     front.copy_from_slice(&pointer);
     back.copy_from_slice(&count.to_le_bytes());
     Ok(())
-}
-
-impl<K, V, const E: usize> ArchivedBTreeMap<K, V, E> {
-    /// Writes the map of a root node that was serialized for `len` entries.
-    ///
-    /// # Errors
-    ///
-    /// `LengthOverflow` if `len` is past 32 bits, and `OffsetOverflow` if the distance to the root is no offset. The place is unchanged
-    /// then.
-    pub fn resolve_from_len(
-        len: usize,
-        resolver: BTreeMapResolver,
-        out: Place<'_, ArchivedBTreeMap<K, V, E>>,
-    ) -> Result<(), ResolveFault>
-        requires { length out.bytes.now ≡ 8 }
-        ensures ok { OnOk result (out.exit.1.0.now ≡ root_bytes out.entry.pos resolver len) }
-        ensures err { OnErr result (out.exit.1.0.now ≡ out.entry.bytes.now) }
-        ensures fits { IsOk result
-            ↔ ((len ≤ last_end) × (root_reaches out.entry.pos resolver len ≡ true)) }
-        ensures length { IsErrOf result ResolveFault.LengthOverflow ↔ (last_end < len) }
-    {
-        let Place { pos, bytes, of: _ } = out;
-        fill_root(pos, bytes, len, resolver.root)
-    }
-
-    /// Writes zeros up to a multiple of 4 and then the map, and returns the map's position.
-    ///
-    /// # Errors
-    ///
-    /// `Writer` with the writer's own error, `PositionOverflow`, and those of `resolve_from_len`. What was written remains.
-    ///
-    /// # Examples
-    ///
-    /// ```rust
-    /// let mut writer = IoWriter::new(BufWriter::new(alloc, file)?);
-    /// let tree = Prices::serialize_from_exact_iter(alloc, items, &mut writer)?;
-    /// let root = Prices::write_root(prices.len(), tree, &mut writer)?;
-    /// ```
-    pub fn write_root<W: Writer>(
-        len: usize,
-        resolver: BTreeMapResolver,
-        writer: &mut W,
-    ) -> Result<u32, Fault<W::Error>>
-        ensures ok { IfOk result
-            (IsRootWritten len resolver (W.state writer.old) (W.state writer.new)) }
-        ensures err { IfErr result
-            (IsRootUnwritten len resolver (W.state writer.old) (W.state writer.new)) }
-    {
-        if len > 4294967295 {
-            return Err(Fault::LengthOverflow);
-        }
-        let pos = pad(writer, 4)?;
-        if pos > LAST_END - 8 {
-            return Err(Fault::PositionOverflow);
-        }
-        let mut own = [0; 8];
-        match fill_root(pos as u32, &mut own, len, resolver.root) {
-            Ok(()) => {}
-            Err(_) => return Err(Fault::OffsetOverflow),
-        }
-        put(writer, &own)?;
-        Ok(pos as u32)
-    }
 }
 
 /// States that a map is accepted, and means the list of the items, in a buffer that holds what was serialized and then the map

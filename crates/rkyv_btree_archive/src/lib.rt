@@ -4,13 +4,14 @@
 pub mod archive;
 pub mod borrow;
 pub mod build;
+pub mod build_map;
+pub mod build_set;
+pub mod byte_string;
 mod entries;
-pub mod exact;
 pub mod items;
-pub mod map_type;
 mod node_bytes;
 pub mod node_writes;
-pub mod set_type;
+mod non_zeros;
 pub mod std_types;
 pub mod strict_build;
 pub mod string;

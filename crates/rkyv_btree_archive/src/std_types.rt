@@ -3,7 +3,8 @@ ghost use Rattle.std.specs.Prelude.{◌≡◌, ◌<◌, length, alloc_error, IsT
 ghost use Rattle.rkyv_btree_format.specs.Layout.{are_fitting};
 ghost use Rattle.rkyv_btree_writing_laws.specs.Determined.{IsDetermined};
 ghost use Rattle.rkyv_btree_writing_laws.specs.Kept.{NeverGrows, OnlyAppended};
-ghost use Rattle.rkyv_btree_writing_laws.specs.Sets.{unit_archival, with_units};
+ghost use Rattle.rkyv_btree_writing_laws.specs.Sets.{unit_archival};
+ghost use Rattle.rkyv_btree_format.specs.Units.{with_units};
 ghost use Rattle.rkyv_btree_writing_laws.specs.TreeArchival.{IsRoot, tree_archival};
 ghost use Rattle.rkyv_btree_writing_laws.proofs.MapSame.{same_map};
 ghost use Rattle.rkyv_btree_writing_laws.proofs.TreeArchived.{tree_archived, tree_causes};
@@ -18,8 +19,10 @@ ghost use Rattle.rkyv_btree_writing_laws.specs.Building.{IsBuiltOf};
 
 use crate::archive::{Archive, Serialize};
 use crate::build::{BTreeMapResolver, fill_root};
-use crate::map_type::ArchivedBTreeMap;
-use crate::set_type::{ArchivedBTreeSet, BTreeSetResolver};
+use crate::build_map::BuildMap;
+use crate::build_set::{BTreeSetResolver, BuildSet};
+use rkyv_btree_types::map::ArchivedBTreeMap;
+use rkyv_btree_types::set::ArchivedBTreeSet;
 use rkyv_btree_writer::fault::{Fault, ResolveFault};
 use rkyv_btree_writer::place::{Place, Writer};
 use std::alloc::Allocator;

@@ -19,7 +19,12 @@ use rkyv_btree_writer::fault::{Fault, ResolveFault};
 use rkyv_btree_writer::place::{Place, Writer, write_offset};
 
 /// Writes the eight bytes, at `pos`, of a text of `len` bytes that starts at `start`.
-fn fill_text(pos: u32, bytes: &mut [u8], start: u32, len: usize) -> Result<(), ResolveFault>
+pub(crate) fn fill_text(
+    pos: u32,
+    bytes: &mut [u8],
+    start: u32,
+    len: usize,
+) -> Result<(), ResolveFault>
     requires { length bytes.old ≡ 8 }
     ensures ok { OnOk result (FitsText pos start len × (bytes.new ≡ text_own pos start len)) }
     ensures length { IsErrOf result ResolveFault.LengthOverflow ↔ (4294967295 < len) }

@@ -1,6 +1,7 @@
 //! Whole archives: the bytes of one value from position 0 on, its own at their end.
 ghost use Rattle.std.specs.Prelude.{◌≡◌, ◌+◌, ◌≤◌, length, IsTrue, IfOk, IfErr};
-ghost use Rattle.rkyv_btree_writing_laws.specs.Whole.{IsArchiveOf, IsPlaced, IsUnplaced, IsUnwritten, LeftUnplaced, IsUnarchived};
+ghost use Rattle.rkyv_btree_writing_laws.specs.Whole.{IsPlaced, IsUnplaced, IsUnwritten, LeftUnplaced, IsUnarchived};
+ghost use Rattle.rkyv_btree_format.specs.OwnBytes.{IsArchiveOf};
 ghost use Rattle.rkyv_btree_portable.specs.Rounding.{round_up};
 ghost use Rattle.rkyv_btree_writer.specs.Archiving.{Matches};
 ghost use Rattle.rkyv_btree_writer.specs.Writing.{Writing, position};

@@ -18,11 +18,16 @@ pub use Rattle.rkyv_btree_portable.specs.InPlace
 pub use Rattle.rkyv_btree_portable.specs.Natives
 pub use Rattle.rkyv_btree_portable.specs.Views
 pub use Rattle.rkyv_btree_portable.specs.Text
+pub use Rattle.rkyv_btree_portable.specs.ByteStrings
+pub use Rattle.rkyv_btree_portable.specs.NonZeros
 pub use Rattle.rkyv_btree_portable.specs.Entry
 pub use Rattle.rkyv_btree_portable.specs.declared.refusal.Refusal
 pub use Rattle.rkyv_btree_format.specs.Layout
 pub use Rattle.rkyv_btree_format.specs.Spells
 pub use Rattle.rkyv_btree_format.specs.Read
+pub use Rattle.rkyv_btree_format.specs.Increasing
+pub use Rattle.rkyv_btree_format.specs.Units
+pub use Rattle.rkyv_btree_format.specs.OwnBytes
 pub use Rattle.rkyv_btree_verify.specs.Refusals
 pub use Rattle.rkyv_btree_verify.specs.Claims
 pub use Rattle.rkyv_btree_verify.specs.Map
@@ -36,6 +41,7 @@ pub use Rattle.rkyv_btree_writer.specs.Fields
 pub use Rattle.rkyv_btree_writer.specs.Archiving
 pub use Rattle.rkyv_btree_writer.specs.Causes
 pub use Rattle.rkyv_btree_writer.specs.TextArchival
+pub use Rattle.rkyv_btree_writer.specs.BytesArchival
 pub use Rattle.rkyv_btree_writer.specs.declared.fault.Fault
 pub use Rattle.rkyv_btree_writer.specs.declared.fault.ResolveFault
 pub use Rattle.rkyv_btree_writer.specs.declared.fault.EntryFault
@@ -55,7 +61,6 @@ pub use Rattle.rkyv_btree_writing_laws.specs.TreeArchival
 pub use Rattle.rkyv_btree_writing_laws.specs.Whole
 pub use Rattle.rkyv_btree_writing_laws.specs.Archives
 pub use Rattle.rkyv_btree_writing_laws.specs.SmallestMaps
-pub use Rattle.rkyv_btree_writing_laws.specs.Increasing
 pub use Rattle.rkyv_btree_writing_laws.specs.StrictBuilding
 pub use Rattle.rkyv_btree_writing_laws.specs.Building
 pub use Rattle.rkyv_btree_writing_laws.specs.Alike

@@ -2,7 +2,7 @@
 //! names that writes archives. It has no code of its own.
 #![tactic(auto)]
 
-pub use rkyv_btree_portable::{numbers, refusal, scalars, signed};
+pub use rkyv_btree_portable::{non_zeros, numbers, refusal, scalars, signed};
 pub use rkyv_btree_writer::{fault, io_writer};
 
 /// Values that can be archived.
@@ -10,9 +10,11 @@ pub mod archive {
     pub use rkyv_btree_archive::archive::{Archive, Archived, Native, Serialize};
 }
 
-/// What a serialized map or set leaves to be written: where its root is.
+/// Building maps and sets, and what a serialized one leaves to be written: where its root is.
 pub mod build {
     pub use rkyv_btree_archive::build::BTreeMapResolver;
+    pub use rkyv_btree_archive::build_map::BuildMap;
+    pub use rkyv_btree_archive::build_set::BuildSet;
 }
 
 /// Numbers and pointers in a buffer.
@@ -73,12 +75,18 @@ pub mod laws {
 
 /// Archived maps, as a type of bytes.
 pub mod map {
-    pub use rkyv_btree_archive::map_type::ArchivedBTreeMap;
+    pub use rkyv_btree_types::map::ArchivedBTreeMap;
 }
 
-/// Archived sets, as a type of bytes.
+/// Archived sets, as a type of bytes, and the check of untrusted bytes for one.
 pub mod set {
-    pub use rkyv_btree_archive::set_type::{ArchivedBTreeSet, BTreeSetResolver};
+    pub use rkyv_btree_archive::build_set::BTreeSetResolver;
+    pub use rkyv_btree_types::set::{ArchivedBTreeSet, verify};
+}
+
+/// Archived byte strings, as a type of bytes.
+pub mod byte_string {
+    pub use rkyv_btree_portable::byte_string::ArchivedBytes;
 }
 
 /// Archived texts, as a type of bytes.

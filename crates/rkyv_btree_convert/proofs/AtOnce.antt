@@ -11,7 +11,7 @@ use Rattle.std.specs.Option.{is_some}
 use Rattle.std.specs.Ordering.{eq_by_cmp, ordering_reverse}
 use Rattle.std.specs.declared.cmp.Ordering.{Ordering}
 use Rattle.std.specs.declared.cmp.Ordering.TheVariants.{Less, Equal, Greater}
-use Rattle.rkyv_btree_base.specs.Sets.{with_units}
+use Rattle.rkyv_btree_format.specs.Units.{with_units}
 use Rattle.rkyv_btree_convert.specs.Maps.{last_wins, model_both}
 use Rattle.rkyv_btree_convert.proofs.Puts.{model_put}
 use Rattle.rkyv_btree_convert.proofs.Units.{model_keys}

@@ -1,11 +1,11 @@
 -- Which whole archives are opened, and why others aren't.
 use Rattle.std.proofs.Common.{◌≡◌, ℕ, ◌≤◌, ◌<◌, ◌↔◌, List, length, refl, subst, sym, ap, arith}
 use Rattle.std.specs.Prelude.{Result, Ok, Err, IsOk}
-use Rattle.rkyv_btree_base.specs.Kind.{Kind, IsLawful}
-use Rattle.rkyv_btree_base.specs.Refusal.{Refusal}
-use Rattle.rkyv_btree_base.specs.Refusal.TheVariants.{TooLong}
-use Rattle.rkyv_btree_base.specs.Views.{MeansAt}
-use Rattle.rkyv_btree_base.specs.Whole.{IsArchiveOf, own_at}
+use Rattle.rkyv_btree_portable.specs.Kind.{Kind, IsLawful}
+use Rattle.rkyv_btree_portable.specs.declared.refusal.Refusal.{Refusal}
+use Rattle.rkyv_btree_portable.specs.declared.refusal.Refusal.TheVariants.{TooLong}
+use Rattle.rkyv_btree_portable.specs.Views.{MeansAt}
+use Rattle.rkyv_btree_format.specs.OwnBytes.{IsArchiveOf, own_at}
 use Rattle.rkyv_btree_convert.specs.Whole.{IsUnopened}
 
 module _ (kind : Kind) (laws : IsLawful kind) (bytes : List ℕ) where

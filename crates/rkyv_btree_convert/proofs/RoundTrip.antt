@@ -11,14 +11,14 @@ use Rattle.std.specs.Prelude.{Result, Ok}
 use Rattle.std.specs.Result.{result_map_both}
 use Rattle.std.specs.declared.cmp.Ordering.{Ordering}
 use Rattle.std.specs.declared.cmp.Ordering.TheVariants.{Less, Greater}
-use Rattle.rkyv_btree_base.specs.EntryFault.{EntryFault}
-use Rattle.rkyv_btree_base.specs.Kind.{Kind}
-use Rattle.rkyv_btree_base.specs.Layout.{layout_of, key_at, value_at}
-use Rattle.rkyv_btree_base.specs.Map.{map_kind}
-use Rattle.rkyv_btree_base.specs.Read.{entry_at, map_tree}
-use Rattle.rkyv_btree_base.specs.Scalars.{unit_kind}
-use Rattle.rkyv_btree_base.specs.Sets.{with_units}
-use Rattle.rkyv_btree_base.specs.Tree.{list}
+use Rattle.rkyv_btree_writer.specs.declared.fault.EntryFault.{EntryFault}
+use Rattle.rkyv_btree_portable.specs.Kind.{Kind}
+use Rattle.rkyv_btree_format.specs.Layout.{layout_of, key_at, value_at}
+use Rattle.rkyv_btree_verify.specs.Map.{map_kind}
+use Rattle.rkyv_btree_format.specs.Read.{entry_at, map_tree}
+use Rattle.rkyv_btree_portable.specs.Scalars.{unit_kind}
+use Rattle.rkyv_btree_format.specs.Units.{with_units}
+use Rattle.rkyv_btree_shape.specs.Tree.{list}
 use Rattle.rkyv_btree_convert.specs.Deserializing.{all}
 use Rattle.rkyv_btree_convert.specs.Maps.{given_at, last_wins, map_given, native_map, model_both}
 use Rattle.rkyv_btree_convert.specs.RoundTrip.{IsGivenBack, both_mean}

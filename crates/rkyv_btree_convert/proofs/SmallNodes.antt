@@ -2,9 +2,9 @@
 use Rattle.std.proofs.Common.{ℕ, ◌+◌, ◌*◌, ◌≤◌, ◌<◌, ◌&&◌, Bool, true, IsTrue, nat_le, max, refl, arith}
 use Rattle.std.proofs.lemmas.Bool.Decides.{nat_tests}
 use Rattle.std.proofs.Math.Nat.{mul-le-mul_right}
-use Rattle.rkyv_btree_base.specs.Kind.{Kind, IsLawful}
-use Rattle.rkyv_btree_base.specs.Layout.{NodeLayout, layout_of, are_fitting, keys_at, values_at, node_align, node_size, align, len_at, inner_size}
-use Rattle.rkyv_btree_base.specs.Rounding.{IsAlignment, one, two, four, eight, round_up}
+use Rattle.rkyv_btree_portable.specs.Kind.{Kind, IsLawful}
+use Rattle.rkyv_btree_format.specs.Layout.{NodeLayout, layout_of, are_fitting, keys_at, values_at, node_align, node_size, align, len_at, inner_size}
+use Rattle.rkyv_btree_portable.specs.Rounding.{IsAlignment, one, two, four, eight, round_up}
 use Rattle.rkyv_btree_portable.specs.laws.Rounding.{alignment_positive, round_up-lt}
 use Rattle.rkyv_btree_convert.specs.Sizes.{IsSmall}
 

@@ -8,11 +8,11 @@ use Rattle.std.specs.Prelude.{Result}
 use Rattle.std.specs.Result.{result_map_both}
 use Rattle.std.specs.declared.cmp.Ordering.{Ordering}
 use Rattle.std.specs.declared.cmp.Ordering.TheVariants.{Less, Equal, Greater}
-use Rattle.rkyv_btree_base.specs.Kind.{Kind}
-use Rattle.rkyv_btree_base.specs.Read.{read_map}
-use Rattle.rkyv_btree_base.specs.Scalars.{unit_kind}
-use Rattle.rkyv_btree_base.specs.Sets.{with_units}
-use Rattle.rkyv_btree_base.specs.EntryFault.{EntryFault}
+use Rattle.rkyv_btree_portable.specs.Kind.{Kind}
+use Rattle.rkyv_btree_format.specs.Read.{read_map}
+use Rattle.rkyv_btree_portable.specs.Scalars.{unit_kind}
+use Rattle.rkyv_btree_format.specs.Units.{with_units}
+use Rattle.rkyv_btree_writer.specs.declared.fault.EntryFault.{EntryFault}
 use Rattle.rkyv_btree_convert.specs.declared.deserialize.DeserializeFault.{DeserializeFault}
 use Rattle.rkyv_btree_convert.specs.declared.deserialize.DeserializeFault.TheVariants.{Memory, Entry}
 use Rattle.rkyv_btree_convert.specs.Deserializing.{IsRefused}

@@ -1,8 +1,8 @@
 -- Native values that are made of archived ones.
 use Rattle.std.specs.Prelude.{◌≡◌, ℕ, List, [], ◌∷◌, Result, Ok, Err, codes}
 use Rattle.std.specs.Result.{result_map_both}
-use Rattle.rkyv_btree_base.specs.EntryFault.{EntryFault}
-use Rattle.rkyv_btree_base.specs.Kind.{Kind}
+use Rattle.rkyv_btree_writer.specs.declared.fault.EntryFault.{EntryFault}
+use Rattle.rkyv_btree_portable.specs.Kind.{Kind}
 use Rattle.rkyv_btree_convert.specs.declared.deserialize.DeserializeFault.{DeserializeFault}
 use Rattle.rkyv_btree_convert.specs.declared.deserialize.DeserializeFault.TheVariants.{Memory, Entry}
 

@@ -1,7 +1,7 @@
 -- Values that are archived and made native again.
 use Rattle.std.specs.Prelude.{◌≡◌, ℕ, List, map, Result, Ok}
-use Rattle.rkyv_btree_base.specs.EntryFault.{EntryFault}
-use Rattle.rkyv_btree_base.specs.Kind.{Kind}
+use Rattle.rkyv_btree_writer.specs.declared.fault.EntryFault.{EntryFault}
+use Rattle.rkyv_btree_portable.specs.Kind.{Kind}
 
 module _ {X H : Type 0} (kind : Kind) (meaning : X → kind.Value) (native : List ℕ → ℕ → Result H EntryFault) (model : X → H) where
   -- wherever bytes mean what a value means, they give the value: its model

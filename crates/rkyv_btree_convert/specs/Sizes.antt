@@ -1,6 +1,6 @@
 -- Types whose values have few own bytes.
 use Rattle.std.specs.Prelude.{◌≤◌, IsTrue}
-use Rattle.rkyv_btree_base.specs.Kind.{Kind}
+use Rattle.rkyv_btree_portable.specs.Kind.{Kind}
 
 -- the type's own parts fit, and a value has a megabyte of own bytes at most
 abbrev pub IsSmall : Kind → Type 0

@@ -1,11 +1,11 @@
 -- Whole archives that are opened, and made native again.
 use Rattle.std.specs.Prelude.{ℕ, ◌≤◌, ◌<◌, List, length, Result}
-use Rattle.rkyv_btree_base.specs.EntryFault.{EntryFault}
-use Rattle.rkyv_btree_base.specs.Kind.{Kind}
-use Rattle.rkyv_btree_base.specs.Refusal.{Refusal}
-use Rattle.rkyv_btree_base.specs.Refusal.TheVariants.{TooLong}
-use Rattle.rkyv_btree_base.specs.RefusalText.{refusal_text}
-use Rattle.rkyv_btree_base.specs.Whole.{IsArchiveOf, own_at}
+use Rattle.rkyv_btree_writer.specs.declared.fault.EntryFault.{EntryFault}
+use Rattle.rkyv_btree_portable.specs.Kind.{Kind}
+use Rattle.rkyv_btree_portable.specs.declared.refusal.Refusal.{Refusal}
+use Rattle.rkyv_btree_portable.specs.declared.refusal.Refusal.TheVariants.{TooLong}
+use Rattle.rkyv_btree_portable.specs.RefusalText.{refusal_text}
+use Rattle.rkyv_btree_format.specs.OwnBytes.{IsArchiveOf, own_at}
 use Rattle.rkyv_btree_convert.specs.Deserializing.{IsRefused, deserialize_text}
 use Rattle.rkyv_btree_convert.specs.declared.from_archive.FromArchiveFault.{FromArchiveFault}
 use Rattle.rkyv_btree_convert.specs.declared.from_archive.FromArchiveFault.TheVariants.{Refused, NotMade}

@@ -2,9 +2,9 @@
 ghost use Rattle.std.specs.Prelude.{◌≡◌, IsTrue};
 ghost use Rattle.std.specs.declared.cmp.Ordering.TheVariants.{Equal};
 
-use rkyv_btree_base::numbers::{ArchivedU16, ArchivedU32, ArchivedU64};
-use rkyv_btree_base::scalars::ArchivedChar;
-use rkyv_btree_base::signed::{ArchivedI16, ArchivedI32, ArchivedI64};
+use rkyv_btree_portable::numbers::{ArchivedU16, ArchivedU32, ArchivedU64};
+use rkyv_btree_portable::scalars::ArchivedChar;
+use rkyv_btree_portable::signed::{ArchivedI16, ArchivedI32, ArchivedI64};
 use rkyv_btree_view::native::ToNative;
 
 /// A type whose values are deserialized as `ToNative` reads them. Implement it for a type of your own by an empty `impl`.

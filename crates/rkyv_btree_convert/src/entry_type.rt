@@ -1,11 +1,11 @@
 //! Bundles of the traits that keys and values of maps need.
 use crate::native_key::DeserializeKey;
-use rkyv_btree_base::check::CheckBytes;
-use rkyv_btree_base::numbers::{ArchivedU16, ArchivedU32, ArchivedU64};
-use rkyv_btree_base::scalars::{ArchivedChar, ArchivedNonZeroU32};
-use rkyv_btree_base::signed::{ArchivedI16, ArchivedI32, ArchivedI64};
-use rkyv_btree_base::text::ArchivedText;
-use rkyv_btree_base::util::Entry;
+use rkyv_btree_portable::check::CheckBytes;
+use rkyv_btree_portable::entry::Entry;
+use rkyv_btree_portable::numbers::{ArchivedU16, ArchivedU32, ArchivedU64};
+use rkyv_btree_portable::scalars::{ArchivedChar, ArchivedNonZeroU32};
+use rkyv_btree_portable::signed::{ArchivedI16, ArchivedI32, ArchivedI64};
+use rkyv_btree_portable::text::ArchivedText;
 use rkyv_btree_view::compare::{ViewHash, ViewOrd};
 use rkyv_btree_view::debug::ViewDebug;
 use std::fmt::Debug;

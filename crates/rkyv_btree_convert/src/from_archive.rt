@@ -1,15 +1,15 @@
 //! Whole archives: opened for reading, opened for in-place updates, and deserialized.
 ghost use Rattle.std.specs.Prelude.{◌≡◌, ◌↔◌, Some, Ok, Err, IsTrue, IsOk, IfOk, IfErr};
-ghost use Rattle.rkyv_btree_base.specs.Refusal.{Refusal};
-ghost use Rattle.rkyv_btree_base.specs.Whole.{IsArchiveOf, own_at};
+ghost use Rattle.rkyv_btree_portable.specs.declared.refusal.Refusal.{Refusal};
+ghost use Rattle.rkyv_btree_format.specs.OwnBytes.{IsArchiveOf, own_at};
 ghost use Rattle.rkyv_btree_convert.specs.Whole.{IsUnopened, IsUnmade, archive_text};
 ghost use Rattle.rkyv_btree_convert.specs.declared.from_archive.FromArchiveFault.TheVariants.{Refused, NotMade};
 ghost use Rattle.rkyv_btree_view.specs.View.{view_value};
 
 use crate::deserialize::{Deserialize, DeserializeFault};
-use rkyv_btree_base::archive::Archive;
-use rkyv_btree_base::check::CheckBytes;
-use rkyv_btree_base::refusal::Refusal;
+use rkyv_btree_archive::archive::Archive;
+use rkyv_btree_portable::check::CheckBytes;
+use rkyv_btree_portable::refusal::Refusal;
 use rkyv_btree_seal::map_seal::MapSeal;
 use rkyv_btree_view::view::View;
 use std::alloc::Global;

@@ -1,6 +1,7 @@
 //! Native values that are made of archived ones.
 #![tactic(auto)]
 
+mod byte_string;
 pub mod deserialize;
 pub mod deserialize_native;
 pub mod entry_type;
@@ -9,6 +10,7 @@ pub mod native_key;
 pub mod native_map;
 mod native_pair;
 pub mod native_set;
+mod non_zeros;
 pub mod round_trip;
 pub mod sizes;
 pub mod std_maps;

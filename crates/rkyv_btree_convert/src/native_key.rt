@@ -7,8 +7,8 @@ ghost use Rattle.std.proofs.Common.{refl};
 
 use crate::deserialize::Deserialize;
 use crate::deserialize_native::DeserializeNative;
-use rkyv_btree_base::scalars::ArchivedNonZeroU32;
-use rkyv_btree_base::text::ArchivedText;
+use rkyv_btree_portable::scalars::ArchivedNonZeroU32;
+use rkyv_btree_portable::text::ArchivedText;
 use std::num::NonZeroU32;
 
 /// An archived type whose native values can be keys of native maps: they are ordered as their models are.

@@ -3,14 +3,14 @@ ghost use Rattle.std.specs.Prelude.{◌≡◌, List, Ok, OnOk, IfOk, IfErr};
 ghost use Rattle.std.specs.Cmp.Lexicographic.{slice_cmp};
 ghost use Rattle.std.specs.Ordering.{ordering_then};
 ghost use Rattle.std.specs.declared.cmp.Ordering.TheVariants.{Equal};
-ghost use Rattle.rkyv_btree_base.specs.Increasing.{Increasing};
+ghost use Rattle.rkyv_btree_format.specs.Increasing.{Increasing};
 ghost use Rattle.rkyv_btree_convert.specs.Deserializing.{IsRefused, both};
 ghost use Rattle.rkyv_btree_convert.specs.Maps.{CountsLast, IsGivenByEntries, Pushes, Puts, decoded_entries, native_map, model_both};
 ghost use Rattle.rkyv_btree_convert.specs.laws.Maps.{map_by_meaning, map_model_whole};
 
 use crate::deserialize::{Deserialize, DeserializeFault};
 use crate::native_key::DeserializeKey;
-use rkyv_btree_base::map::ArchivedBTreeMap;
+use rkyv_btree_types::map::ArchivedBTreeMap;
 use rkyv_btree_view::view::View;
 use std::alloc::{AllocError, Global};
 use std::collections::BTreeMap;

@@ -2,13 +2,13 @@
 ghost use Rattle.std.specs.Prelude.{◌+◌};
 ghost use Rattle.std.specs.Cmp.{on_total, then_total};
 ghost use Rattle.std.specs.Ordering.{ordering_then};
-ghost use Rattle.rkyv_btree_base.specs.Entry.{value_offset};
+ghost use Rattle.rkyv_btree_portable.specs.Entry.{value_offset};
 ghost use Rattle.rkyv_btree_convert.specs.Deserializing.{both};
 ghost use Rattle.rkyv_btree_convert.specs.laws.Pairs.{pair_by_meaning, pair_model_whole, then_alike};
 
 use crate::deserialize::{Deserialize, DeserializeFault};
 use crate::native_key::DeserializeKey;
-use rkyv_btree_base::util::Entry;
+use rkyv_btree_portable::entry::Entry;
 use rkyv_btree_view::view::View;
 use std::alloc::Global;
 

@@ -3,9 +3,9 @@ ghost use Rattle.std.specs.Prelude.{◌≡◌, List, Ok, OnOk, IfOk, IfErr, map}
 ghost use Rattle.std.specs.Cmp.Lexicographic.{slice_cmp};
 ghost use Rattle.std.specs.Map.{keys_of};
 ghost use Rattle.std.specs.declared.cmp.Ordering.TheVariants.{Equal};
-ghost use Rattle.rkyv_btree_base.specs.Increasing.{Increasing};
-ghost use Rattle.rkyv_btree_base.specs.Scalars.{unit_kind};
-ghost use Rattle.rkyv_btree_base.specs.Sets.{with_units};
+ghost use Rattle.rkyv_btree_format.specs.Increasing.{Increasing};
+ghost use Rattle.rkyv_btree_portable.specs.Scalars.{unit_kind};
+ghost use Rattle.rkyv_btree_format.specs.Units.{with_units};
 ghost use Rattle.rkyv_btree_convert.specs.Deserializing.{IsRefused, both};
 ghost use Rattle.rkyv_btree_convert.specs.Maps.{Puts, decoded_entries};
 ghost use Rattle.rkyv_btree_convert.specs.Sets.{native_set, unit_given};
@@ -14,7 +14,7 @@ ghost use Rattle.rkyv_btree_convert.specs.laws.Sets.{set_by_meaning, set_model_w
 use crate::deserialize::{Deserialize, DeserializeFault};
 use crate::native_key::DeserializeKey;
 use crate::native_map::native_entries;
-use rkyv_btree_base::set::ArchivedBTreeSet;
+use rkyv_btree_types::set::ArchivedBTreeSet;
 use rkyv_btree_view::view::View;
 use std::alloc::{AllocError, Global};
 use std::collections::BTreeSet;

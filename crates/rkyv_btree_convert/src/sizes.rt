@@ -1,6 +1,6 @@
 //! Maps whose nodes are known to fit, by the sizes of their types.
 ghost use Rattle.std.specs.Prelude.{◌≤◌, IsTrue};
-ghost use Rattle.rkyv_btree_base.specs.Layout.{are_fitting};
+ghost use Rattle.rkyv_btree_format.specs.Layout.{are_fitting};
 ghost use Rattle.rkyv_btree_convert.specs.Sizes.{IsSmall};
 
 use rkyv_btree_walk::archived_map::ArchivedMap;

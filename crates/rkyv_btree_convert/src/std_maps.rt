@@ -1,7 +1,7 @@
 //! What lookups in the archive of a std map find, and that it is the same as the map.
 ghost use Rattle.rkyv_btree_convert.specs.StdMaps.{OrdersAlike, FindsAsStd, IsSameAsStd};
 
-use rkyv_btree_base::check::Portable;
+use rkyv_btree_portable::check::Portable;
 use rkyv_btree_view::compare::ViewOrd;
 
 /// If keys are ordered as what they mean, a lookup in the archive of a std map finds the value that the map itself has for

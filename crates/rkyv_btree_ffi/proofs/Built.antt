@@ -2,7 +2,7 @@
 use Rattle.std.proofs.Common.{◌≡◌, ℕ, ◌+◌, ◌-◌, ◌<◌, ◌≤◌, ◌∙◌, IsTrue, List, [], ◌∷◌, ◌++◌, length, map, take, drop, get_or, Bor, refl, sym, ap, subst, arith, inl, inr, append_assoc, length-take}
 use Rattle.std.specs.Prelude.{Result, Ok, Err, IfOk, OnOk, IfErr}
 use Rattle.std.specs.Iterator.{Yields, Drains, YieldsFirstBy}
-use Rattle.std.specs.List.{All, AllZip, AllByRecursion}
+use Rattle.std.specs.List.{All, AllZip, AllByRecursion, range_with_len}
 use Rattle.std.specs.List.Sorted.{IsStrictlySortedBy}
 use Rattle.std.specs.Map.{keys_of}
 use Rattle.std.specs.declared.alloc.AllocError.{AllocError}
@@ -12,47 +12,47 @@ use Rattle.std.specs.declared.cmp.Ordering.{Ordering}
 use Rattle.std.specs.declared.cmp.Ordering.TheVariants.{Less}
 use Rattle.std.proofs.lemmas.List.{append-nil, length-map, map-append, take_more, take-append-drop}
 use Rattle.std.proofs.lemmas.List.Elements.{All-more}
-use Rattle.rkyv_btree_base.specs.Archiving.{Archival, Matches, IsArchived, IsUnserialised, Serialises, itself}
-use Rattle.rkyv_btree_base.specs.Causes.{HasCauses}
-use Rattle.rkyv_btree_base.specs.Entries.{now_of}
-use Rattle.rkyv_btree_base.specs.EntryFault.{EntryFault}
-use Rattle.rkyv_btree_base.specs.Fault.{Fault}
-use Rattle.rkyv_btree_base.specs.Fault.TheVariants.{Length, LengthOverflow, PositionOverflow, OffsetOverflow, Writer, Memory, Entry, OutOfOrder}
-use Rattle.rkyv_btree_base.specs.Increasing.{Increasing as AreIncreasing, IsOutOfOrder}
-use Rattle.rkyv_btree_base.specs.Kind.{Kind, IsLawful}
-use Rattle.rkyv_btree_base.specs.Layout.{are_fitting}
-use Rattle.rkyv_btree_base.specs.Map.{map_kind}
-use Rattle.rkyv_btree_base.specs.Miscounts.{IsMiscount}
-use Rattle.rkyv_btree_base.specs.Plan.{planned_alone}
-use Rattle.rkyv_btree_base.specs.Serialising.{BuildFault as TreeCause, RootFault}
-use Rattle.rkyv_btree_base.specs.Image.{root_image}
-use Rattle.rkyv_btree_base.specs.Kept.{OnlyAppended}
-use Rattle.rkyv_btree_base.specs.Archives.{WrittenIsHeld}
-use Rattle.rkyv_btree_base.specs.Rounding.{round_up}
-use Rattle.rkyv_btree_base.specs.Spells.{Accepted}
-use Rattle.rkyv_btree_base.specs.SmallestMaps.{entry_value, ArchivesItems, IsArchive}
-use Rattle.rkyv_btree_base.specs.StrictBuilding.{StrictFault, BuildsInOrder}
-use Rattle.rkyv_btree_base.specs.TreeArchival.{tree_archival, nodes}
-use Rattle.rkyv_btree_base.specs.Whole.{IsArchiveOf, fresh}
-use Rattle.rkyv_btree_base.specs.Writing.{Writing, Wrote, position, last_end}
-use Rattle.rkyv_btree_base.proofs.Accepting.{archive_length}
-use Rattle.rkyv_btree_base.proofs.TreeSerialised.{list_unserialised}
-use Rattle.rkyv_btree_ffi.specs.Building.{IsFirstBad, IsBuiltOf, IsUnbuiltOf, StopsWith, IsBuilt, IsUnbuilt, Archives}
-use Rattle.rkyv_btree_ffi.specs.Items.{ItemType, IsOfType, Native, IsNative, archival_of}
+use Rattle.std.proofs.lemmas.List.FromFn.{get_or-range_with_len, length-range_with_len}
+use Rattle.rkyv_btree_writer.specs.Archiving.{Archival, Matches, IsArchived, IsUnserialised, Serialises, itself}
+use Rattle.rkyv_btree_writer.specs.Causes.{HasCauses}
+use Rattle.rkyv_btree_writing_laws.specs.Entries.{now_of}
+use Rattle.rkyv_btree_writer.specs.declared.fault.EntryFault.{EntryFault}
+use Rattle.rkyv_btree_writer.specs.declared.fault.Fault.{Fault}
+use Rattle.rkyv_btree_writer.specs.declared.fault.Fault.TheVariants.{Length, LengthOverflow, PositionOverflow, OffsetOverflow, Writer, Memory, Entry, OutOfOrder}
+use Rattle.rkyv_btree_format.specs.Increasing.{Increasing as AreIncreasing, IsOutOfOrder}
+use Rattle.rkyv_btree_portable.specs.Kind.{Kind, IsLawful}
+use Rattle.rkyv_btree_format.specs.Layout.{are_fitting}
+use Rattle.rkyv_btree_verify.specs.Map.{map_kind}
+use Rattle.rkyv_btree_writing_laws.specs.Miscounts.{IsMiscount}
+use Rattle.rkyv_btree_shape.specs.Plan.{planned_alone}
+use Rattle.rkyv_btree_writing_laws.specs.Serialising.{BuildFault as TreeCause, RootFault}
+use Rattle.rkyv_btree_writing_laws.specs.Image.{root_image}
+use Rattle.rkyv_btree_writing_laws.specs.Kept.{OnlyAppended}
+use Rattle.rkyv_btree_writing_laws.specs.Archives.{WrittenIsHeld}
+use Rattle.rkyv_btree_portable.specs.Rounding.{round_up}
+use Rattle.rkyv_btree_format.specs.Spells.{Accepted}
+use Rattle.rkyv_btree_writing_laws.specs.SmallestMaps.{entry_value, ArchivesItems, IsArchive}
+use Rattle.rkyv_btree_writing_laws.specs.StrictBuilding.{StrictFault, BuildsInOrder}
+use Rattle.rkyv_btree_writing_laws.specs.TreeArchival.{tree_archival, nodes}
+use Rattle.rkyv_btree_writing_laws.specs.Whole.{fresh}
+use Rattle.rkyv_btree_format.specs.OwnBytes.{IsArchiveOf}
+use Rattle.rkyv_btree_writer.specs.Writing.{Writing, Wrote, position, last_end}
+use Rattle.rkyv_btree_writing_laws.proofs.Accepting.{archive_length}
+use Rattle.rkyv_btree_writing_laws.proofs.TreeSerialised.{list_unserialised}
+use Rattle.rkyv_btree_ffi.specs.Building.{IsFirstBad, IsBuiltOf, IsUnbuiltOf, StopsWith, IsBuilt, IsUnbuilt, Archives, ArchivesColumns}
+use Rattle.rkyv_btree_ffi.specs.Items.{ItemType, Native, archival_of}
 use Rattle.rkyv_btree_ffi.specs.declared.building.BuildFault.{BuildFault}
 use Rattle.rkyv_btree_ffi.specs.declared.building.BuildFault.TheVariants.{BadItem, Unbuilt}
+use Rattle.rkyv_btree_ffi.specs.declared.column.BtreeColumn.{BtreeColumn}
 use Rattle.rkyv_btree_ffi.specs.declared.order.Order.{Order}
 use Rattle.rkyv_btree_ffi.specs.declared.order.Order.TheVariants.{Any, Increasing}
-use Rattle.rkyv_btree_ffi.specs.declared.given.ItemFault.{ItemFault}
-use Rattle.rkyv_btree_ffi.specs.declared.given.ItemFault.TheVariants.{NotOfType, Memory as NoMemory}
 use Rattle.rkyv_btree_ffi.specs.declared.item.BtreeEntry.{BtreeEntry}
-use Rattle.rkyv_btree_ffi.specs.declared.item.BtreeItem.{BtreeItem}
 use Rattle.rkyv_btree_ffi.specs.declared.map_type.MapType.{MapType}
-use Rattle.rkyv_btree_ffi.specs.mirror.Natives.{given_fault, IsOfBoth, IsUngiven, GivesBoth, native_meaning, NativesStop, TreeFault, NativeFault, AreGiven, ArchivesNatives, BuiltGiven, UnbuiltGiven}
+use Rattle.rkyv_btree_ffi.specs.mirror.Natives.{GivesBoth, native_meaning, NativesStop, TreeFault, NativeFault, AreGiven, ArchivesNatives, BuiltGiven, UnbuiltGiven}
 use Rattle.rkyv_btree_ffi.proofs.Never.{never_refused}
 
 -- the entry at an index is the first bad one
-pub first_bad : (IsOf : BtreeEntry → Type 0) (entries : List BtreeEntry) (i : ℕ) (d : BtreeEntry) → i < length entries → All IsOf (take i entries) → (IsOf (get_or entries i d) → ⊥) → IsFirstBad IsOf entries i
+pub first_bad : {E : Type 0} (IsOf : E → Type 0) (entries : List E) (i : ℕ) (d : E) → i < length entries → All IsOf (take i entries) → (IsOf (get_or entries i d) → ⊥) → IsFirstBad IsOf entries i
 first_bad IsOf entries i d inside good bad = record {
   front = take i entries;
   entry = get_or entries i d;
@@ -62,12 +62,6 @@ first_bad IsOf entries i d inside good bad = record {
   good = good;
   bad = bad;
 }
-
--- why an entry has no native values
-pub ungiven_at : (IsKey IsValue : List ℕ → BtreeItem → Type 0) (texts : List ℕ) (entries : List BtreeEntry) (i : ℕ) (d : BtreeEntry) (fault : ItemFault) → i < length entries → All (IsOfBoth IsKey IsValue texts) (take i entries)
-    → (fault ≡ NotOfType → IsOfBoth IsKey IsValue texts (get_or entries i d) → ⊥) → IsUngiven IsKey IsValue texts entries (given_fault i fault)
-ungiven_at IsKey IsValue texts entries i d NotOfType inside good none = first_bad (IsOfBoth IsKey IsValue texts) entries i d inside good (none refl)
-ungiven_at IsKey IsValue texts entries i d NoMemory inside good none = tt
 
 -- items that came are the first of what was left, and all items are all of it
 pub yielded : {P M N : Type 0} (rest : P → List (M × N)) (s : P) (items : List (Bor M × Bor N)) (t : P) → Yields (YieldsFirstBy now_of rest) s items t → rest s ≡ map now_of items ++ rest t
@@ -210,27 +204,27 @@ archive_written K V KA VA natives from s t root held start archive went wrote en
     subst (λ (b : List ℕ). IsArchiveOf (map_kind K V 5) b (map (entry_value K V 5 KA VA key value) natives)) (sym is) (record { room = omega (arith, long); left = accepted.0; means = means })
 
 -- of native entries that mean what C hands in
-module _ {M N : Type 0} (IsKey IsValue : List ℕ → BtreeItem → Type 0) (GivesKey : List ℕ → BtreeItem → M → Type 0) (GivesValue : List ℕ → BtreeItem → N → Type 0) (texts : List ℕ) where
-  abbrev Given : List BtreeEntry → List (M × N) → Type 0
-  Given = AreGiven IsKey IsValue GivesKey GivesValue texts
+module _ {E M N : Type 0} (IsOf : E → Type 0) (GivesKey : E → M → Type 0) (GivesValue : E → N → Type 0) where
+  abbrev Given : List E → List (M × N) → Type 0
+  Given = AreGiven IsOf GivesKey GivesValue
 
   -- one entry more
-  zip_more : (es : List BtreeEntry) (xs : List (M × N)) (e : BtreeEntry) (x : M × N) → AllZip (GivesBoth IsKey IsValue GivesKey GivesValue texts) es xs → GivesBoth IsKey IsValue GivesKey GivesValue texts e x →
-      AllZip (GivesBoth IsKey IsValue GivesKey GivesValue texts) (es ++ e ∷ []) (xs ++ x ∷ [])
+  zip_more : (es : List E) (xs : List (M × N)) (e : E) (x : M × N) → AllZip (GivesBoth IsOf GivesKey GivesValue) es xs → GivesBoth IsOf GivesKey GivesValue e x →
+      AllZip (GivesBoth IsOf GivesKey GivesValue) (es ++ e ∷ []) (xs ++ x ∷ [])
   zip_more [] [] e x h g = (g, tt)
   zip_more [] (y ∷ ys) e x h g = absurd h
   zip_more (d ∷ es) [] e x h g = absurd h
   zip_more (d ∷ es) (y ∷ ys) e x h g = (h.0, zip_more es ys e x h.1 g)
 
-  pub given_more : (entries : List BtreeEntry) (i : ℕ) (d : BtreeEntry) (natives : List (M × N)) (x : M × N) → i < length entries → Given (take i entries) natives → IsOfBoth IsKey IsValue texts (get_or entries i d) →
-      GivesKey texts (get_or entries i d).key x.0 → GivesValue texts (get_or entries i d).value x.1 → Given (take (i + 1) entries) (natives ++ x ∷ [])
+  pub given_more : (entries : List E) (i : ℕ) (d : E) (natives : List (M × N)) (x : M × N) → i < length entries → Given (take i entries) natives → IsOf (get_or entries i d) →
+      GivesKey (get_or entries i d) x.0 → GivesValue (get_or entries i d) x.1 → Given (take (i + 1) entries) (natives ++ x ∷ [])
   given_more entries i d natives x inside are good key value = record {
-    good = All-more (IsOfBoth IsKey IsValue texts) entries i d inside are.good good;
-    each = subst (λ (es : List BtreeEntry). AllZip (GivesBoth IsKey IsValue GivesKey GivesValue texts) es (natives ++ x ∷ [])) (sym (take_more entries i d inside)) (zip_more (take i entries) natives (get_or entries i d) x are.each (key, value));
+    good = All-more IsOf entries i d inside are.good good;
+    each = subst (λ (es : List E). AllZip (GivesBoth IsOf GivesKey GivesValue) es (natives ++ x ∷ [])) (sym (take_more entries i d inside)) (zip_more (take i entries) natives (get_or entries i d) x are.each (key, value));
   }
 
-  module _ {R S : Type 0} (KA : Archival M R) (VA : Archival N S) (cmp : M → M → Ordering) (order : Order) (entries : List BtreeEntry) where
-    pub unbuilt : (natives : List (M × N)) → Given entries natives → (fault : Fault AllocError) → NativeFault KA VA cmp order natives fault → UnbuiltGiven IsKey IsValue GivesKey GivesValue texts order entries KA VA cmp (Unbuilt fault)
+  module _ {R S : Type 0} (KA : Archival M R) (VA : Archival N S) (cmp : M → M → Ordering) (order : Order) (entries : List E) where
+    pub unbuilt : (natives : List (M × N)) → Given entries natives → (fault : Fault AllocError) → NativeFault KA VA cmp order natives fault → UnbuiltGiven IsOf GivesKey GivesValue order entries KA VA cmp (Unbuilt fault)
     unbuilt natives are (Length m) h = (natives, are, h)
     unbuilt natives are LengthOverflow h = (natives, are, h)
     unbuilt natives are PositionOverflow h = (natives, are, h)
@@ -241,16 +235,16 @@ module _ {M N : Type 0} (IsKey IsValue : List ℕ → BtreeItem → Type 0) (Giv
     unbuilt natives are (OutOfOrder index) h = (natives, are, h)
 
     -- as what the entries mean
-    module _ (meant : BtreeEntry → KA.kind.Value × VA.kind.Value) (means : (e : BtreeEntry) (x : M × N) → GivesBoth IsKey IsValue GivesKey GivesValue texts e x → native_meaning KA VA x ≡ meant e)
+    module _ (meant : E → KA.kind.Value × VA.kind.Value) (means : (e : E) (x : M × N) → GivesBoth IsOf GivesKey GivesValue e x → native_meaning KA VA x ≡ meant e)
         (same : (x y : M) → cmp x y ≡ KA.kind.order (KA.meaning x) (KA.meaning y)) (no_key : (x : M) (at : ℕ) (f : EntryFault) → KA.Refuses x at f → ⊥) (no_value : (x : N) (at : ℕ) (f : EntryFault) → VA.Refuses x at f → ⊥) where
-      all_meant : (es : List BtreeEntry) (xs : List (M × N)) → AllZip (GivesBoth IsKey IsValue GivesKey GivesValue texts) es xs → map (native_meaning KA VA) xs ≡ map meant es
+      all_meant : (es : List E) (xs : List (M × N)) → AllZip (GivesBoth IsOf GivesKey GivesValue) es xs → map (native_meaning KA VA) xs ≡ map meant es
       all_meant [] [] h = refl
       all_meant [] (x ∷ xs) h = absurd h
       all_meant (e ∷ es) [] h = absurd h
       all_meant (e ∷ es) (x ∷ xs) h = ap (λ y. y ∷ map (native_meaning KA VA) xs) (means e x h.0) ∙ ap (λ ys. meant e ∷ ys) (all_meant es xs h.1)
 
-      pub built_of : (r : Result (Vec ℕ Global) BuildFault) → IfOk r (λ bytes. BuiltGiven IsKey IsValue GivesKey GivesValue texts order entries KA.kind VA.kind KA VA cmp bytes.items) →
-          IfOk r (λ bytes. IsBuiltOf (IsOfBoth IsKey IsValue texts) meant KA.kind.order order entries (IsArchiveOf (map_kind KA.kind VA.kind 5) bytes.items))
+      pub built_of : (r : Result (Vec ℕ Global) BuildFault) → IfOk r (λ bytes. BuiltGiven IsOf GivesKey GivesValue order entries KA.kind VA.kind KA VA cmp bytes.items) →
+          IfOk r (λ bytes. IsBuiltOf IsOf meant KA.kind.order order entries (IsArchiveOf (map_kind KA.kind VA.kind 5) bytes.items))
       built_of (Ok bytes) h =
           let is = all_meant entries h.natives h.given.each in
           record {
@@ -261,7 +255,7 @@ module _ {M N : Type 0} (IsKey IsValue : List ℕ → BtreeItem → Type 0) (Giv
       built_of (Err fault) h = tt
 
       abbrev Why : BuildFault → Type 0
-      Why = IsUnbuiltOf (IsOfBoth IsKey IsValue texts) meant KA.kind.order order entries (NativesStop KA VA)
+      Why = IsUnbuiltOf IsOf meant KA.kind.order order entries (NativesStop KA VA)
 
       refused : (f : EntryFault) (natives : List (M × N)) → StopsWith KA VA natives (Entry f) → ⊥
       refused f natives (left, inl h) = never_refused (nodes 5 KA VA) KA VA f (λ x at. no_key x at f) (λ x at. no_value x at f) 0 (planned_alone 5 natives) h.0
@@ -271,7 +265,7 @@ module _ {M N : Type 0} (IsKey IsValue : List ℕ → BtreeItem → Type 0) (Giv
       miscounted m natives (left, inl h) = h
       miscounted m natives (left, inr h) = h.3
 
-      why : (fault : BuildFault) → UnbuiltGiven IsKey IsValue GivesKey GivesValue texts order entries KA VA cmp fault → Why fault
+      why : (fault : BuildFault) → UnbuiltGiven IsOf GivesKey GivesValue order entries KA VA cmp fault → Why fault
       why (BadItem index) h = h
       why (Unbuilt (Memory error)) h = tt
       why (Unbuilt (Writer error)) h = tt
@@ -283,17 +277,47 @@ module _ {M N : Type 0} (IsKey IsValue : List ℕ → BtreeItem → Type 0) (Giv
       why (Unbuilt (Length m)) h = miscounted m h.0 h.2
       why (Unbuilt (Entry f)) h = refused f h.0 h.2
 
-      pub unbuilt_of : (r : Result (Vec ℕ Global) BuildFault) → IfErr r (UnbuiltGiven IsKey IsValue GivesKey GivesValue texts order entries KA VA cmp) → IfErr r Why
+      pub unbuilt_of : (r : Result (Vec ℕ Global) BuildFault) → IfErr r (UnbuiltGiven IsOf GivesKey GivesValue order entries KA VA cmp) → IfErr r Why
       unbuilt_of (Ok bytes) h = tt
       unbuilt_of (Err fault) h = why fault h
 
+-- of the rows of columns, by their indices
+row_at : (len i : ℕ) → i < len → get_or (range_with_len 0 len) i 0 ≡ i
+row_at len i inside = omega (arith, get_or-range_with_len 0 len i 0 inside)
+
+pub bad_row : (IsOf : ℕ → Type 0) (len i : ℕ) → i < len → All IsOf (take i (range_with_len 0 len)) → (IsOf i → ⊥) → IsFirstBad IsOf (range_with_len 0 len) i
+bad_row IsOf len i inside good bad =
+    first_bad IsOf (range_with_len 0 len) i 0 (omega (arith, length-range_with_len 0 len, inside)) good (subst (λ (j : ℕ). IsOf j → ⊥) (sym (row_at len i inside)) bad)
+
+pub row_more : {M N : Type 0} (IsOf : ℕ → Type 0) (GivesKey : ℕ → M → Type 0) (GivesValue : ℕ → N → Type 0) (len i : ℕ) (natives : List (M × N)) (x : M × N) → i < len → AreGiven IsOf GivesKey GivesValue (take i (range_with_len 0 len)) natives → IsOf i →
+    GivesKey i x.0 → GivesValue i x.1 → AreGiven IsOf GivesKey GivesValue (take (i + 1) (range_with_len 0 len)) (natives ++ x ∷ [])
+row_more IsOf GivesKey GivesValue len i natives x inside are good key value =
+    let at : i ≡ get_or (range_with_len 0 len) i 0 = sym (row_at len i inside) in
+    given_more IsOf GivesKey GivesValue (range_with_len 0 len) i 0 natives x (omega (arith, length-range_with_len 0 len, inside)) are (subst IsOf at good) (subst (λ (j : ℕ). GivesKey j x.0) at key) (subst (λ (j : ℕ). GivesValue j x.1) at value)
+
 -- at the types of keys and values of a map's type, by what these are there
-pub archives : (t : MapType) (i j : ItemType) (order : Order) (texts : List ℕ) (entries : List BtreeEntry) (cmp : Native i → Native i → Ordering) (meant : BtreeEntry → (archival_of i).kind.Value × (archival_of j).kind.Value)
-    (means : (e : BtreeEntry) (x : Native i × Native j) → GivesBoth (IsOfType i) (IsOfType j) (IsNative i) (IsNative j) texts e x → native_meaning (archival_of i) (archival_of j) x ≡ meant e)
-    (same : (x y : Native i) → cmp x y ≡ (archival_of i).kind.order ((archival_of i).meaning x) ((archival_of i).meaning y)) (no_key : (x : Native i) (at : ℕ) (f : EntryFault) → (archival_of i).Refuses x at f → ⊥) (no_value : (x : Native j) (at : ℕ) (f : EntryFault) → (archival_of j).Refuses x at f → ⊥)
-    → ((bytes : List ℕ) → IsBuiltOf (IsOfBoth (IsOfType i) (IsOfType j) texts) meant (archival_of i).kind.order order entries (IsArchiveOf (map_kind (archival_of i).kind (archival_of j).kind 5) bytes) → IsBuilt t order texts entries bytes)
-    → ((fault : BuildFault) → IsUnbuiltOf (IsOfBoth (IsOfType i) (IsOfType j) texts) meant (archival_of i).kind.order order entries (NativesStop (archival_of i) (archival_of j)) fault → IsUnbuilt t order texts entries fault)
-    → (r : Result (Vec ℕ Global) BuildFault) → IfOk r (λ x. BuiltGiven (IsOfType i) (IsOfType j) (IsNative i) (IsNative j) texts order entries (archival_of i).kind (archival_of j).kind (archival_of i) (archival_of j) cmp x.items)
-    → IfErr r (UnbuiltGiven (IsOfType i) (IsOfType j) (IsNative i) (IsNative j) texts order entries (archival_of i) (archival_of j) cmp) → Archives t order texts entries r
-archives t i j order texts entries cmp meant means same no_key no_value ok err (Ok x) h g = ok x.items (built_of (IsOfType i) (IsOfType j) (IsNative i) (IsNative j) texts (archival_of i) (archival_of j) cmp order entries meant means same no_key no_value (Ok x) h)
-archives t i j order texts entries cmp meant means same no_key no_value ok err (Err fault) h g = err fault (unbuilt_of (IsOfType i) (IsOfType j) (IsNative i) (IsNative j) texts (archival_of i) (archival_of j) cmp order entries meant means same no_key no_value (Err fault) g)
+module _ (t : MapType) (i j : ItemType) (order : Order) {E : Type 0} (IsOf : E → Type 0) (GivesKey : E → Native i → Type 0) (GivesValue : E → Native j → Type 0) (entries : List E) (cmp : Native i → Native i → Ordering)
+    (meant : E → (archival_of i).kind.Value × (archival_of j).kind.Value) (means : (e : E) (x : Native i × Native j) → GivesBoth IsOf GivesKey GivesValue e x → native_meaning (archival_of i) (archival_of j) x ≡ meant e)
+    (same : (x y : Native i) → cmp x y ≡ (archival_of i).kind.order ((archival_of i).meaning x) ((archival_of i).meaning y)) (no_key : (x : Native i) (at : ℕ) (f : EntryFault) → (archival_of i).Refuses x at f → ⊥) (no_value : (x : Native j) (at : ℕ) (f : EntryFault) → (archival_of j).Refuses x at f → ⊥) where
+  -- what the library builds of all native entries
+  abbrev Builds : List ℕ → Type 0
+  Builds bytes = IsBuiltOf IsOf meant (archival_of i).kind.order order entries (IsArchiveOf (map_kind (archival_of i).kind (archival_of j).kind 5) bytes)
+
+  abbrev Ends : BuildFault → Type 0
+  Ends fault = IsUnbuiltOf IsOf meant (archival_of i).kind.order order entries (NativesStop (archival_of i) (archival_of j)) fault
+
+  abbrev IsGivenArchive : Vec ℕ Global → Type 0
+  IsGivenArchive x = BuiltGiven IsOf GivesKey GivesValue order entries (archival_of i).kind (archival_of j).kind (archival_of i) (archival_of j) cmp x.items
+
+  abbrev IsGivenFault : BuildFault → Type 0
+  IsGivenFault = UnbuiltGiven IsOf GivesKey GivesValue order entries (archival_of i) (archival_of j) cmp
+
+  pub archives : (texts : List ℕ) (es : List BtreeEntry) → ((bytes : List ℕ) → Builds bytes → IsBuilt t order texts es bytes) → ((fault : BuildFault) → Ends fault → IsUnbuilt t order texts es fault)
+      → (r : Result (Vec ℕ Global) BuildFault) → IfOk r IsGivenArchive → IfErr r IsGivenFault → Archives t order texts es r
+  archives texts es ok err (Ok x) h g = ok x.items (built_of IsOf GivesKey GivesValue (archival_of i) (archival_of j) cmp order entries meant means same no_key no_value (Ok x) h)
+  archives texts es ok err (Err fault) h g = err fault (unbuilt_of IsOf GivesKey GivesValue (archival_of i) (archival_of j) cmp order entries meant means same no_key no_value (Err fault) g)
+
+  pub archives_columns : (keys values : BtreeColumn) (len : ℕ) → ((archive : Vec ℕ Global) → Builds archive.items → ArchivesColumns t order keys values len (Ok archive)) → ((fault : BuildFault) → Ends fault → ArchivesColumns t order keys values len (Err fault))
+      → (r : Result (Vec ℕ Global) BuildFault) → IfOk r IsGivenArchive → IfErr r IsGivenFault → ArchivesColumns t order keys values len r
+  archives_columns keys values len ok err (Ok x) h g = ok x (built_of IsOf GivesKey GivesValue (archival_of i) (archival_of j) cmp order entries meant means same no_key no_value (Ok x) h)
+  archives_columns keys values len ok err (Err fault) h g = err fault (unbuilt_of IsOf GivesKey GivesValue (archival_of i) (archival_of j) cmp order entries meant means same no_key no_value (Err fault) g)

@@ -1,12 +1,12 @@
 -- Nodes that a cursor leads to.
 use Rattle.std.proofs.Common.{ℕ, suc, ◌≤◌, ◌<◌, IsTrue, List, length, arith}
-use Rattle.rkyv_btree_base.specs.Kind.{Kind, IsLawful}
-use Rattle.rkyv_btree_base.specs.Layout.{layout_of}
-use Rattle.rkyv_btree_base.specs.Map.{map_kind}
-use Rattle.rkyv_btree_base.specs.Views.{stands}
-use Rattle.rkyv_btree_base.specs.laws.Views.{fitting_of}
-use Rattle.rkyv_btree_base.proofs.MapLaws.{map_short}
-use Rattle.rkyv_btree_base.proofs.Sizes.{room_of}
+use Rattle.rkyv_btree_portable.specs.Kind.{Kind, IsLawful}
+use Rattle.rkyv_btree_format.specs.Layout.{layout_of}
+use Rattle.rkyv_btree_verify.specs.Map.{map_kind}
+use Rattle.rkyv_btree_portable.specs.Views.{stands}
+use Rattle.rkyv_btree_portable.specs.laws.Views.{fitting_of}
+use Rattle.rkyv_btree_verify.proofs.MapLaws.{map_short}
+use Rattle.rkyv_btree_format.proofs.Sizes.{room_of}
 use Rattle.rkyv_btree_walk.specs.Below.{root_place, IsBelow, RunBelow}
 use Rattle.rkyv_btree_walk.specs.mirror.Node.{NodeStands, RunStands}
 use Rattle.rkyv_btree_walk.proofs.Below.{below_stands, place_stands}

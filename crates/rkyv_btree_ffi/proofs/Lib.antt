@@ -5,4 +5,5 @@ pub mod LookedUp
 pub mod Never
 pub mod Places
 pub mod Shown
+pub mod Stepped
 pub mod Types

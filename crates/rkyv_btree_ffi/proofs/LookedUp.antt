@@ -3,13 +3,13 @@ use Rattle.std.proofs.Common.{◌≡◌, ℕ, ◌<◌, ◌∙◌, IsTrue, IfSome
 use Rattle.std.specs.Option.{option_map}
 use Rattle.std.specs.declared.cmp.Ordering.{Ordering}
 use Rattle.std.specs.declared.cmp.Ordering.TheVariants.{Equal}
-use Rattle.rkyv_btree_base.specs.Kind.{Kind}
-use Rattle.rkyv_btree_base.specs.Read.{entry_at}
-use Rattle.rkyv_btree_base.specs.Refusal.{Refusal}
-use Rattle.rkyv_btree_base.specs.Refusal.TheVariants.{TooLong}
-use Rattle.rkyv_btree_base.specs.Refusing.{too_long}
-use Rattle.rkyv_btree_base.specs.Views.{stands}
-use Rattle.rkyv_btree_base.specs.Whole.{IsArchiveOf, own_at}
+use Rattle.rkyv_btree_portable.specs.Kind.{Kind}
+use Rattle.rkyv_btree_format.specs.Read.{entry_at}
+use Rattle.rkyv_btree_portable.specs.declared.refusal.Refusal.{Refusal}
+use Rattle.rkyv_btree_portable.specs.declared.refusal.Refusal.TheVariants.{TooLong}
+use Rattle.rkyv_btree_portable.specs.Refusing.{too_long}
+use Rattle.rkyv_btree_portable.specs.Views.{stands}
+use Rattle.rkyv_btree_format.specs.OwnBytes.{IsArchiveOf, own_at}
 use Rattle.rkyv_btree_view.specs.Lookup.{found_at}
 use Rattle.rkyv_btree_view.specs.Map.{IsMap}
 use Rattle.rkyv_btree_portable.specs.declared.check.Portable

@@ -1,12 +1,12 @@
 -- A map of keys and values that never refuse themselves doesn't either.
 use Rattle.std.proofs.Common.{ℕ, List, [], ◌∷◌, inl, inr}
-use Rattle.rkyv_btree_base.specs.Archiving.{Archival}
-use Rattle.rkyv_btree_base.specs.EntryFault.{EntryFault}
-use Rattle.rkyv_btree_base.specs.Imaged.{EntriesRefuse, TreeUpTo, RowUpTo, ChildUpTo, ChildRefuses}
-use Rattle.rkyv_btree_base.specs.InPlace.{OwnBytes}
-use Rattle.rkyv_btree_base.specs.Layout.{NodeLayout}
-use Rattle.rkyv_btree_base.specs.Tree.{Tree, leaf, inner, Row, last, step, Child, absent, child, row_entries}
-use Rattle.rkyv_btree_base.specs.Writing.{Write}
+use Rattle.rkyv_btree_writer.specs.Archiving.{Archival}
+use Rattle.rkyv_btree_writer.specs.declared.fault.EntryFault.{EntryFault}
+use Rattle.rkyv_btree_writing_laws.specs.Imaged.{EntriesRefuse, TreeUpTo, RowUpTo, ChildUpTo, ChildRefuses}
+use Rattle.rkyv_btree_portable.specs.InPlace.{OwnBytes}
+use Rattle.rkyv_btree_format.specs.Layout.{NodeLayout}
+use Rattle.rkyv_btree_shape.specs.Tree.{Tree, leaf, inner, Row, last, step, Child, absent, child, row_entries}
+use Rattle.rkyv_btree_writer.specs.Writing.{Write}
 
 module _ {M N R S : Type 0} (s : NodeLayout) (K : Archival M R) (V : Archival N S) (fault : EntryFault)
     (no_key : (x : M) (from : ℕ) → K.Refuses x from fault → ⊥) (no_value : (x : N) (from : ℕ) → V.Refuses x from fault → ⊥) where

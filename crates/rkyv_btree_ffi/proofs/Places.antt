@@ -4,10 +4,10 @@ use mathlib.Core.HLevel.{⊥_prop}
 use mathlib.Core.Logic.{∥∥₁_map, ∥∥₁_elim}
 use Rattle.std.proofs.Math.ListN.{get_or-map}
 use Rattle.std.proofs.lemmas.List.{get_or-take}
-use Rattle.rkyv_btree_base.specs.Kind.{Kind, IsLawful}
-use Rattle.rkyv_btree_base.specs.Layout.{NodeLayout, layout_of}
-use Rattle.rkyv_btree_base.specs.Map.{map_kind}
-use Rattle.rkyv_btree_base.specs.Views.{stands}
+use Rattle.rkyv_btree_portable.specs.Kind.{Kind, IsLawful}
+use Rattle.rkyv_btree_format.specs.Layout.{NodeLayout, layout_of}
+use Rattle.rkyv_btree_verify.specs.Map.{map_kind}
+use Rattle.rkyv_btree_portable.specs.Views.{stands}
 use Rattle.rkyv_btree_walk.proofs.Placed.{between_left}
 use Rattle.rkyv_btree_walk.specs.Remaining.{places_between}
 use Rattle.rkyv_btree_walk.specs.WalkBetween.{IsRangeWalk, IsWalkBetween, range_left}

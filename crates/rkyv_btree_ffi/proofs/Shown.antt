@@ -1,6 +1,6 @@
 -- One entry more is shown.
 use Rattle.std.proofs.Common.{◌≡◌, ℕ, List, [], ◌∷◌, ◌++◌, ◌∙◌, refl, subst, Option, Some, None}
-use Rattle.rkyv_btree_base.specs.Kind.{Kind}
+use Rattle.rkyv_btree_portable.specs.Kind.{Kind}
 use Rattle.rkyv_btree_ffi.specs.Batches.{IsShown, AreShown, IsEither}
 use Rattle.rkyv_btree_ffi.specs.declared.item.BtreeItem.{BtreeItem}
 use Rattle.rkyv_btree_ffi.specs.declared.item.BtreeEntry.{BtreeEntry}

@@ -3,7 +3,7 @@ use Rattle.std.proofs.Common.{◌≡◌, ℕ, ◌≤◌, ◌<◌, IfSome, List, 
 use Rattle.std.proofs.lemmas.Bool.{lt-ltb}
 use Rattle.std.specs.Int.{w32, to_le_bytes}
 use Rattle.std.specs.Option.{option_map}
-use Rattle.rkyv_btree_base.specs.Read.{entry_at}
+use Rattle.rkyv_btree_format.specs.Read.{entry_at}
 use Rattle.rkyv_btree_ffi.specs.Batches.{AreShown, IsEither as IsEitherPlace}
 use Rattle.rkyv_btree_ffi.specs.Editing.{narrow}
 use Rattle.rkyv_btree_ffi.specs.Entries.{comparison_with, by_number, by_text, IsKey, IsValue, AreEntries, IsEither, IsBatch}

@@ -1,22 +1,26 @@
 -- What building an archive for C does.
-use Rattle.std.specs.Prelude.{◌≡◌, ℕ, ◌<◌, ◌≤◌, List, ◌∷◌, length, map, drop, Result, Ok, Err, ◌⊎◌, ◌++◌}
-use Rattle.std.specs.List.{All}
+use Rattle.std.specs.Prelude.{◌≡◌, ℕ, ◌<◌, ◌≤◌, List, ◌∷◌, length, map, drop, pos, Result, Ok, Err, ◌⊎◌, ◌++◌}
+use Rattle.std.specs.List.{All, range_with_len}
 use Rattle.std.specs.declared.alloc.AllocError.{AllocError}
 use Rattle.std.specs.declared.alloc.Global.{Global}
 use Rattle.std.specs.declared.vec.Vec.{Vec}
 use Rattle.std.specs.declared.cmp.Ordering.{Ordering}
-use Rattle.rkyv_btree_base.specs.Archiving.{Archival, IsUnserialised, Serialises}
-use Rattle.rkyv_btree_base.specs.Fault.{Fault}
-use Rattle.rkyv_btree_base.specs.Fault.TheVariants.{Length, LengthOverflow, PositionOverflow, OffsetOverflow, Writer, Memory, Entry, OutOfOrder}
-use Rattle.rkyv_btree_base.specs.Increasing.{Increasing as AreIncreasing, IsOutOfOrder}
-use Rattle.rkyv_btree_base.specs.Serialising.{RootFault}
-use Rattle.rkyv_btree_base.specs.TreeArchival.{tree_archival}
-use Rattle.rkyv_btree_base.specs.Whole.{IsArchiveOf, fresh}
-use Rattle.rkyv_btree_base.specs.Writing.{Writing}
+use Rattle.rkyv_btree_writer.specs.Archiving.{Archival, IsUnserialised, Serialises}
+use Rattle.rkyv_btree_writer.specs.declared.fault.Fault.{Fault}
+use Rattle.rkyv_btree_writer.specs.declared.fault.Fault.TheVariants.{Length, LengthOverflow, PositionOverflow, OffsetOverflow, Writer, Memory, Entry, OutOfOrder}
+use Rattle.rkyv_btree_format.specs.Increasing.{Increasing as AreIncreasing, IsOutOfOrder}
+use Rattle.rkyv_btree_writing_laws.specs.Serialising.{RootFault}
+use Rattle.rkyv_btree_writing_laws.specs.TreeArchival.{tree_archival}
+use Rattle.rkyv_btree_writing_laws.specs.Whole.{fresh}
+use Rattle.rkyv_btree_format.specs.OwnBytes.{IsArchiveOf}
+use Rattle.rkyv_btree_writer.specs.Writing.{Writing}
+use Rattle.rkyv_btree_ffi.specs.Columns.{IsCell, cell_value}
 use Rattle.rkyv_btree_ffi.specs.Items.{IsOfType, item_value, Native, native_value, archival_of}
 use Rattle.rkyv_btree_ffi.specs.MapTypes.{key_type, value_type, key_kind, value_kind, kind_of}
 use Rattle.rkyv_btree_ffi.specs.declared.building.BuildFault.{BuildFault}
 use Rattle.rkyv_btree_ffi.specs.declared.building.BuildFault.TheVariants.{BadItem, Unbuilt}
+use Rattle.rkyv_btree_ffi.specs.declared.codes.BtreeRefusal.{BtreeRefusal}
+use Rattle.rkyv_btree_ffi.specs.declared.column.BtreeColumn.{BtreeColumn}
 use Rattle.rkyv_btree_ffi.specs.declared.order.Order.{Order}
 use Rattle.rkyv_btree_ffi.specs.declared.order.Order.TheVariants.{Increasing}
 use Rattle.rkyv_btree_ffi.specs.declared.item.BtreeEntry.{BtreeEntry}
@@ -29,18 +33,18 @@ StopsWith KA VA natives fault =
     ⊎ ((root : ℕ) × (mid : Writing) × Serialises (tree_archival 5 KA VA (λ xs. xs)) natives fresh mid root × RootFault root (length natives) mid fault left))
 
 -- the entry at an index is the first that isn't of the map's type
-pub record IsFirstBad (IsOf : BtreeEntry → Type 0) (entries : List BtreeEntry) (index : ℕ) : Type 0 where
-  pub front : List BtreeEntry
-  pub entry : BtreeEntry
-  pub back : List BtreeEntry
+pub record IsFirstBad {E : Type 0} (IsOf : E → Type 0) (entries : List E) (index : ℕ) : Type 0 where
+  pub front : List E
+  pub entry : E
+  pub back : List E
   pub parts : entries ≡ front ++ entry ∷ back
   pub number : index ≡ length front
   pub good : All IsOf front
   pub bad : IsOf entry → ⊥
 
 -- of entries of any map: which are of its type, what they mean, and the order of keys
-module _ {A B : Type 0} (IsOf : BtreeEntry → Type 0) (meaning : BtreeEntry → A × B) (key_order : A → A → Ordering) (order : Order)
-    (entries : List BtreeEntry) where
+module _ {E A B : Type 0} (IsOf : E → Type 0) (meaning : E → A × B) (key_order : A → A → Ordering) (order : Order)
+    (entries : List E) where
   -- all entries are of the map's type, and what they mean is archived; their keys increase if they must
   pub record IsBuiltOf (IsArchived : List (A × B) → Type 0) : Type 0 where
     pub good : All IsOf entries
@@ -68,6 +72,15 @@ module _ (t : MapType) (texts : List ℕ) where
   abbrev pub given : BtreeEntry → (key_kind t).Value × (value_kind t).Value
   given e = (item_value (key_type t) texts e.key, item_value (value_type t) texts e.value)
 
+module _ (t : MapType) (keys values : BtreeColumn) where
+  -- two columns have an entry of the map's type at an index
+  abbrev pub IsRowOf : ℕ → Type 0
+  IsRowOf i = IsCell (key_type t) keys i × IsCell (value_type t) values i
+
+  -- the key and the value there
+  abbrev pub row : ℕ → (key_kind t).Value × (value_kind t).Value
+  row i = (cell_value (key_type t) keys i, cell_value (value_type t) values i)
+
 -- the library stops with a fault when it archives native entries that mean these
 abbrev pub Stops : (t : MapType) → List ((key_kind t).Value × (value_kind t).Value) → Fault AllocError → Type 0
 Stops t entries fault =
@@ -88,6 +101,13 @@ abbrev pub Archives : MapType → Order → List ℕ → List BtreeEntry → Res
 Archives t order texts entries (Ok archive) = IsBuilt t order texts entries archive.items
 Archives t order texts entries (Err fault) = IsUnbuilt t order texts entries fault
 
+-- the archive of the first entries of two columns, as many as these, by its bytes, or why there is none
+abbrev pub ArchivesColumns : MapType → Order → BtreeColumn → BtreeColumn → ℕ → Result (Vec ℕ Global) BuildFault → Type 0
+ArchivesColumns t order keys values len (Ok archive) =
+    IsBuiltOf (IsRowOf t keys values) (row t keys values) (key_kind t).order order (range_with_len 0 len) (IsArchiveOf (kind_of t) archive.items)
+ArchivesColumns t order keys values len (Err fault) =
+    IsUnbuiltOf (IsRowOf t keys values) (row t keys values) (key_kind t).order order (range_with_len 0 len) (Stops t) fault
+
 -- the code of an error of building
 abbrev pub code_of : BuildFault → ℕ
 code_of (BadItem index) = 36
@@ -100,10 +120,27 @@ code_of (Unbuilt (OutOfOrder index)) = 37
 code_of (Unbuilt (Length mismatch)) = 36
 code_of (Unbuilt (Entry fault)) = 36
 
+-- the index of the entry that is bad or out of order, or 0
+abbrev pub index_of : BuildFault → ℕ
+index_of (BadItem index) = index
+index_of (Unbuilt (OutOfOrder index)) = index
+index_of (Unbuilt LengthOverflow) = 0
+index_of (Unbuilt PositionOverflow) = 0
+index_of (Unbuilt OffsetOverflow) = 0
+index_of (Unbuilt (Writer error)) = 0
+index_of (Unbuilt (Memory error)) = 0
+index_of (Unbuilt (Length mismatch)) = 0
+index_of (Unbuilt (Entry fault)) = 0
+
+-- the cause of an error of building, as C has it
+abbrev pub cause_of : BuildFault → BtreeRefusal
+cause_of fault = record { code = code_of fault; at = pos 0; found = index_of fault; allowed = 0 }
+
 -- an archive is written, and its length; or there is no room for it, and nothing is written but its length; or there is none, and
--- nothing is written
-abbrev pub Puts : Result (Vec ℕ Global) BuildFault → List ℕ → List ℕ → ℕ → ℕ → ℕ → Type 0
-Puts (Ok archive) old new old_len len code =
+-- nothing is written but the cause
+abbrev pub Puts : Result (Vec ℕ Global) BuildFault → List ℕ → List ℕ → ℕ → ℕ → BtreeRefusal → BtreeRefusal → ℕ → Type 0
+Puts (Ok archive) old new old_len len old_why why code =
     (len ≡ length archive.items)
     × (((code ≡ 0) × (len ≤ length old) × (new ≡ archive.items ++ drop len old)) ⊎ ((code ≡ 38) × (length old < len) × (new ≡ old)))
-Puts (Err fault) old new old_len len code = (code ≡ code_of fault) × (new ≡ old) × (len ≡ old_len)
+    × (why ≡ old_why)
+Puts (Err fault) old new old_len len old_why why code = (code ≡ code_of fault) × (why ≡ cause_of fault) × (new ≡ old) × (len ≡ old_len)

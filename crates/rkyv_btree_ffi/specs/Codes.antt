@@ -1,8 +1,8 @@
 -- What a refusal is for C: its code, its position, and what was found and is allowed there.
 use Rattle.std.specs.Prelude.{pos}
-use Rattle.rkyv_btree_base.specs.Refusal.{Refusal}
-use Rattle.rkyv_btree_base.specs.Refusal.TheVariants.{OutOfRange, Misaligned, BadKind, InvalidLength, BadEntry, TooDeep}
-use Rattle.rkyv_btree_base.specs.Refusal.TheVariants.{EntriesLengthMismatch, TooLong, OutOfOrder}
+use Rattle.rkyv_btree_portable.specs.declared.refusal.Refusal.{Refusal}
+use Rattle.rkyv_btree_portable.specs.declared.refusal.Refusal.TheVariants.{OutOfRange, Misaligned, BadKind, InvalidLength, BadEntry, TooDeep}
+use Rattle.rkyv_btree_portable.specs.declared.refusal.Refusal.TheVariants.{EntriesLengthMismatch, TooLong, OutOfOrder}
 use Rattle.rkyv_btree_ffi.specs.declared.codes.BtreeRefusal.{BtreeRefusal}
 
 abbrev pub refusal_for : Refusal → BtreeRefusal

@@ -1,13 +1,13 @@
 -- The entries that a cursor leaves, by its numbers: those of its leaf, and those of the path above it up to its stop.
 use Rattle.std.specs.Prelude.{ℕ, List, map}
-use Rattle.rkyv_btree_base.specs.Layout.{layout_of}
-use Rattle.rkyv_btree_base.specs.Read.{entry_at}
+use Rattle.rkyv_btree_format.specs.Layout.{layout_of}
+use Rattle.rkyv_btree_format.specs.Read.{entry_at}
 use Rattle.rkyv_btree_walk.specs.Paths.{range_rest}
 use Rattle.rkyv_btree_ffi.specs.MapTypes.{key_kind, value_kind}
 use Rattle.rkyv_btree_ffi.specs.Cursors.{path_of, stop_of}
 use Rattle.rkyv_btree_ffi.specs.declared.cursor.BtreeCursor.{BtreeCursor}
 use Rattle.rkyv_btree_ffi.specs.declared.map_type.MapType.{MapType}
-use Rattle.rkyv_btree_base.specs.Kind.{Kind}
+use Rattle.rkyv_btree_portable.specs.Kind.{Kind}
 
 module _ (K V : Kind) (b : List ℕ) where
   -- the places that are left

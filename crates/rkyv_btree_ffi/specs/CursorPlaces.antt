@@ -1,7 +1,7 @@
 -- The numbers of a cursor that are a place in a map.
 use Rattle.std.specs.Prelude.{◌≡◌, ℕ, zero, suc, ◌≤◌, List, Option, Some, false}
-use Rattle.rkyv_btree_base.specs.Kind.{Kind}
-use Rattle.rkyv_btree_base.specs.Layout.{NodeLayout, layout_of}
+use Rattle.rkyv_btree_portable.specs.Kind.{Kind}
+use Rattle.rkyv_btree_format.specs.Layout.{NodeLayout, layout_of}
 use Rattle.rkyv_btree_walk.specs.Below.{root_place, IsBelow, PathBelow, RunBelow}
 use Rattle.rkyv_btree_walk.specs.Nodes.{is_leaf, child_place}
 use Rattle.rkyv_btree_ffi.specs.MapTypes.{key_kind, value_kind}

@@ -2,7 +2,7 @@
 use Rattle.std.specs.Prelude.{◌≡◌, ℕ, List, Bool, Option, Some, None, MatchOption, nat_lt, if◌then◌else◌}
 use Rattle.std.specs.Int.{w32, w64, to_le_bytes}
 use Rattle.std.specs.declared.cmp.Ordering.{Ordering}
-use Rattle.rkyv_btree_base.specs.Kind.{Kind}
+use Rattle.rkyv_btree_portable.specs.Kind.{Kind}
 use Rattle.rkyv_btree_seal.specs.Places.{SetsFound}
 use Rattle.rkyv_btree_ffi.specs.MapTypes.{key_kind, value_kind}
 use Rattle.rkyv_btree_ffi.specs.declared.map_type.MapType.{MapType}

@@ -1,13 +1,13 @@
 -- Keys and values as C has them.
-use Rattle.std.specs.Prelude.{◌≡◌, ℕ, ◌+◌, ◌≤◌, ◌<◌, List, length, IsUtf8, String, string_bytes}
-use Rattle.std.specs.declared.alloc.Global.{Global}
-use Rattle.rkyv_btree_base.specs.Archiving.{Archival, native_archival}
-use Rattle.rkyv_btree_base.specs.Bytes.{bytes_at}
-use Rattle.rkyv_btree_base.specs.Kind.{Kind}
-use Rattle.rkyv_btree_base.specs.Natives.{u32_form, u64_form}
-use Rattle.rkyv_btree_base.specs.Scalars.{u32_kind, u64_kind}
-use Rattle.rkyv_btree_base.specs.Text.{text_kind}
-use Rattle.rkyv_btree_base.specs.TextArchival.{text_archival}
+use Rattle.std.specs.Borrow.{Bor}
+use Rattle.std.specs.Prelude.{◌≡◌, ℕ, ◌+◌, ◌≤◌, ◌<◌, List, length, IsUtf8}
+use Rattle.rkyv_btree_writer.specs.Archiving.{Archival, native_archival}
+use Rattle.rkyv_btree_portable.specs.Bytes.{bytes_at}
+use Rattle.rkyv_btree_portable.specs.Kind.{Kind}
+use Rattle.rkyv_btree_portable.specs.Natives.{u32_form, u64_form}
+use Rattle.rkyv_btree_portable.specs.Scalars.{u32_kind, u64_kind}
+use Rattle.rkyv_btree_portable.specs.Text.{text_kind}
+use Rattle.rkyv_btree_writer.specs.TextArchival.{text_archival}
 use Rattle.rkyv_btree_ffi.specs.declared.item.BtreeItem.{BtreeItem}
 
 -- an item is this number
@@ -45,16 +45,16 @@ item_value narrow texts item = item.number
 item_value wide texts item = item.number
 item_value text texts item = bytes_at texts item.start item.len
 
--- native keys and values, what they mean, and how they are archived
+-- native keys and values, what they mean, and how they are archived. A text is borrowed
 abbrev pub Native : ItemType → Type 0
 Native narrow = ℕ
 Native wide = ℕ
-Native text = String Global
+Native text = Bor (List ℕ)
 
 abbrev pub native_value : (i : ItemType) → Native i → (kind_at i).Value
 native_value narrow = λ n. n
 native_value wide = λ n. n
-native_value text = string_bytes
+native_value text = λ t. t.now
 
 abbrev pub IsNative : (i : ItemType) → List ℕ → BtreeItem → Native i → Type 0
 IsNative i texts item native = native_value i native ≡ item_value i texts item
@@ -67,4 +67,4 @@ Resolver text = ℕ
 abbrev pub archival_of : (i : ItemType) → Archival (Native i) (Resolver i)
 archival_of narrow = native_archival u32_form
 archival_of wide = native_archival u64_form
-archival_of text = text_archival string_bytes
+archival_of text = text_archival (λ t. t.now)

@@ -1,6 +1,7 @@
 pub mod Batches
 pub mod Building
 pub mod Codes
+pub mod Columns
 pub mod CursorEntries
 pub mod CursorPlaces
 pub mod Cursors
@@ -11,5 +12,6 @@ pub mod Items
 pub mod MapTypes
 pub mod Messages
 pub mod Opening
+pub mod Pieces
 pub mod Queries
 pub mod mirror

@@ -1,8 +1,8 @@
 -- The types of maps that C opens and builds: their numbers, and what their keys and values are.
 use Rattle.std.specs.Prelude.{◌≡◌, ℕ, List, Option, Some, None, nat_eq, if◌then◌else◌}
-use Rattle.rkyv_btree_base.specs.Kind.{Kind}
-use Rattle.rkyv_btree_base.specs.Map.{map_kind}
-use Rattle.rkyv_btree_base.specs.Read.{read_map}
+use Rattle.rkyv_btree_portable.specs.Kind.{Kind}
+use Rattle.rkyv_btree_verify.specs.Map.{map_kind}
+use Rattle.rkyv_btree_format.specs.Read.{read_map}
 use Rattle.rkyv_btree_ffi.specs.Items.{ItemType, narrow, wide, text, kind_at}
 use Rattle.rkyv_btree_ffi.specs.declared.map_type.MapType.{MapType}
 use Rattle.rkyv_btree_ffi.specs.declared.map_type.MapType.TheVariants.{U32ToU32, U32ToU64, U32ToText, U64ToU32, U64ToU64, U64ToText}

@@ -18,6 +18,7 @@ message_of code =
     if nat_eq code 18 then codes "no such key" else
     if nat_eq code 19 then codes "the cursor is no place in the map" else
     if nat_eq code 20 then codes "the values of the map aren't such numbers" else
+    if nat_eq code 21 then codes "the lookup needs bytes that no piece has" else
     if nat_eq code 32 then codes "more than 4294967295 entries" else
     if nat_eq code 33 then codes "the archive would be longer than 4294967295 bytes" else
     if nat_eq code 34 then codes "a pointer would reach over more than 2 GiB" else

@@ -1,13 +1,13 @@
 -- What opening a whole archive for C gives.
 use Rattle.std.specs.Prelude.{◌≡◌, ℕ, IsTrue, List, Result, Ok, Err, Some}
-use Rattle.rkyv_btree_base.specs.Increasing.{Increasing as AreIncreasing}
-use Rattle.rkyv_btree_base.specs.Kind.{Kind}
-use Rattle.rkyv_btree_base.specs.Map.{map_kind}
-use Rattle.rkyv_btree_base.specs.Read.{read_map}
-use Rattle.rkyv_btree_base.specs.Refusal.{Refusal}
-use Rattle.rkyv_btree_base.specs.Refusals.{RefusesMap}
-use Rattle.rkyv_btree_base.specs.Views.{stands}
-use Rattle.rkyv_btree_base.specs.Whole.{IsArchiveOf, own_at}
+use Rattle.rkyv_btree_format.specs.Increasing.{Increasing as AreIncreasing}
+use Rattle.rkyv_btree_portable.specs.Kind.{Kind}
+use Rattle.rkyv_btree_verify.specs.Map.{map_kind}
+use Rattle.rkyv_btree_format.specs.Read.{read_map}
+use Rattle.rkyv_btree_portable.specs.declared.refusal.Refusal.{Refusal}
+use Rattle.rkyv_btree_verify.specs.Refusals.{RefusesMap}
+use Rattle.rkyv_btree_portable.specs.Views.{stands}
+use Rattle.rkyv_btree_format.specs.OwnBytes.{IsArchiveOf, own_at}
 use Rattle.rkyv_btree_strict.specs.Strict.{RefusesStrict}
 use Rattle.rkyv_btree_convert.specs.Whole.{IsUnopened}
 use Rattle.rkyv_btree_ffi.specs.Codes.{refusal_for}

@@ -1,35 +1,38 @@
 //! Archives of entries that C has.
 ghost use Rattle.std.specs.Prelude.{◌≡◌, ◌≤◌, ◌<◌, IsTrue, IfOk, IfErr, OnOk, None, length};
 ghost use Rattle.std.specs.Iterator.{YieldsFirstBy, item_count};
-ghost use Rattle.rkyv_btree_base.specs.Increasing.{Increasing as AreIncreasing};
-ghost use Rattle.rkyv_btree_base.specs.Kept.{OnlyAppended};
-ghost use Rattle.rkyv_btree_base.specs.Layout.{are_fitting};
-ghost use Rattle.rkyv_btree_base.specs.SmallestMaps.{IsArchive};
-ghost use Rattle.rkyv_btree_base.specs.TreeArchival.{tree_archival};
-ghost use Rattle.rkyv_btree_base.specs.Archiving.{Serialises};
-ghost use Rattle.rkyv_btree_base.specs.Whole.{fresh};
-ghost use Rattle.rkyv_btree_ffi.specs.Building.{Archives, Puts, code_of as code_for};
+ghost use Rattle.std.specs.List.{range_with_len};
+ghost use Rattle.rkyv_btree_format.specs.Increasing.{Increasing as AreIncreasing};
+ghost use Rattle.rkyv_btree_writing_laws.specs.Kept.{OnlyAppended};
+ghost use Rattle.rkyv_btree_format.specs.Layout.{are_fitting};
+ghost use Rattle.rkyv_btree_writing_laws.specs.SmallestMaps.{IsArchive};
+ghost use Rattle.rkyv_btree_writing_laws.specs.TreeArchival.{tree_archival};
+ghost use Rattle.rkyv_btree_writer.specs.Archiving.{Serialises};
+ghost use Rattle.rkyv_btree_writing_laws.specs.Whole.{fresh};
+ghost use Rattle.rkyv_btree_ffi.specs.Building.{Archives, ArchivesColumns, Puts};
+ghost use Rattle.rkyv_btree_ffi.specs.Building.{cause_of as cause_for, code_of as code_for, index_of as index_for};
 ghost use Rattle.rkyv_btree_ffi.specs.MapTypes.{type_of, IfType};
 ghost use Rattle.rkyv_btree_ffi.specs.declared.order.Order.{Order};
 ghost use Rattle.rkyv_btree_ffi.specs.declared.order.Order.TheVariants.{Any, Increasing};
-ghost use Rattle.rkyv_btree_ffi.specs.mirror.Natives.{given_fault, AreGiven, IsUngiven, TreeFault, NativeFault, ArchivesNatives, BuiltGiven, UnbuiltGiven};
+ghost use Rattle.rkyv_btree_ffi.specs.mirror.Natives.{AreGiven, IsOfBoth, IsRow, IsUngiven, TreeFault, NativeFault, ArchivesNatives, BuiltGiven, UnbuiltGiven};
 
 use crate::at_type;
 use crate::codes::{
-    BAD_ITEM, BAD_TYPE, LENGTH_OVERFLOW, NO_MEMORY, NO_ROOM, NOT_INCREASING, OFFSET_OVERFLOW, OK,
-    POSITION_OVERFLOW,
+    BAD_ITEM, BAD_TYPE, BtreeRefusal, LENGTH_OVERFLOW, NO_MEMORY, NO_ROOM, NOT_INCREASING,
+    OFFSET_OVERFLOW, OK, POSITION_OVERFLOW,
 };
-use crate::given::{Given, ItemFault, native};
+use crate::column::BtreeColumn;
+use crate::given::{Given, native, native_row};
 use crate::item::BtreeEntry;
 use crate::map_type::MapType;
 use crate::order::Order;
-use rkyv_btree_base::build::BTreeMapResolver;
-use rkyv_btree_base::fault::Fault;
-use rkyv_btree_base::laws::written_maps_are_held;
-use rkyv_btree_base::map::ArchivedBTreeMap;
-use rkyv_btree_base::numbers::{ArchivedU32, ArchivedU64};
-use rkyv_btree_base::place::VecWriter;
-use rkyv_btree_base::text::ArchivedText;
+use rkyv_btree_archive::build::{BTreeMapResolver, written_maps_are_held};
+use rkyv_btree_archive::build_map::BuildMap;
+use rkyv_btree_portable::numbers::{ArchivedU32, ArchivedU64};
+use rkyv_btree_portable::text::ArchivedText;
+use rkyv_btree_types::map::ArchivedBTreeMap;
+use rkyv_btree_writer::fault::Fault;
+use rkyv_btree_writer::place::VecWriter;
 use std::alloc::{AllocError, Global};
 
 /// Why there is no archive of entries.
@@ -76,42 +79,83 @@ fn code_of(fault: &BuildFault) -> u32
     }
 }
 
-/// Returns why there is no archive of entries, of which the one at `index` has no native value.
-fn fault_at(index: usize, fault: ItemFault) -> BuildFault
-    ensures { result ≡ given_fault index fault }
+/// Returns the index of the entry that is bad or out of order, or 0.
+fn index_of(fault: &BuildFault) -> u64
+    ensures { result ≡ index_for fault.now }
 {
     match fault {
-        ItemFault::NotOfType => BuildFault::BadItem { index },
-        ItemFault::Memory => BuildFault::Unbuilt(Fault::Memory(AllocError)),
+        BuildFault::BadItem { index } => *index as u64,
+        BuildFault::Unbuilt(Fault::OutOfOrder { index }) => *index,
+        BuildFault::Unbuilt(_) => 0,
+    }
+}
+
+/// Returns the cause of an error of building as C has it.
+fn cause_of(fault: &BuildFault) -> BtreeRefusal
+    ensures { result ≡ cause_for fault.now }
+{
+    BtreeRefusal {
+        code: code_of(fault),
+        at: 0,
+        found: index_of(fault),
+        allowed: 0,
     }
 }
 
 /// Returns the native keys and values of entries.
-fn natives<K: Given, V: Given>(
+fn natives<'t, K: Given<'t>, V: Given<'t>>(
     alloc: Global,
     entries: &[BtreeEntry],
-    texts: &[u8],
+    texts: &'t [u8],
 ) -> Result<Vec<(K::Native, V::Native)>, BuildFault>
     ensures given { IfOk result (λ natives.
-        AreGiven K.IsItem V.IsItem K.Gives V.Gives texts.now entries.now natives.items) }
-    ensures bad { IfErr result (IsUngiven K.IsItem V.IsItem texts.now entries.now) }
+        AreGiven (IsOfBoth K.IsItem V.IsItem texts.now) (λ e. K.Gives texts.now e.key)
+        (λ e. V.Gives texts.now e.value) entries.now natives.items) }
+    ensures bad { IfErr result (IsUngiven (IsOfBoth K.IsItem V.IsItem texts.now) entries.now) }
 {
     let mut natives = Vec::new(alloc);
     'entries: for index in 0..entries.len() {
-        match native::<K, V>(alloc, texts, &entries[index]) {
-            Ok(pair) => {
+        match native::<K, V>(texts, &entries[index]) {
+            Some(pair) => {
                 if natives.push(pair).is_err() {
                     return Err(BuildFault::Unbuilt(Fault::Memory(AllocError)));
                 }
             }
-            Err(fault) => return Err(fault_at(index, fault)),
+            None => return Err(BuildFault::BadItem { index }),
+        }
+    }
+    Ok(natives)
+}
+
+/// Returns the first native keys and values of two columns, as many as `len`.
+fn native_rows<'t, K: Given<'t>, V: Given<'t>>(
+    alloc: Global,
+    keys: &BtreeColumn<'t>,
+    values: &BtreeColumn<'t>,
+    len: usize,
+) -> Result<Vec<(K::Native, V::Native)>, BuildFault>
+    ensures given { IfOk result (λ natives.
+        AreGiven (IsRow K.IsCell V.IsCell keys.now values.now) (K.CellGives keys.now)
+        (V.CellGives values.now) (range_with_len 0 len) natives.items) }
+    ensures bad { IfErr result
+        (IsUngiven (IsRow K.IsCell V.IsCell keys.now values.now) (range_with_len 0 len)) }
+{
+    let mut natives = Vec::new(alloc);
+    'rows: for index in 0..len {
+        match native_row::<K, V>(keys, values, index) {
+            Some(pair) => {
+                if natives.push(pair).is_err() {
+                    return Err(BuildFault::Unbuilt(Fault::Memory(AllocError)));
+                }
+            }
+            None => return Err(BuildFault::BadItem { index }),
         }
     }
     Ok(natives)
 }
 
 /// Writes the tree of native entries, whose keys must be in an order, and returns the position of its root node.
-fn write_tree<K: Given, V: Given>(
+fn write_tree<'t, K: Given<'t>, V: Given<'t>>(
     alloc: Global,
     order: Order,
     natives: &[(K::Native, V::Native)],
@@ -148,7 +192,7 @@ fn write_tree<K: Given, V: Given>(
 }
 
 /// Returns the archive of native entries, whose keys must be in an order.
-fn archive_of<K: Given, V: Given>(
+fn archive_of<'t, K: Given<'t>, V: Given<'t>>(
     alloc: Global,
     order: Order,
     natives: &[(K::Native, V::Native)],
@@ -173,18 +217,20 @@ fn archive_of<K: Given, V: Given>(
 }
 
 /// Returns the archive of entries, whose keys must be in an order.
-fn archive<K: Given, V: Given>(
+fn archive<'t, K: Given<'t>, V: Given<'t>>(
     alloc: Global,
     order: Order,
     entries: &[BtreeEntry],
-    texts: &[u8],
+    texts: &'t [u8],
 ) -> Result<Vec<u8>, BuildFault>
     requires { IsTrue (are_fitting K.kind V.kind 5) }
     ensures built { IfOk result (λ bytes.
-        BuiltGiven K.IsItem V.IsItem K.Gives V.Gives texts.now order entries.now K.kind V.kind
+        BuiltGiven (IsOfBoth K.IsItem V.IsItem texts.now) (λ e. K.Gives texts.now e.key)
+        (λ e. V.Gives texts.now e.value) order entries.now K.kind V.kind
         K.Native.archival V.Native.archival K.Native.cmp bytes.items) }
     ensures unbuilt { IfErr result
-        (UnbuiltGiven K.IsItem V.IsItem K.Gives V.Gives texts.now order entries.now
+        (UnbuiltGiven (IsOfBoth K.IsItem V.IsItem texts.now) (λ e. K.Gives texts.now e.key)
+        (λ e. V.Gives texts.now e.value) order entries.now
         K.Native.archival V.Native.archival K.Native.cmp) }
 {
     let natives = natives::<K, V>(alloc, entries, texts)?;
@@ -207,16 +253,64 @@ fn archive_at(
     at_type!(map_type, archive(alloc, order, entries, texts))
 }
 
-/// Writes an archive, if there is room for it, and its length. Returns the code.
-fn put(archive: Result<Vec<u8>, BuildFault>, out: &mut [u8], len_out: &mut usize) -> u32
-    ensures { Puts archive out.old out.new len_out.old len_out.new result }
+/// Returns the archive of the first entries of two columns, whose keys must be in an order.
+fn archive_columns<'t, K: Given<'t>, V: Given<'t>>(
+    alloc: Global,
+    order: Order,
+    keys: &BtreeColumn<'t>,
+    values: &BtreeColumn<'t>,
+    len: usize,
+) -> Result<Vec<u8>, BuildFault>
+    requires { IsTrue (are_fitting K.kind V.kind 5) }
+    ensures built { IfOk result (λ bytes.
+        BuiltGiven (IsRow K.IsCell V.IsCell keys.now values.now) (K.CellGives keys.now)
+        (V.CellGives values.now) order (range_with_len 0 len) K.kind V.kind
+        K.Native.archival V.Native.archival K.Native.cmp bytes.items) }
+    ensures unbuilt { IfErr result
+        (UnbuiltGiven (IsRow K.IsCell V.IsCell keys.now values.now) (K.CellGives keys.now)
+        (V.CellGives values.now) order (range_with_len 0 len)
+        K.Native.archival V.Native.archival K.Native.cmp) }
+{
+    let natives = native_rows::<K, V>(alloc, keys, values, len)?;
+    match archive_of::<K, V>(alloc, order, &natives) {
+        Ok(bytes) => Ok(bytes),
+        Err(fault) => Err(BuildFault::Unbuilt(fault)),
+    }
+}
+
+/// Returns the archive of the first entries of the columns of a map of a type.
+fn archive_columns_at(
+    map_type: MapType,
+    alloc: Global,
+    order: Order,
+    keys: &BtreeColumn<'_>,
+    values: &BtreeColumn<'_>,
+    len: usize,
+) -> Result<Vec<u8>, BuildFault>
+    ensures { ArchivesColumns map_type order keys.now values.now len result }
+{
+    at_type!(map_type, archive_columns(alloc, order, keys, values, len))
+}
+
+/// Writes an archive, if there is room for it, and its length; or why there is none. Returns the code.
+fn put(
+    archive: Result<Vec<u8>, BuildFault>,
+    out: &mut [u8],
+    archive_len: &mut usize,
+    refusal: &mut BtreeRefusal,
+) -> u32
+    ensures { Puts archive out.old out.new archive_len.old archive_len.new refusal.old
+        refusal.new result }
 {
     let bytes = match archive {
         Ok(bytes) => bytes,
-        Err(fault) => return code_of(&fault),
+        Err(fault) => {
+            *refusal = cause_of(&fault);
+            return refusal.code;
+        }
     };
     let len = bytes.len();
-    *len_out = len;
+    *archive_len = len;
     if len > out.len() {
         return NO_ROOM;
     }
@@ -232,13 +326,15 @@ pub extern "C" fn rkyv_btree_build(
     entries: &[BtreeEntry],
     texts: &[u8],
     out: &mut [u8],
-    len_out: &mut usize,
+    archive_len: &mut usize,
+    refusal: &mut BtreeRefusal,
 ) -> u32
     ensures built { IfType map_type (λ t. (built : _)
         × Archives t Any texts.now entries.now built
-        × Puts built out.old out.new len_out.old len_out.new result) }
-    ensures no_type { type_of map_type ≡ None →
-        (result ≡ 17) × (out.new ≡ out.old) × (len_out.new ≡ len_out.old) }
+        × Puts built out.old out.new archive_len.old archive_len.new refusal.old refusal.new
+        result) }
+    ensures no_type { type_of map_type ≡ None → (result ≡ 17) × (out.new ≡ out.old)
+        × (archive_len.new ≡ archive_len.old) × (refusal.new ≡ refusal.old) }
 {
     let Some(at) = MapType::from_number(map_type) else {
         return BAD_TYPE;
@@ -246,7 +342,8 @@ pub extern "C" fn rkyv_btree_build(
     put(
         archive_at(at, alloc, Order::Any, entries, texts),
         out,
-        len_out,
+        archive_len,
+        refusal,
     )
 }
 
@@ -258,13 +355,15 @@ pub extern "C" fn rkyv_btree_build_strict(
     entries: &[BtreeEntry],
     texts: &[u8],
     out: &mut [u8],
-    len_out: &mut usize,
+    archive_len: &mut usize,
+    refusal: &mut BtreeRefusal,
 ) -> u32
     ensures built { IfType map_type (λ t. (built : _)
         × Archives t Increasing texts.now entries.now built
-        × Puts built out.old out.new len_out.old len_out.new result) }
-    ensures no_type { type_of map_type ≡ None →
-        (result ≡ 17) × (out.new ≡ out.old) × (len_out.new ≡ len_out.old) }
+        × Puts built out.old out.new archive_len.old archive_len.new refusal.old refusal.new
+        result) }
+    ensures no_type { type_of map_type ≡ None → (result ≡ 17) × (out.new ≡ out.old)
+        × (archive_len.new ≡ archive_len.old) × (refusal.new ≡ refusal.old) }
 {
     let Some(at) = MapType::from_number(map_type) else {
         return BAD_TYPE;
@@ -272,6 +371,67 @@ pub extern "C" fn rkyv_btree_build_strict(
     put(
         archive_at(at, alloc, Order::Increasing, entries, texts),
         out,
-        len_out,
+        archive_len,
+        refusal,
+    )
+}
+
+/// Builds the archive of the first entries of two columns, and writes it and its length.
+#[unsafe(no_mangle)]
+pub extern "C" fn rkyv_btree_build_arrays(
+    alloc: Global,
+    map_type: u32,
+    len: usize,
+    keys: &BtreeColumn<'_>,
+    values: &BtreeColumn<'_>,
+    out: &mut [u8],
+    archive_len: &mut usize,
+    refusal: &mut BtreeRefusal,
+) -> u32
+    ensures built { IfType map_type (λ t. (built : _)
+        × ArchivesColumns t Any keys.now values.now len built
+        × Puts built out.old out.new archive_len.old archive_len.new refusal.old refusal.new
+        result) }
+    ensures no_type { type_of map_type ≡ None → (result ≡ 17) × (out.new ≡ out.old)
+        × (archive_len.new ≡ archive_len.old) × (refusal.new ≡ refusal.old) }
+{
+    let Some(at) = MapType::from_number(map_type) else {
+        return BAD_TYPE;
+    };
+    put(
+        archive_columns_at(at, alloc, Order::Any, keys, values, len),
+        out,
+        archive_len,
+        refusal,
+    )
+}
+
+/// Builds the archive of the first entries of two columns, whose keys increase, and writes it and its length.
+#[unsafe(no_mangle)]
+pub extern "C" fn rkyv_btree_build_arrays_strict(
+    alloc: Global,
+    map_type: u32,
+    len: usize,
+    keys: &BtreeColumn<'_>,
+    values: &BtreeColumn<'_>,
+    out: &mut [u8],
+    archive_len: &mut usize,
+    refusal: &mut BtreeRefusal,
+) -> u32
+    ensures built { IfType map_type (λ t. (built : _)
+        × ArchivesColumns t Increasing keys.now values.now len built
+        × Puts built out.old out.new archive_len.old archive_len.new refusal.old refusal.new
+        result) }
+    ensures no_type { type_of map_type ≡ None → (result ≡ 17) × (out.new ≡ out.old)
+        × (archive_len.new ≡ archive_len.old) × (refusal.new ≡ refusal.old) }
+{
+    let Some(at) = MapType::from_number(map_type) else {
+        return BAD_TYPE;
+    };
+    put(
+        archive_columns_at(at, alloc, Order::Increasing, keys, values, len),
+        out,
+        archive_len,
+        refusal,
     )
 }

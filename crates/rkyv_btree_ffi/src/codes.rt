@@ -2,7 +2,7 @@
 ghost use Rattle.std.specs.Prelude.{◌≡◌, ◌≤◌};
 ghost use Rattle.rkyv_btree_ffi.specs.Codes.{refusal_for};
 
-use rkyv_btree_base::refusal::Refusal;
+use rkyv_btree_portable::refusal::Refusal;
 
 /// Success.
 pub const OK: u32 = 0;
@@ -21,6 +21,9 @@ pub const BAD_CURSOR: u32 = 19;
 
 /// The values of the map aren't such numbers.
 pub const BAD_VALUE: u32 = 20;
+
+/// The lookup needs a part that no piece has.
+pub const MISSING: u32 = 21;
 
 /// More entries than 32 bits count.
 pub const LENGTH_OVERFLOW: u32 = 32;

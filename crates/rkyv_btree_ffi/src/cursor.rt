@@ -1,9 +1,9 @@
 //! Cursors along the entries of a map: plain numbers that C keeps, and that are tested before they are used.
 ghost use Rattle.std.specs.Prelude.{◌≡◌, ℕ, ◌+◌, ◌≤◌, IsTrue, IfSome, Some, None, true, false, length};
-ghost use Rattle.rkyv_btree_base.specs.Bytes.{place_at};
-ghost use Rattle.rkyv_btree_base.specs.Layout.{layout_of, are_fitting};
-ghost use Rattle.rkyv_btree_base.specs.Map.{map_kind};
-ghost use Rattle.rkyv_btree_base.specs.Views.{stands};
+ghost use Rattle.rkyv_btree_portable.specs.Bytes.{place_at};
+ghost use Rattle.rkyv_btree_format.specs.Layout.{layout_of, are_fitting};
+ghost use Rattle.rkyv_btree_verify.specs.Map.{map_kind};
+ghost use Rattle.rkyv_btree_portable.specs.Views.{stands};
 ghost use Rattle.rkyv_btree_walk.specs.WalkBetween.{IsRangeWalk};
 ghost use Rattle.rkyv_btree_walk.specs.Below.{root_place, IsBelow, PathBelow, RunBelow};
 ghost use Rattle.rkyv_btree_walk.specs.Nodes.{natural, is_leaf as is_leaf_at, child_place, entry_count};
@@ -12,9 +12,9 @@ ghost use Rattle.rkyv_btree_ffi.specs.Cursors.{path_of, step_of, stop_of, IsKept
 ghost use Rattle.rkyv_btree_ffi.specs.CursorPlaces.{IsInMap, Leads, IsStep, IsPathOf, IsGood};
 
 use arrayvec::ArrayVec;
-use rkyv_btree_base::bytes::{num32, target};
-use rkyv_btree_base::check::Portable;
-use rkyv_btree_base::map::ArchivedBTreeMap;
+use rkyv_btree_portable::bytes::{num32, target};
+use rkyv_btree_portable::check::Portable;
+use rkyv_btree_types::map::ArchivedBTreeMap;
 use rkyv_btree_walk::archived_map::{ArchivedMap, map_len};
 use rkyv_btree_walk::path::Path;
 use rkyv_btree_walk::range_walk::RangeWalk;

@@ -1,9 +1,9 @@
 //! Maps whose values C overwrites.
 ghost use Rattle.std.specs.Prelude.{◌≡◌, IsTrue, None, Some, if◌then◌else◌};
 ghost use Rattle.std.specs.Int.{w64, to_le_bytes};
-ghost use Rattle.rkyv_btree_base.specs.Scalars.{u32_kind, u64_kind};
-ghost use Rattle.rkyv_btree_base.specs.Map.{map_kind};
-ghost use Rattle.rkyv_btree_base.specs.Views.{stands};
+ghost use Rattle.rkyv_btree_portable.specs.Scalars.{u32_kind, u64_kind};
+ghost use Rattle.rkyv_btree_verify.specs.Map.{map_kind};
+ghost use Rattle.rkyv_btree_portable.specs.Views.{stands};
 ghost use Rattle.rkyv_btree_view.specs.Lookup.{ByNative};
 ghost use Rattle.rkyv_btree_seal.specs.Places.{SetsFound};
 ghost use Rattle.rkyv_btree_ffi.specs.Editing.{narrow, SetsOwn, SetsValue};
@@ -12,17 +12,17 @@ ghost use Rattle.rkyv_btree_ffi.specs.MapTypes.{type_of, kind_of, IfType};
 ghost use Rattle.rkyv_btree_ffi.specs.Opening.{Opens, IsOpenedEdit};
 
 use crate::codes::{BAD_TYPE, BAD_VALUE, BtreeRefusal, NOT_FOUND, NOT_OPEN, OK, refusal_of};
-use crate::handle::BtreeEdit;
+use crate::handle::{BtreeEdit, BtreeMap};
 use crate::item::Shown;
 use crate::map_type::MapType;
 use crate::opening::opened_at;
 use crate::query::Query;
-use rkyv_btree_base::check::InPlace;
-use rkyv_btree_base::map::ArchivedBTreeMap;
-use rkyv_btree_base::numbers::{ArchivedU32, ArchivedU64};
-use rkyv_btree_base::refusal::Refusal;
-use rkyv_btree_base::text::ArchivedText;
+use rkyv_btree_portable::in_place::InPlace;
+use rkyv_btree_portable::numbers::{ArchivedU32, ArchivedU64};
+use rkyv_btree_portable::refusal::Refusal;
+use rkyv_btree_portable::text::ArchivedText;
 use rkyv_btree_seal::map_seal::MapSeal;
+use rkyv_btree_types::map::ArchivedBTreeMap;
 use rkyv_btree_view::view::View;
 
 /// Returns the position of the map of a type of the whole archive in the buffer.
@@ -59,6 +59,29 @@ pub extern "C" fn rkyv_btree_open_edit(
             refusal.code
         }
     }
+}
+
+/// Opens the map of an edited map's buffer for reading, until a value is overwritten. Nothing is validated.
+#[unsafe(no_mangle)]
+pub extern "C" fn rkyv_btree_read_edit<'a>(map: &mut BtreeMap<'a>, edit: &'a BtreeEdit<'_>) -> u32
+    ensures open { IfType edit.now.map_type (λ t. (result ≡ 0) × (type_of map.new.map_type ≡ Some t)
+        × (map.new.buf.now ≡ edit.now.buf.now) × (map.new.pos ≡ edit.now.pos)) }
+    ensures closed { type_of edit.now.map_type ≡ None → (result ≡ 16) × (map.new.map_type ≡ 0) }
+{
+    *map = BtreeMap {
+        buf: &[],
+        pos: 0,
+        map_type: 0,
+    };
+    if MapType::from_number(edit.map_type).is_none() {
+        return NOT_OPEN;
+    }
+    *map = BtreeMap {
+        buf: edit.buf,
+        pos: edit.pos,
+        map_type: edit.map_type,
+    };
+    OK
 }
 
 /// Overwrites the value of the entry that a search for a query finds in the map at `pos`, and returns whether it finds one.

@@ -1,8 +1,8 @@
 //! Lookups in bytes that nobody has validated. No map is opened, and no memory is allocated.
 ghost use Rattle.std.specs.Prelude.{◌≡◌, ◌≢◌, ◌<◌, IsTrue, IfSome, Ok, None};
-ghost use Rattle.rkyv_btree_base.specs.Layout.{are_fitting};
-ghost use Rattle.rkyv_btree_base.specs.Map.{map_kind};
-ghost use Rattle.rkyv_btree_base.specs.Whole.{IsArchiveOf, own_at};
+ghost use Rattle.rkyv_btree_format.specs.Layout.{are_fitting};
+ghost use Rattle.rkyv_btree_verify.specs.Map.{map_kind};
+ghost use Rattle.rkyv_btree_format.specs.OwnBytes.{IsArchiveOf, own_at};
 ghost use Rattle.rkyv_btree_view.specs.Lookup.{ByNative};
 ghost use Rattle.rkyv_btree_ffi.specs.Entries.{comparison_with, by_number, by_text, LooksUp};
 ghost use Rattle.rkyv_btree_ffi.specs.Finding.{LookupReturns, IsFoundEntry, IsRefusal};
@@ -14,12 +14,12 @@ use crate::codes::{BAD_TYPE, BtreeRefusal, NOT_FOUND, OK, refusal_of};
 use crate::item::{BtreeEntry, Shown};
 use crate::map_type::MapType;
 use crate::query::Query;
-use rkyv_btree_base::map::ArchivedBTreeMap;
-use rkyv_btree_base::numbers::{ArchivedU32, ArchivedU64};
-use rkyv_btree_base::refusal::Refusal;
-use rkyv_btree_base::text::ArchivedText;
+use rkyv_btree_portable::numbers::{ArchivedU32, ArchivedU64};
+use rkyv_btree_portable::refusal::Refusal;
+use rkyv_btree_portable::text::ArchivedText;
+use rkyv_btree_types::map::ArchivedBTreeMap;
+use rkyv_btree_unverified::laws::{lookups_are_determined, maps_are_searched};
 use rkyv_btree_unverified::unverified::Unverified;
-use rkyv_btree_unverified::unverified_laws::{lookups_are_determined, maps_are_searched};
 use rkyv_btree_view::view::View;
 
 /// Returns the entry of a view of a key and a view of a value as C has it.

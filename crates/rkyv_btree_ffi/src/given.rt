@@ -1,28 +1,23 @@
 //! Keys and values that C hands in.
-ghost use Rattle.std.specs.Prelude.{◌≡◌, ℕ, List, IfOk, OnOk, OnErr, IsErrOf, string_bytes};
+ghost use Rattle.std.specs.Prelude.{◌≡◌, ◌<◌, ℕ, List, IfSome, None};
+ghost use Rattle.rkyv_btree_ffi.specs.Columns.{IsCell as IsCellOf, IsNativeCell};
 ghost use Rattle.rkyv_btree_ffi.specs.Items.{narrow, wide, text as a_text, IsOfType, IsNative};
+ghost use Rattle.rkyv_btree_ffi.specs.declared.column.BtreeColumn.{BtreeColumn as Column};
 ghost use Rattle.rkyv_btree_ffi.specs.declared.item.BtreeItem.{BtreeItem};
+ghost use Rattle.rkyv_btree_ffi.specs.mirror.Natives.{IsOfBoth, IsRow};
 
+use crate::column::{BtreeColumn, narrow_at, text_at, wide_at};
 use crate::item::{BtreeEntry, BtreeItem, Shown};
-use rkyv_btree_base::archive::{Archive, Serialize};
-use rkyv_btree_base::numbers::{ArchivedU32, ArchivedU64};
-use rkyv_btree_base::place::VecWriter;
-use rkyv_btree_base::text::ArchivedText;
+use rkyv_btree_archive::archive::{Archive, Serialize};
+use rkyv_btree_portable::numbers::{ArchivedU32, ArchivedU64};
+use rkyv_btree_portable::text::ArchivedText;
+use rkyv_btree_writer::place::VecWriter;
 use std::alloc::Global;
 use std::str::from_utf8;
 
-/// Why an item has no native value.
-#[derive(Clone, Copy, Debug, PartialEq, Eq, Drop)]
-pub enum ItemFault {
-    /// It is none of the type.
-    NotOfType,
-    /// An allocation failed.
-    Memory,
-}
-
 /// A type of keys and values that C gives.
-pub trait Given: Shown {
-    /// The native type.
+pub trait Given<'t>: Shown {
+    /// The native type. A text is borrowed.
     type Native: Archive<Archived = Self> + Serialize<VecWriter, Global> + Ord + Drop;
 
     /// An item, whose text is in a buffer, is of the type.
@@ -31,77 +26,125 @@ pub trait Given: Shown {
     /// The item means a native value.
     ghost Gives: { List ℕ → BtreeItem → Self.Native → Type 0 };
 
-    /// Returns the native value of an item, whose text is in `texts`.
-    fn given(alloc: Global, texts: &[u8], item: &BtreeItem) -> Result<Self::Native, ItemFault>
-        ensures item { OnOk result (IsItem texts.now item.now) }
-        ensures value { IfOk result (Gives texts.now item.now) }
-        ensures none { IsErrOf result ItemFault.NotOfType → IsItem texts.now item.now → ⊥ };
+    /// A column has a key or a value of the type at an index.
+    ghost IsCell: { Column → ℕ → Type 0 };
+
+    /// It means a native value.
+    ghost CellGives: { Column → ℕ → Self.Native → Type 0 };
+
+    /// Returns the native value of an item, whose text is in `texts`, or `None` if the item isn't of the type.
+    fn given(texts: &'t [u8], item: &BtreeItem) -> Option<Self::Native>
+        ensures item { IfSome result (λ _. IsItem texts.now item.now) }
+        ensures value { IfSome result (Gives texts.now item.now) }
+        ensures none { result ≡ None → IsItem texts.now item.now → ⊥ };
+
+    /// Returns the native value at an index of a column, or `None` if the column has none of the type there.
+    fn cell(column: &BtreeColumn<'t>, index: usize) -> Option<Self::Native>
+        requires { index < 18446744073709551615 }
+        ensures cell { IfSome result (λ _. IsCell column.now index) }
+        ensures value { IfSome result (CellGives column.now index) }
+        ensures none { result ≡ None → IsCell column.now index → ⊥ };
 }
 
-impl Given for ArchivedU32 {
+impl<'t> Given<'t> for ArchivedU32 {
     type Native = u32;
 
     ghost IsItem = { IsOfType narrow };
 
     ghost Gives = { IsNative narrow };
 
-    fn given(_alloc: Global, _texts: &[u8], item: &BtreeItem) -> Result<u32, ItemFault> {
+    ghost IsCell = { IsCellOf narrow };
+
+    ghost CellGives = { IsNativeCell narrow };
+
+    fn given(_texts: &'t [u8], item: &BtreeItem) -> Option<u32> {
         match u32::try_from(item.number) {
-            Ok(number) => Ok(number),
-            Err(_) => Err(ItemFault::NotOfType),
+            Ok(number) => Some(number),
+            Err(_) => None,
         }
+    }
+
+    fn cell(column: &BtreeColumn<'t>, index: usize) -> Option<u32> {
+        narrow_at(column.buf, index)
     }
 }
 
-impl Given for ArchivedU64 {
+impl<'t> Given<'t> for ArchivedU64 {
     type Native = u64;
 
     ghost IsItem = { IsOfType wide };
 
     ghost Gives = { IsNative wide };
 
-    fn given(_alloc: Global, _texts: &[u8], item: &BtreeItem) -> Result<u64, ItemFault> {
-        Ok(item.number)
+    ghost IsCell = { IsCellOf wide };
+
+    ghost CellGives = { IsNativeCell wide };
+
+    fn given(_texts: &'t [u8], item: &BtreeItem) -> Option<u64> {
+        Some(item.number)
+    }
+
+    fn cell(column: &BtreeColumn<'t>, index: usize) -> Option<u64> {
+        wide_at(column.buf, index)
     }
 }
 
-impl Given for ArchivedText {
-    type Native = String;
+impl<'t> Given<'t> for ArchivedText {
+    type Native = &'t str;
 
     ghost IsItem = { IsOfType a_text };
 
     ghost Gives = { IsNative a_text };
 
-    fn given(alloc: Global, texts: &[u8], item: &BtreeItem) -> Result<String, ItemFault> {
+    ghost IsCell = { IsCellOf a_text };
+
+    ghost CellGives = { IsNativeCell a_text };
+
+    fn given(texts: &'t [u8], item: &BtreeItem) -> Option<&'t str> {
         let start = item.start as usize;
         let end = start + item.len as usize;
         if end > texts.len() {
-            return Err(ItemFault::NotOfType);
+            return None;
         }
-        let Ok(text) = from_utf8(&texts[start..end]) else {
-            return Err(ItemFault::NotOfType);
-        };
-        match String::from_str(alloc, text) {
-            Ok(text) => Ok(text),
-            Err(_) => Err(ItemFault::Memory),
+        match from_utf8(&texts[start..end]) {
+            Ok(text) => Some(text),
+            Err(_) => None,
         }
+    }
+
+    fn cell(column: &BtreeColumn<'t>, index: usize) -> Option<&'t str> {
+        text_at(column, index)
     }
 }
 
-/// Returns the native key and the native value of an entry.
-pub(crate) fn native<K: Given, V: Given>(
-    alloc: Global,
-    texts: &[u8],
+/// Returns the native key and the native value of an entry, or `None` if one isn't of its type.
+pub(crate) fn native<'t, K: Given<'t>, V: Given<'t>>(
+    texts: &'t [u8],
     entry: &BtreeEntry,
-) -> Result<(K::Native, V::Native), ItemFault>
-    ensures entry { OnOk result
-        (K.IsItem texts.now entry.now.key × V.IsItem texts.now entry.now.value) }
-    ensures key { IfOk result (λ pair. K.Gives texts.now entry.now.key pair.0) }
-    ensures value { IfOk result (λ pair. V.Gives texts.now entry.now.value pair.1) }
-    ensures none { IsErrOf result ItemFault.NotOfType →
-        K.IsItem texts.now entry.now.key × V.IsItem texts.now entry.now.value → ⊥ }
+) -> Option<(K::Native, V::Native)>
+    ensures entry { IfSome result (λ _. IsOfBoth K.IsItem V.IsItem texts.now entry.now) }
+    ensures key { IfSome result (λ pair. K.Gives texts.now entry.now.key pair.0) }
+    ensures value { IfSome result (λ pair. V.Gives texts.now entry.now.value pair.1) }
+    ensures none { result ≡ None → IsOfBoth K.IsItem V.IsItem texts.now entry.now → ⊥ }
 {
-    let key = K::given(alloc, texts, &entry.key)?;
-    let value = V::given(alloc, texts, &entry.value)?;
-    Ok((key, value))
+    let key = K::given(texts, &entry.key)?;
+    let value = V::given(texts, &entry.value)?;
+    Some((key, value))
+}
+
+/// Returns the native key and the native value at an index of two columns, or `None` if one isn't there, or not of its type.
+pub(crate) fn native_row<'t, K: Given<'t>, V: Given<'t>>(
+    keys: &BtreeColumn<'t>,
+    values: &BtreeColumn<'t>,
+    index: usize,
+) -> Option<(K::Native, V::Native)>
+    requires { index < 18446744073709551615 }
+    ensures entry { IfSome result (λ _. IsRow K.IsCell V.IsCell keys.now values.now index) }
+    ensures key { IfSome result (λ pair. K.CellGives keys.now index pair.0) }
+    ensures value { IfSome result (λ pair. V.CellGives values.now index pair.1) }
+    ensures none { result ≡ None → IsRow K.IsCell V.IsCell keys.now values.now index → ⊥ }
+{
+    let key = K::cell(keys, index)?;
+    let value = V::cell(values, index)?;
+    Some((key, value))
 }

@@ -1,6 +1,6 @@
 //! Maps that C has opened.
 ghost use Rattle.std.specs.Prelude.{◌≡◌, IsTrue, Some};
-ghost use Rattle.rkyv_btree_base.specs.Views.{stands};
+ghost use Rattle.rkyv_btree_portable.specs.Views.{stands};
 ghost use Rattle.rkyv_btree_ffi.specs.MapTypes.{type_of, kind_of};
 
 /// A map in a buffer of the caller's. It is open if `map_type` is the number of a type.

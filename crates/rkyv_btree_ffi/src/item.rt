@@ -1,19 +1,18 @@
 //! Keys and values as C has them.
 ghost use Rattle.std.specs.Prelude.{◌≡◌, ℕ, List};
 ghost use Rattle.std.specs.declared.cmp.Ordering.{Ordering as Comparison};
-ghost use Rattle.rkyv_btree_base.specs.Scalars.{u32_kind, u64_kind};
-ghost use Rattle.rkyv_btree_base.specs.Text.{text_kind};
+ghost use Rattle.rkyv_btree_portable.specs.Scalars.{u32_kind, u64_kind};
+ghost use Rattle.rkyv_btree_portable.specs.Text.{text_kind};
 ghost use Rattle.rkyv_btree_ffi.specs.Items.{IsNumberItem, IsTextItem};
 ghost use Rattle.rkyv_btree_ffi.specs.Queries.{number_comparison, text_comparison};
 ghost use Rattle.rkyv_btree_ffi.specs.declared.item.BtreeItem.{BtreeItem};
 ghost use Rattle.rkyv_btree_ffi.specs.declared.query.Query.{Query};
 
 use crate::query::Query;
-use rkyv_btree_base::bytes::num32;
-use rkyv_btree_base::check::CheckBytes;
-use rkyv_btree_base::numbers::{ArchivedU32, ArchivedU64};
-use rkyv_btree_base::text::ArchivedText;
-use rkyv_btree_portable::bytes::pointed_at;
+use rkyv_btree_portable::bytes::{num32, pointed_at};
+use rkyv_btree_portable::check::CheckBytes;
+use rkyv_btree_portable::numbers::{ArchivedU32, ArchivedU64};
+use rkyv_btree_portable::text::ArchivedText;
 use rkyv_btree_view::compare::ViewOrd;
 use rkyv_btree_view::view::View;
 use std::cmp::Ordering;

@@ -4,6 +4,7 @@
 mod at_type;
 pub mod building;
 pub mod codes;
+pub mod column;
 pub mod cursor;
 pub mod editing;
 pub mod finding;
@@ -14,5 +15,6 @@ pub mod map_type;
 pub mod messages;
 pub mod opening;
 pub mod order;
+pub mod pieces;
 pub mod query;
 pub mod reading;

@@ -22,6 +22,7 @@ fn message(code: u32) -> &'static str
         18 => "no such key",
         19 => "the cursor is no place in the map",
         20 => "the values of the map aren't such numbers",
+        21 => "the lookup needs bytes that no piece has",
         32 => "more than 4294967295 entries",
         33 => "the archive would be longer than 4294967295 bytes",
         34 => "a pointer would reach over more than 2 GiB",

@@ -1,14 +1,14 @@
 //! Lookups and iteration of open maps.
 ghost use Rattle.std.specs.Prelude.{◌≡◌, ℕ, ◌+◌, ◌≤◌, ◌<◌, List, [], IsTrue, IfSome, IsSome, None, Some, length, take};
 ghost use Rattle.std.specs.Option.{option_map};
-ghost use Rattle.rkyv_btree_base.specs.Map.{map_kind};
-ghost use Rattle.rkyv_btree_base.specs.Read.{entry_at};
-ghost use Rattle.rkyv_btree_base.specs.Views.{stands};
+ghost use Rattle.rkyv_btree_verify.specs.Map.{map_kind};
+ghost use Rattle.rkyv_btree_format.specs.Read.{entry_at};
+ghost use Rattle.rkyv_btree_portable.specs.Views.{stands};
 ghost use Rattle.rkyv_btree_view.specs.Lookup.{ByNative};
 ghost use Rattle.rkyv_btree_seal.specs.Put.{key_place, value_place};
 ghost use Rattle.rkyv_btree_walk.specs.mirror.Node.{RunStands};
 ghost use Rattle.rkyv_btree_walk.specs.Bounds.{IsRun, IsWithin};
-ghost use Rattle.rkyv_btree_base.specs.Read.{read_map};
+ghost use Rattle.rkyv_btree_format.specs.Read.{read_map};
 ghost use Rattle.std.specs.Prelude.{◌⊎◌};
 ghost use Rattle.std.specs.declared.ops.Bound.TheVariants.{Included, Unbounded};
 ghost use Rattle.rkyv_btree_ffi.specs.Batches.{AreShown, IsFoundAt};
@@ -17,7 +17,7 @@ ghost use Rattle.rkyv_btree_ffi.specs.MapTypes.{type_of, kind_of, entries_at, If
 ghost use Rattle.rkyv_btree_ffi.specs.CursorEntries.{cursor_places, cursor_entries, entries_left};
 ghost use Rattle.rkyv_btree_ffi.specs.CursorPlaces.{IsGood, IsPlace};
 ghost use Rattle.rkyv_btree_walk.specs.WalkBetween.{range_left, IsRangeWalk};
-ghost use Rattle.rkyv_btree_base.specs.Layout.{layout_of};
+ghost use Rattle.rkyv_btree_format.specs.Layout.{layout_of};
 
 use crate::at_type;
 use crate::codes::{BAD_CURSOR, NOT_FOUND, NOT_OPEN, OK};
@@ -26,10 +26,10 @@ use crate::handle::BtreeMap;
 use crate::item::{BtreeEntry, BtreeItem, Shown};
 use crate::map_type::MapType;
 use crate::query::Query;
-use rkyv_btree_base::check::Portable;
-use rkyv_btree_base::map::ArchivedBTreeMap;
-use rkyv_btree_base::numbers::{ArchivedU32, ArchivedU64};
-use rkyv_btree_base::text::ArchivedText;
+use rkyv_btree_portable::check::Portable;
+use rkyv_btree_portable::numbers::{ArchivedU32, ArchivedU64};
+use rkyv_btree_portable::text::ArchivedText;
+use rkyv_btree_types::map::ArchivedBTreeMap;
 use rkyv_btree_view::view::View;
 use rkyv_btree_walk::archived_map::ArchivedMap;
 use rkyv_btree_walk::node::{key_pos, value_pos};
@@ -39,7 +39,7 @@ use std::marker::PhantomData;
 use std::ops::Bound;
 
 /// Returns the value at `pos` as C has it.
-fn item_at<T: Shown>(buf: &[u8], pos: u32) -> BtreeItem
+pub(crate) fn item_at<T: Shown>(buf: &[u8], pos: u32) -> BtreeItem
     requires { IsTrue (stands T.kind buf.now pos) }
     ensures { T.ShowsAt buf.now pos result }
 {

@@ -1,10 +1,10 @@
 -- How the values of a native type lie in a fixed number of bytes.
 use Rattle.std.specs.Prelude.{◌≡◌, ℕ, ◌<◌, ◌^◌, Bool, IsTrue, List, length}
 use Rattle.std.specs.declared.cmp.Ordering.{Ordering}
-use Rattle.rkyv_btree_base.specs.InPlace.{NativeForm}
-use Rattle.rkyv_btree_base.specs.Plain.{Plain}
-use Rattle.rkyv_btree_base.specs.Rounding.{IsAlignment}
-use Rattle.rkyv_btree_base.specs.Standing.{IsAligned}
+use Rattle.rkyv_btree_portable.specs.InPlace.{NativeForm}
+use Rattle.rkyv_btree_portable.specs.Plain.{Plain}
+use Rattle.rkyv_btree_portable.specs.Rounding.{IsAlignment}
+use Rattle.rkyv_btree_portable.specs.Standing.{IsAligned}
 
 -- the number of bytes and their alignment, which bytes are a value and which value they are, and the bytes of a value; and
 -- what is known of a value in a program: that its fields are in the ranges of their types

@@ -1,19 +1,20 @@
 //! The archived types of plain values.
 ghost use Rattle.std.specs.Prelude.{◌≡◌, true, IsTrue};
-ghost use Rattle.rkyv_btree_base.specs.InPlace.{scalar_form};
-ghost use Rattle.rkyv_btree_base.specs.Plain.{plain_kind};
-ghost use Rattle.rkyv_btree_base.specs.Refusing.{RefusesWhole};
-ghost use Rattle.rkyv_btree_base.specs.laws.InPlace.{scalar_in_place};
-ghost use Rattle.rkyv_btree_base.specs.laws.Refusing.{whole_refusals};
+ghost use Rattle.rkyv_btree_portable.specs.InPlace.{scalar_form};
+ghost use Rattle.rkyv_btree_portable.specs.Plain.{plain_kind};
+ghost use Rattle.rkyv_btree_portable.specs.Refusing.{RefusesWhole};
+ghost use Rattle.rkyv_btree_portable.specs.laws.InPlace.{scalar_in_place};
+ghost use Rattle.rkyv_btree_portable.specs.laws.Refusing.{whole_refusals};
 ghost use Rattle.rkyv_btree_plain.specs.PlainValues.{plain_of, plain_form};
 ghost use Rattle.rkyv_btree_plain.specs.laws.PlainValues.{plain_faithful};
 ghost use Rattle.rkyv_btree_view.specs.Native.{as_itself};
 
 use crate::plain_value::PlainValue;
-use rkyv_btree_base::check::{CheckBytes, InPlace, Portable, Scalar, Window, check_in_place};
-use rkyv_btree_base::refusal::Refusal;
 use rkyv_btree_convert::deserialize_native::DeserializeNative;
 use rkyv_btree_convert::entry_type::EntryType;
+use rkyv_btree_portable::check::{CheckBytes, Portable, Scalar, Window, check_in_place};
+use rkyv_btree_portable::in_place::InPlace;
+use rkyv_btree_portable::refusal::Refusal;
 use rkyv_btree_view::native::ToNative;
 use rkyv_btree_view::view::View;
 use std::marker::PhantomData;

@@ -8,8 +8,10 @@ pub mod Plain
 pub mod Scalars
 pub mod InPlace
 pub mod Natives
+pub mod NonZeros
 pub mod Views
 pub mod RefusalText
 pub mod Text
+pub mod ByteStrings
 pub mod Entry
 pub mod laws

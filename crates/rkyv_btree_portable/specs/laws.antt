@@ -8,8 +8,11 @@ pub mod Refusing
 pub mod Plain
 pub mod Scalars
 pub mod Natives
+pub mod Positive
+pub mod NonZeros
 pub mod Views
 pub mod EntryLaws
 pub mod EntryRefusals
 pub mod InPlace
 pub mod TextLaws
+pub mod ByteStringLaws

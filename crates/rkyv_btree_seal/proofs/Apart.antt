@@ -1,10 +1,10 @@
 -- A value of a map shares no byte with what is read of other entries, of the entry's key and of its node.
 use Rattle.std.proofs.Common.{◌≡◌, ◌≢◌, ℕ, ◌+◌, ◌*◌, ◌≤◌, ◌<◌, ◌⊎◌, inl, inr, IsTrue, List, sym, ap, arith, Some, slice_get, slice_index, nat_eq, mul-le-mul_right}
 use Rattle.std.proofs.lemmas.Bool.{cases_lt, cases_Bool}
-use Rattle.rkyv_btree_base.specs.Kind.{Kind, IsLawful}
-use Rattle.rkyv_btree_base.specs.Layout.{layout_of, keys_at, values_at, key_at, value_at, are_fitting, len_at}
-use Rattle.rkyv_btree_base.proofs.Local.{key_room, value_room}
-use Rattle.rkyv_btree_base.proofs.Sizes.{follow, sound_of}
+use Rattle.rkyv_btree_portable.specs.Kind.{Kind, IsLawful}
+use Rattle.rkyv_btree_format.specs.Layout.{layout_of, keys_at, values_at, key_at, value_at, are_fitting, len_at}
+use Rattle.rkyv_btree_format.proofs.Local.{key_room, value_room}
+use Rattle.rkyv_btree_format.proofs.Sizes.{follow, sound_of}
 use Rattle.rkyv_btree_seal.specs.Apart.{ValueIsApart, ValuesAreApart}
 use Rattle.rkyv_btree_walk.specs.EntryPlaces.{entry_places, size_at}
 use Rattle.rkyv_btree_walk.proofs.NodesApart.{StandsIn, Others, map_stands}

@@ -1,13 +1,13 @@
 -- What a write over one value of a node makes of its entries: that value is the one written, and all others stay.
 use Rattle.std.proofs.Common.{◌≡◌, ℕ, zero, suc, ◌+◌, ◌*◌, ◌≤◌, ◌<◌, ◌⊎◌, inl, inr, IsTrue, List, [], ◌∷◌, length, refl, sym, ap, subst, ◌∙◌, arith, mul-le-mul_right}
-use Rattle.rkyv_btree_base.specs.Bytes.{bytes_at}
-use Rattle.rkyv_btree_base.specs.InPlace.{IsOwn, value_of}
-use Rattle.rkyv_btree_base.specs.Kind.{Kind, IsLawful}
-use Rattle.rkyv_btree_base.specs.Layout.{layout_of, are_fitting, key_at, value_at, leaf_size}
-use Rattle.rkyv_btree_base.specs.Spells.{Entries}
-use Rattle.rkyv_btree_base.proofs.Local.{key_room, value_room}
-use Rattle.rkyv_btree_base.proofs.Sizes.{sound_of, room_of}
-use Rattle.rkyv_btree_base.specs.InPlace.{LiesAlone}
+use Rattle.rkyv_btree_portable.specs.Bytes.{bytes_at}
+use Rattle.rkyv_btree_portable.specs.InPlace.{IsOwn, value_of}
+use Rattle.rkyv_btree_portable.specs.Kind.{Kind, IsLawful}
+use Rattle.rkyv_btree_format.specs.Layout.{layout_of, are_fitting, key_at, value_at, leaf_size}
+use Rattle.rkyv_btree_format.specs.Spells.{Entries}
+use Rattle.rkyv_btree_format.proofs.Local.{key_room, value_room}
+use Rattle.rkyv_btree_format.proofs.Sizes.{sound_of, room_of}
+use Rattle.rkyv_btree_portable.specs.InPlace.{LiesAlone}
 use Rattle.rkyv_btree_seal.specs.Put.{put_value}
 use Rattle.rkyv_btree_seal.proofs.Puts.{Wrote, earlier, later}
 

@@ -3,12 +3,12 @@ use Rattle.std.proofs.Common.{◌≡◌, ℕ, ◌+◌, ◌≤◌, IsTrue, List, 
 use Rattle.std.specs.Borrow.{MutBor}
 use Rattle.std.proofs.lemmas.List.{take_all, drop-drop}
 use borrow.Rule.Slice.PartMut.{put_mid}
-use Rattle.rkyv_btree_base.specs.Bytes.{bytes_at}
-use Rattle.rkyv_btree_base.specs.InPlace.{IsOwn, value_of}
-use Rattle.rkyv_btree_base.specs.Kind.{Kind, IsLawful}
-use Rattle.rkyv_btree_base.specs.Standing.{SameBytes}
-use Rattle.rkyv_btree_base.specs.Views.{stands}
-use Rattle.rkyv_btree_base.specs.laws.Views.{means_read, stands_of, fitting_of}
+use Rattle.rkyv_btree_portable.specs.Bytes.{bytes_at}
+use Rattle.rkyv_btree_portable.specs.InPlace.{IsOwn, value_of}
+use Rattle.rkyv_btree_portable.specs.Kind.{Kind, IsLawful}
+use Rattle.rkyv_btree_portable.specs.Standing.{SameBytes}
+use Rattle.rkyv_btree_portable.specs.Views.{stands}
+use Rattle.rkyv_btree_portable.specs.laws.Views.{means_read, stands_of, fitting_of}
 use Rattle.rkyv_btree_seal.specs.Alone.{StandsAlone}
 use Rattle.rkyv_btree_seal.specs.Calls.{CallsEntry}
 use Rattle.rkyv_btree_seal.specs.Places.{PutsEntry}

@@ -1,4 +1,5 @@
 -- The lemmas of writes in place.
+pub mod Alike
 pub mod Puts
 pub mod Same
 pub mod Kept

@@ -3,17 +3,17 @@ use Rattle.std.proofs.Common.{◌≡◌, ℕ, ◌+◌, ◌≤◌, inl, inr, IsTr
 use Rattle.std.proofs.lemmas.Bool.{eq-eqb, ne_eqb}
 use Rattle.std.proofs.lemmas.Option.{slice_get-map}
 use Rattle.std.specs.Option.{option_map}
-use Rattle.rkyv_btree_base.specs.Bytes.{bytes_at, number_at}
-use Rattle.rkyv_btree_base.specs.InPlace.{IsOwn, value_of}
-use Rattle.rkyv_btree_base.specs.Kind.{Kind, IsLawful}
-use Rattle.rkyv_btree_base.specs.Layout.{layout_of, are_fitting}
-use Rattle.rkyv_btree_base.specs.Read.{tree_of, map_tree, entry_at}
-use Rattle.rkyv_btree_base.specs.Spells.{Accepted}
-use Rattle.rkyv_btree_base.specs.laws.Numbers.{number_same, place_same}
-use Rattle.rkyv_btree_base.proofs.Readings.{map_is_read}
-use Rattle.rkyv_btree_base.proofs.Root.{spelled_within}
-use Rattle.rkyv_btree_base.proofs.Unique.{map_unique}
-use Rattle.rkyv_btree_base.specs.InPlace.{LiesAlone}
+use Rattle.rkyv_btree_portable.specs.Bytes.{bytes_at, number_at}
+use Rattle.rkyv_btree_portable.specs.InPlace.{IsOwn, value_of}
+use Rattle.rkyv_btree_portable.specs.Kind.{Kind, IsLawful}
+use Rattle.rkyv_btree_format.specs.Layout.{layout_of, are_fitting}
+use Rattle.rkyv_btree_format.specs.Read.{tree_of, map_tree, entry_at}
+use Rattle.rkyv_btree_format.specs.Spells.{Accepted}
+use Rattle.rkyv_btree_portable.specs.laws.Numbers.{number_same, place_same}
+use Rattle.rkyv_btree_format.proofs.Readings.{map_is_read}
+use Rattle.rkyv_btree_verify.proofs.Root.{spelled_within}
+use Rattle.rkyv_btree_format.proofs.Unique.{map_unique}
+use Rattle.rkyv_btree_portable.specs.InPlace.{LiesAlone}
 use Rattle.rkyv_btree_seal.specs.Put.{put_bytes, put_value, value_place, WritesValues}
 use Rattle.rkyv_btree_walk.specs.EntryPlaces.{entry_places}
 use Rattle.rkyv_btree_seal.proofs.Kept.{own_value}

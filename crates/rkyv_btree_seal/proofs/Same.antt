@@ -1,17 +1,17 @@
 -- The tree that is read is the same where the bytes are that it is spelled in.
 use Rattle.std.proofs.Common.{◌≡◌, ℕ, zero, suc, ◌+◌, ◌≤◌, List, ◌∷◌, length, refl, sym, ap, subst, ◌∙◌, arith, slice_index}
 use Rattle.std.proofs.lemmas.Bool.{eq-eqb, ne_eqb}
-use Rattle.rkyv_btree_base.specs.Bytes.{number_at, target_at}
-use Rattle.rkyv_btree_base.specs.Kind.{Kind}
-use Rattle.rkyv_btree_base.specs.Layout.{NodeLayout, layout_of, len_at, leaf_size, inner_size, pointer_at}
-use Rattle.rkyv_btree_base.specs.Read.{run, child_of, row_at, tree_at}
-use Rattle.rkyv_btree_base.specs.Spells.{Spells, SpellsRow, SpellsChild, root_size}
-use Rattle.rkyv_btree_base.specs.Standing.{SameBytes}
-use Rattle.rkyv_btree_base.specs.Tree.{Tree, leaf, inner, Row, last, step, Child, absent, child, row_entries, height, row_height, child_height}
-use Rattle.rkyv_btree_base.specs.laws.Numbers.{number_same, target_same}
-use Rattle.rkyv_btree_base.specs.laws.Standing.{same_within}
-use Rattle.rkyv_btree_base.proofs.Local.{child_from, row_from}
-use Rattle.rkyv_btree_base.proofs.Sizes.{IsSound, follow}
+use Rattle.rkyv_btree_portable.specs.Bytes.{number_at, target_at}
+use Rattle.rkyv_btree_portable.specs.Kind.{Kind}
+use Rattle.rkyv_btree_format.specs.Layout.{NodeLayout, layout_of, len_at, leaf_size, inner_size, pointer_at}
+use Rattle.rkyv_btree_format.specs.Read.{run, child_of, row_at, tree_at}
+use Rattle.rkyv_btree_format.specs.Spells.{Spells, SpellsRow, SpellsChild, root_size}
+use Rattle.rkyv_btree_portable.specs.Standing.{SameBytes}
+use Rattle.rkyv_btree_shape.specs.Tree.{Tree, leaf, inner, Row, last, step, Child, absent, child, row_entries, height, row_height, child_height}
+use Rattle.rkyv_btree_portable.specs.laws.Numbers.{number_same, target_same}
+use Rattle.rkyv_btree_portable.specs.laws.Standing.{same_within}
+use Rattle.rkyv_btree_format.proofs.Local.{child_from, row_from}
+use Rattle.rkyv_btree_format.proofs.Sizes.{IsSound, follow}
 
 module _ (s : NodeLayout) (b c : List ℕ) where
   run_same : (p count n : ℕ) → run s b p count n ≡ run s c p count n

@@ -5,16 +5,16 @@ use Rattle.std.specs.List.{All}
 use Rattle.std.proofs.lemmas.List.Elements.{All-nil, All-append}
 use Rattle.std.proofs.lemmas.Option.{slice_get_within, unwrap_or-slice_get}
 use Rattle.std.specs.Prelude.{ℤ, pos, negsuc}
-use Rattle.rkyv_btree_base.specs.Bytes.{number_at, target_at, place_at}
-use Rattle.rkyv_btree_base.specs.Kind.{Kind, IsLawful}
-use Rattle.rkyv_btree_base.specs.Layout.{layout_of, len_at, pointer_at}
-use Rattle.rkyv_btree_base.specs.Map.{map_kind}
-use Rattle.rkyv_btree_base.specs.Read.{run, child_of, row_at, tree_at, tree_of}
-use Rattle.rkyv_btree_base.specs.Tree.{list, child_list, row_list}
-use Rattle.rkyv_btree_base.specs.Views.{stands}
+use Rattle.rkyv_btree_portable.specs.Bytes.{number_at, target_at, place_at}
+use Rattle.rkyv_btree_portable.specs.Kind.{Kind, IsLawful}
+use Rattle.rkyv_btree_format.specs.Layout.{layout_of, len_at, pointer_at}
+use Rattle.rkyv_btree_verify.specs.Map.{map_kind}
+use Rattle.rkyv_btree_format.specs.Read.{run, child_of, row_at, tree_at, tree_of}
+use Rattle.rkyv_btree_shape.specs.Tree.{list, child_list, row_list}
+use Rattle.rkyv_btree_portable.specs.Views.{stands}
 use Rattle.rkyv_btree_walk.specs.Nodes.{natural, is_leaf}
 use Rattle.rkyv_btree_walk.specs.mirror.Node.{NodeStands, RunStands, TreeStands}
-use Rattle.rkyv_btree_base.proofs.MapLaws.{map_length}
+use Rattle.rkyv_btree_verify.proofs.MapLaws.{map_length}
 use Rattle.rkyv_btree_walk.proofs.Nodes.{tree_node, child_stands}
 use Rattle.rkyv_btree_walk.proofs.Paths.{leaf_run, inner_run}
 use Rattle.rkyv_btree_walk.proofs.Roots.{root_stands}

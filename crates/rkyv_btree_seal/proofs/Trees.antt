@@ -2,20 +2,20 @@
 use Rattle.std.proofs.Common.{◌≡◌, ℕ, zero, suc, ◌+◌, ◌≤◌, ◌<◌, ◌⊎◌, inl, inr, IsTrue, List, ◌∷◌, ◌++◌, length, refl, sym, ap, subst, ◌∙◌, arith, Some, slice_get, slice_index, max}
 use Rattle.std.proofs.lemmas.Bool.{eq-eqb, ne_eqb}
 use Rattle.std.proofs.lemmas.List.{length-map}
-use Rattle.rkyv_btree_base.specs.Bytes.{bytes_at, target_at}
-use Rattle.rkyv_btree_base.specs.InPlace.{IsOwn}
-use Rattle.rkyv_btree_base.specs.Kind.{Kind, IsLawful}
-use Rattle.rkyv_btree_base.specs.Layout.{layout_of, are_fitting, value_at, len_at, leaf_size, inner_size, pointer_at}
-use Rattle.rkyv_btree_base.specs.Read.{run, child_of, row_at, tree_at, entry_at}
-use Rattle.rkyv_btree_base.specs.Spells.{IsNodeAt, Entries, Spells, SpellsRow, SpellsChild, root_size}
-use Rattle.rkyv_btree_base.specs.Standing.{SameBytes}
-use Rattle.rkyv_btree_base.specs.Tree.{Tree, leaf, inner, Row, last, step, Child, absent, child, list, row_list, child_list, row_entries, height, row_height, child_height}
-use Rattle.rkyv_btree_base.specs.laws.Numbers.{number_same, target_same}
-use Rattle.rkyv_btree_base.proofs.Local.{value_room, entries_local, child_from, row_from, row_local, child_local}
-use Rattle.rkyv_btree_base.proofs.MapLaws.{leaving_of}
-use Rattle.rkyv_btree_base.proofs.Readings.{child_list_read}
-use Rattle.rkyv_btree_base.proofs.Sizes.{IsSound, sound_of, follow, room_of}
-use Rattle.rkyv_btree_base.specs.InPlace.{LiesAlone}
+use Rattle.rkyv_btree_portable.specs.Bytes.{bytes_at, target_at}
+use Rattle.rkyv_btree_portable.specs.InPlace.{IsOwn}
+use Rattle.rkyv_btree_portable.specs.Kind.{Kind, IsLawful}
+use Rattle.rkyv_btree_format.specs.Layout.{layout_of, are_fitting, value_at, len_at, leaf_size, inner_size, pointer_at}
+use Rattle.rkyv_btree_format.specs.Read.{run, child_of, row_at, tree_at, entry_at}
+use Rattle.rkyv_btree_format.specs.Spells.{IsNodeAt, Entries, Spells, SpellsRow, SpellsChild, root_size}
+use Rattle.rkyv_btree_portable.specs.Standing.{SameBytes}
+use Rattle.rkyv_btree_shape.specs.Tree.{Tree, leaf, inner, Row, last, step, Child, absent, child, list, row_list, child_list, row_entries, height, row_height, child_height}
+use Rattle.rkyv_btree_portable.specs.laws.Numbers.{number_same, target_same}
+use Rattle.rkyv_btree_format.proofs.Local.{value_room, entries_local, child_from, row_from, row_local, child_local}
+use Rattle.rkyv_btree_verify.proofs.MapLaws.{leaving_of}
+use Rattle.rkyv_btree_format.proofs.Readings.{child_list_read}
+use Rattle.rkyv_btree_format.proofs.Sizes.{IsSound, sound_of, follow, room_of}
+use Rattle.rkyv_btree_portable.specs.InPlace.{LiesAlone}
 use Rattle.rkyv_btree_seal.specs.Put.{value_place, put_value}
 use Rattle.rkyv_btree_seal.proofs.Kept.{own_value, entries_put}
 use Rattle.rkyv_btree_seal.proofs.Puts.{length-put_value, split_get, put_front, put_back, Wrote, earlier, later}

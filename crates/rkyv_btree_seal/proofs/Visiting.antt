@@ -3,13 +3,13 @@ use Rattle.std.proofs.Common.{◌≡◌, ℕ, zero, suc, List, [], ◌∷◌, �
 use Rattle.std.proofs.lemmas.List.{length_push}
 use Rattle.std.specs.declared.ops.ControlFlow.{ControlFlow}
 use Rattle.std.specs.declared.ops.ControlFlow.TheVariants.{Continue, Break}
-use Rattle.rkyv_btree_base.specs.Bytes.{bytes_at}
-use Rattle.rkyv_btree_base.specs.InPlace.{LiesAlone, value_of}
-use Rattle.rkyv_btree_base.specs.Kind.{Kind, IsLawful}
-use Rattle.rkyv_btree_base.specs.Layout.{layout_of}
-use Rattle.rkyv_btree_base.specs.Map.{map_kind}
-use Rattle.rkyv_btree_base.specs.Read.{map_tree, read_map}
-use Rattle.rkyv_btree_base.specs.Views.{stands}
+use Rattle.rkyv_btree_portable.specs.Bytes.{bytes_at}
+use Rattle.rkyv_btree_portable.specs.InPlace.{LiesAlone, value_of}
+use Rattle.rkyv_btree_portable.specs.Kind.{Kind, IsLawful}
+use Rattle.rkyv_btree_format.specs.Layout.{layout_of}
+use Rattle.rkyv_btree_verify.specs.Map.{map_kind}
+use Rattle.rkyv_btree_format.specs.Read.{map_tree, read_map}
+use Rattle.rkyv_btree_portable.specs.Views.{stands}
 use Rattle.rkyv_btree_seal.proofs.Cursors.{at_seam}
 use Rattle.rkyv_btree_seal.proofs.Entered.{entry_means}
 use Rattle.rkyv_btree_seal.specs.Calls.{CallsEntry, MayCallAt}

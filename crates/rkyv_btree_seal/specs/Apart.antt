@@ -1,9 +1,9 @@
 -- That a value of a map shares no byte with another value, with a key, or with what a walk reads of an entry's node.
 use Rattle.std.specs.Prelude.{◌≡◌, ◌≢◌, ℕ, ◌+◌, List, Some, slice_get}
-use Rattle.rkyv_btree_base.specs.Claims.{Range, Apart}
-use Rattle.rkyv_btree_base.specs.Kind.{Kind}
-use Rattle.rkyv_btree_base.specs.Layout.{layout_of, len_at}
-use Rattle.rkyv_btree_base.specs.Spells.{Accepted}
+use Rattle.rkyv_btree_verify.specs.Claims.{Range, Apart}
+use Rattle.rkyv_btree_portable.specs.Kind.{Kind}
+use Rattle.rkyv_btree_format.specs.Layout.{layout_of, len_at}
+use Rattle.rkyv_btree_format.specs.Spells.{Accepted}
 use Rattle.rkyv_btree_seal.specs.Put.{key_place, value_place}
 use Rattle.rkyv_btree_walk.specs.EntryPlaces.{entry_places, size_at}
 

@@ -1,10 +1,10 @@
 -- What a closure is lent at an entry, and what its call leaves.
 use Rattle.std.specs.Borrow.{MutBor}
 use Rattle.std.specs.Prelude.{◌≡◌, ℕ, IsTrue, List, length}
-use Rattle.rkyv_btree_base.specs.Bytes.{bytes_at}
-use Rattle.rkyv_btree_base.specs.InPlace.{IsOwn, value_of}
-use Rattle.rkyv_btree_base.specs.Kind.{Kind}
-use Rattle.rkyv_btree_base.specs.Views.{stands}
+use Rattle.rkyv_btree_portable.specs.Bytes.{bytes_at}
+use Rattle.rkyv_btree_portable.specs.InPlace.{IsOwn, value_of}
+use Rattle.rkyv_btree_portable.specs.Kind.{Kind}
+use Rattle.rkyv_btree_portable.specs.Views.{stands}
 use Rattle.rkyv_btree_seal.specs.Alone.{StandsAlone}
 use Rattle.rkyv_btree_seal.specs.Put.{put_bytes}
 use Rattle.rkyv_btree_seal.specs.declared.lent_key.LentKey.{LentKey}

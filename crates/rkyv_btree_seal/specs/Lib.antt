@@ -3,8 +3,10 @@ pub mod Put
 pub mod Alone
 pub mod Places
 pub mod Lent
+pub mod Looking
 pub mod Along
 pub mod Cursor
+pub mod Starting
 pub mod Calls
 pub mod Visits
 pub mod Apart

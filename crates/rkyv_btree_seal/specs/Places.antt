@@ -1,15 +1,19 @@
 -- Which entry of a map a search finds, and what a write over its value makes of the map.
-use Rattle.std.specs.Prelude.{◌≡◌, ℕ, List, Option, Some, IfSome, MatchOption, Bool, is_some, slice_get}
+use Rattle.std.specs.Prelude.{◌≡◌, ◌↔◌, ℕ, List, Option, Some, IfSome, IsSome, IsTrue, MatchOption, Bool, is_some, slice_get}
+use Rattle.std.specs.BTreeMap.{is_at}
+use Rattle.std.specs.Map.{lookup}
 use Rattle.std.specs.Option.{option_map}
 use Rattle.std.specs.declared.cmp.Ordering.{Ordering}
 use Rattle.std.specs.declared.cmp.Ordering.TheVariants.{Equal}
-use Rattle.rkyv_btree_base.specs.Bytes.{bytes_at}
-use Rattle.rkyv_btree_base.specs.InPlace.{value_of}
-use Rattle.rkyv_btree_base.specs.Kind.{Kind}
-use Rattle.rkyv_btree_base.specs.Layout.{layout_of}
-use Rattle.rkyv_btree_base.specs.Read.{entry_at, map_tree, read_map}
-use Rattle.rkyv_btree_base.specs.Spells.{Accepted}
+use Rattle.rkyv_btree_portable.specs.Bytes.{bytes_at}
+use Rattle.rkyv_btree_portable.specs.InPlace.{value_of}
+use Rattle.rkyv_btree_portable.specs.Kind.{Kind}
+use Rattle.rkyv_btree_format.specs.Increasing.{Increasing}
+use Rattle.rkyv_btree_format.specs.Layout.{layout_of}
+use Rattle.rkyv_btree_format.specs.Read.{entry_at, map_tree, read_map}
+use Rattle.rkyv_btree_format.specs.Spells.{Accepted}
 use Rattle.rkyv_btree_seal.specs.Put.{put_bytes, put_value, key_place, value_place}
+use Rattle.rkyv_btree_view.specs.Lookup.{found_at}
 use Rattle.rkyv_btree_walk.specs.EntryPlaces.{entry_places}
 use Rattle.rkyv_btree_walk.specs.Search.{IsSearch, probe}
 
@@ -57,3 +61,14 @@ module _ (K V : Kind) (E : ℕ) (b : List ℕ) (at : ℕ) where
     pub finds : FindsPlace comparison found
     pub has_found : result ≡ is_some found
     pub puts : MatchOption found (c ≡ b) (λ e. PutsEntry e own c)
+
+  -- a call that overwrites the value of an equal key: whether there is one, and what is written then
+  pub record IsSet (comparison : K.Value → Ordering) (own : List ℕ) (c : List ℕ) (result : Bool) : Type 0 where
+    -- if the keys increase, the result is whether std's map has a value for the key
+    pub sorted : Increasing K.order (read_map K V E b at) → result ≡ is_some (lookup (is_at comparison) (read_map K V E b at))
+    -- on each map it is whether a lookup finds an entry
+    pub found : IsTrue result ↔ IsSome (found_at K V E b at comparison)
+    -- then one value in the list is the new one: that of an entry whose key is equal
+    pub writes : IsTrue result → ReplacesAtEqual comparison (value_of V own) (read_map K V E c at)
+    -- which bytes are written
+    pub sets : SetsFound comparison own c result

@@ -1,8 +1,8 @@
 //! Calls of closures at one entry, whose value they may write.
 ghost use Rattle.std.specs.Prelude.{◌≤◌, ◌+◌, IsTrue};
-ghost use Rattle.rkyv_btree_base.specs.Bytes.{bytes_at};
-ghost use Rattle.rkyv_btree_base.specs.InPlace.{value_of};
-ghost use Rattle.rkyv_btree_base.specs.Views.{stands};
+ghost use Rattle.rkyv_btree_portable.specs.Bytes.{bytes_at};
+ghost use Rattle.rkyv_btree_portable.specs.InPlace.{value_of};
+ghost use Rattle.rkyv_btree_portable.specs.Views.{stands};
 ghost use Rattle.rkyv_btree_seal.specs.Alone.{StandsAlone};
 ghost use Rattle.rkyv_btree_seal.specs.Calls.{CallsEntry, MayCallAt, MayCallEach};
 ghost use Rattle.rkyv_btree_seal.specs.Places.{IsEntry};
@@ -12,7 +12,8 @@ ghost use Rattle.rkyv_btree_seal.specs.Lent.{CallsAt, MayCall};
 use crate::lent_key::LentKey;
 use crate::seal::Seal;
 use crate::value_place::positions;
-use rkyv_btree_base::check::{InPlace, Portable};
+use rkyv_btree_portable::check::Portable;
+use rkyv_btree_portable::in_place::InPlace;
 use rkyv_btree_walk::archived_map::ArchivedMap;
 use rkyv_btree_walk::entry_place::EntryPlace;
 

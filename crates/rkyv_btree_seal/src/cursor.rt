@@ -1,9 +1,9 @@
 //! Cursors along the entries of a map, whose values they read and write in place.
 ghost use Rattle.std.specs.Prelude.{◌≡◌, IsTrue, IsSome, IfSome, None, Some, length};
 ghost use Rattle.std.specs.Option.{option_map};
-ghost use Rattle.rkyv_btree_base.specs.Bytes.{bytes_at};
-ghost use Rattle.rkyv_btree_base.specs.Layout.{layout_of};
-ghost use Rattle.rkyv_btree_base.specs.Views.{stands};
+ghost use Rattle.rkyv_btree_portable.specs.Bytes.{bytes_at};
+ghost use Rattle.rkyv_btree_format.specs.Layout.{layout_of};
+ghost use Rattle.rkyv_btree_portable.specs.Views.{stands};
 ghost use Rattle.rkyv_btree_seal.specs.Along.{IsAmong};
 ghost use Rattle.rkyv_btree_walk.specs.mirror.Along.{walk_left, IsWalk, Takes};
 ghost use Rattle.rkyv_btree_walk.specs.Bounds.{IsEnd};
@@ -14,7 +14,8 @@ ghost use Rattle.rkyv_btree_walk.specs.EntryPlaces.{entry_places};
 
 use crate::map_seal::MapSeal;
 use crate::value_place::{key_at, put_at, read_at};
-use rkyv_btree_base::check::{InPlace, Portable};
+use rkyv_btree_portable::check::Portable;
+use rkyv_btree_portable::in_place::InPlace;
 use rkyv_btree_view::view::View;
 use rkyv_btree_walk::archived_map::ArchivedMap;
 use rkyv_btree_walk::entry_place::EntryPlace;
@@ -65,17 +66,14 @@ fn step_in<K: Portable, V: Portable, M: ArchivedMap<Key = K, Mapped = V>>(
 
 impl<'a, K: Portable, V: InPlace, M: ArchivedMap<Key = K, Mapped = V>> IterSeal<'a, M> {
     ghost use Rattle.rkyv_btree_seal.specs.Cursor.{remaining_places, current_place, Advances, SameBuffer};
+    ghost use Rattle.rkyv_btree_seal.specs.Starting.{IsBeforeFirst};
 
     /// Returns the cursor before the first entry of the map at position `pos`. Requires that the bytes mean a map: `access` is the
     /// test. No memory is allocated.
     pub fn at(buf: &'a mut [u8], pos: u32) -> IterSeal<'a, M>
         requires { IsTrue (stands M.kind buf.old pos) }
         ensures same_reference { result.buf.ghost_name ≡ buf.entry.ghost_name }
-        ensures buffer { result.buf.now ≡ buf.entry.now }
-        ensures position { result.pos ≡ pos }
-        ensures remaining { remaining_places result ≡ entry_places K.kind V.kind M.E buf.entry.now
-            pos }
-        ensures current { current_place result ≡ None }
+        ensures starts { IsBeforeFirst buf.entry.now pos result }
     {
         let walk = start::<K, V, M>(buf, pos);
         IterSeal {
@@ -156,7 +154,7 @@ impl<'a, K: Portable, V: InPlace, M: ArchivedMap<Key = K, Mapped = V>> IterSeal<
 }
 
 impl<'a, K: Portable, V: InPlace, M: ArchivedMap<Key = K, Mapped = V>> MapSeal<'a, M> {
-    ghost use Rattle.rkyv_btree_seal.specs.Cursor.{remaining_places, current_place};
+    ghost use Rattle.rkyv_btree_seal.specs.Starting.{IsBeforeFirst};
 
     /// Returns the cursor before the first entry. A contract can say what the buffer is in the end of a cursor that `IterSeal::at`
     /// makes.
@@ -172,11 +170,7 @@ impl<'a, K: Portable, V: InPlace, M: ArchivedMap<Key = K, Mapped = V>> MapSeal<'
     /// ```
     pub fn iter_seal(self) -> IterSeal<'a, M>
         ensures same_reference { result.buf.ghost_name ≡ self.entry.buf.ghost_name }
-        ensures buffer { result.buf.now ≡ self.entry.buf.now }
-        ensures position { result.pos ≡ self.entry.pos }
-        ensures remaining { remaining_places result
-            ≡ entry_places K.kind V.kind M.E self.entry.buf.now self.entry.pos }
-        ensures current { current_place result ≡ None }
+        ensures starts { IsBeforeFirst self.entry.buf.now self.entry.pos result }
     {
         IterSeal::at(self.buf, self.pos)
     }
@@ -184,11 +178,7 @@ impl<'a, K: Portable, V: InPlace, M: ArchivedMap<Key = K, Mapped = V>> MapSeal<'
     /// Returns the cursor before the first value, which is that of `iter_seal`.
     pub fn values_seal(self) -> ValuesSeal<'a, M>
         ensures same_reference { result.buf.ghost_name ≡ self.entry.buf.ghost_name }
-        ensures buffer { result.buf.now ≡ self.entry.buf.now }
-        ensures position { result.pos ≡ self.entry.pos }
-        ensures remaining { remaining_places result
-            ≡ entry_places K.kind V.kind M.E self.entry.buf.now self.entry.pos }
-        ensures current { current_place result ≡ None }
+        ensures starts { IsBeforeFirst self.entry.buf.now self.entry.pos result }
     {
         self.iter_seal()
     }

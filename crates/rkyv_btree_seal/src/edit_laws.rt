@@ -1,11 +1,11 @@
 //! What a write over one value makes of a map.
 ghost use Rattle.std.specs.Prelude.{IsTrue};
-ghost use Rattle.rkyv_btree_base.specs.Layout.{are_fitting};
-ghost use Rattle.rkyv_btree_base.specs.InPlace.{LiesAlone};
+ghost use Rattle.rkyv_btree_format.specs.Layout.{are_fitting};
+ghost use Rattle.rkyv_btree_portable.specs.InPlace.{LiesAlone};
 ghost use Rattle.rkyv_btree_seal.specs.Apart.{ValuesAreApart};
 ghost use Rattle.rkyv_btree_seal.specs.Put.{WritesValues};
 
-use rkyv_btree_base::check::Portable;
+use rkyv_btree_portable::check::Portable;
 
 /// Where values lie in their own bytes alone, each value of a map may be written over by other own bytes. The buffer
 /// then has the map with that one value put in: keys and other values are as they were, and all entries have the

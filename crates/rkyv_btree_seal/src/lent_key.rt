@@ -1,8 +1,8 @@
 //! What is lent to a closure beside a seal.
 ghost use Rattle.std.specs.Prelude.{◌≡◌, IsTrue};
-ghost use Rattle.rkyv_btree_base.specs.Views.{stands};
+ghost use Rattle.rkyv_btree_portable.specs.Views.{stands};
 
-use rkyv_btree_base::check::Portable;
+use rkyv_btree_portable::check::Portable;
 use rkyv_btree_view::view::View;
 use std::marker::PhantomData;
 

@@ -5,6 +5,7 @@ mod closures;
 pub mod cursor;
 pub mod edit_laws;
 pub mod lent_key;
+pub mod lookup;
 pub mod map_seal;
 pub mod range_cursor;
 pub mod seal;

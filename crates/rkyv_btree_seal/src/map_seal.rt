@@ -3,16 +3,16 @@ ghost use Rattle.std.specs.Prelude.{◌≡◌, ◌↔◌, ℕ, List, false, is_s
 ghost use Rattle.std.specs.BTreeMap.{is_at};
 ghost use Rattle.std.specs.Map.{lookup};
 ghost use Rattle.std.specs.Option.{option_map};
-ghost use Rattle.rkyv_btree_base.specs.Increasing.{Increasing};
-ghost use Rattle.rkyv_btree_base.specs.InPlace.{IsOwn, value_of};
-ghost use Rattle.rkyv_btree_base.specs.Layout.{are_fitting};
-ghost use Rattle.rkyv_btree_base.specs.Read.{read_map};
-ghost use Rattle.rkyv_btree_base.specs.Refusal.{Refusal};
-ghost use Rattle.rkyv_btree_base.specs.Refusals.{RefusesMap};
-ghost use Rattle.rkyv_btree_base.specs.Views.{stands};
+ghost use Rattle.rkyv_btree_format.specs.Increasing.{Increasing};
+ghost use Rattle.rkyv_btree_portable.specs.InPlace.{IsOwn, value_of};
+ghost use Rattle.rkyv_btree_format.specs.Layout.{are_fitting};
+ghost use Rattle.rkyv_btree_format.specs.Read.{read_map};
+ghost use Rattle.rkyv_btree_portable.specs.declared.refusal.Refusal.{Refusal};
+ghost use Rattle.rkyv_btree_verify.specs.Refusals.{RefusesMap};
+ghost use Rattle.rkyv_btree_portable.specs.Views.{stands};
 ghost use Rattle.rkyv_btree_seal.specs.Alone.{StandsAlone};
 ghost use Rattle.rkyv_btree_seal.specs.Calls.{MayCallEach, CallsEntry, CallsFound};
-ghost use Rattle.rkyv_btree_seal.specs.Places.{IsEntry, ShowsEntry, FindsPlace, PutsEntry, ReplacesAtEqual, SetsFound};
+ghost use Rattle.rkyv_btree_seal.specs.Places.{IsEntry, ShowsEntry, FindsPlace, PutsEntry, IsSet};
 ghost use Rattle.rkyv_btree_walk.specs.EntryPlaces.{place_of};
 ghost use Rattle.rkyv_btree_seal.specs.Put.{put_bytes, value_place};
 ghost use Rattle.rkyv_btree_view.specs.Lookup.{ByComparison, ByNative, found_at};
@@ -24,9 +24,10 @@ use crate::closures::call_entry;
 use crate::lent_key::LentKey;
 use crate::seal::Seal;
 use crate::value_place::{positions, put_at};
-use rkyv_btree_base::check::{CheckBytes, InPlace, Portable};
-use rkyv_btree_base::map::ArchivedBTreeMap;
-use rkyv_btree_base::refusal::Refusal;
+use rkyv_btree_portable::check::{CheckBytes, Portable};
+use rkyv_btree_portable::in_place::InPlace;
+use rkyv_btree_portable::refusal::Refusal;
+use rkyv_btree_types::map::ArchivedBTreeMap;
 use rkyv_btree_view::compare::ViewOrd;
 use rkyv_btree_view::compare_native::CompareWith;
 use rkyv_btree_view::map_view::access;
@@ -228,25 +229,11 @@ impl<'a, K: Portable, V: InPlace, M: ArchivedMap<Key = K, Mapped = V>> MapSeal<'
         K: CompareWith<T>,
         ensures same_reference { self.new.buf.ghost_name ≡ self.old.buf.ghost_name }
         ensures position { self.new.pos ≡ self.old.pos }
-        // If the keys increase, it is whether std's map has a value for the key.
-        ensures sorted { ByNative K.kind K.compared_at key (λ comparison.
-            Increasing K.kind.order (read_map K.kind V.kind M.E self.old.buf.now self.old.pos) →
-            result ≡ is_some (lookup (is_at comparison)
-            (read_map K.kind V.kind M.E self.old.buf.now self.old.pos))) }
-        // On each map it is whether a lookup finds an entry.
-        ensures found { ByNative K.kind K.compared_at key (λ comparison. IsTrue result
-            ↔ IsSome (found_at K.kind V.kind M.E self.old.buf.now self.old.pos comparison)) }
-        // If there is none, no byte is written.
-        ensures absent { result ≡ false → self.new.buf.now ≡ self.old.buf.now }
-        // Otherwise one value in the list is the new one: that of an entry whose key is equal.
-        ensures writes { ByNative K.kind K.compared_at key (λ comparison. IsTrue result →
-            ReplacesAtEqual K.kind V.kind M.E self.old.buf.now self.old.pos comparison
-            (value_of V.kind (V.in_place.own_bytes value))
-            (read_map K.kind V.kind M.E self.new.buf.now self.new.pos)) }
-        // Which bytes are written.
-        ensures sets { ByNative K.kind K.compared_at key (λ comparison.
-            SetsFound K.kind V.kind M.E self.old.buf.now self.old.pos comparison
+        ensures set { ByNative K.kind K.compared_at key (λ comparison.
+            IsSet K.kind V.kind M.E self.old.buf.now self.old.pos comparison
             (V.in_place.own_bytes value) self.new.buf.now result) }
+        // If there is no such entry, no byte is written.
+        ensures absent { result ≡ false → self.new.buf.now ≡ self.old.buf.now }
     {
         match self.find_by(key) {
             None => false,
@@ -310,26 +297,10 @@ impl<'a, K: ViewOrd, V: InPlace, M: ArchivedMap<Key = K, Mapped = V>> MapSeal<'a
     pub fn set(&mut self, key: View<'_, K>, value: V::Native) -> bool
         ensures same_reference { self.new.buf.ghost_name ≡ self.old.buf.ghost_name }
         ensures position { self.new.pos ≡ self.old.pos }
-        // If the keys increase, it is whether std's map has a value for the key.
-        ensures sorted { Increasing K.kind.order
-            (read_map K.kind V.kind M.E self.old.buf.now self.old.pos) →
-            result ≡ is_some (lookup (is_at (K.kind.order (view_value key.entry)))
-            (read_map K.kind V.kind M.E self.old.buf.now self.old.pos)) }
-        // On each map it is whether a lookup finds an entry.
-        ensures found { IsTrue result
-            ↔ IsSome (found_at K.kind V.kind M.E self.old.buf.now self.old.pos
-            (K.kind.order (view_value key.entry))) }
-        // If there is none, no byte is written.
-        ensures absent { result ≡ false → self.new.buf.now ≡ self.old.buf.now }
-        // Otherwise one value in the list is the new one: that of an entry whose key is equal.
-        ensures writes { IsTrue result →
-            ReplacesAtEqual K.kind V.kind M.E self.old.buf.now self.old.pos
-            (K.kind.order (view_value key.entry))
-            (value_of V.kind (V.in_place.own_bytes value))
-            (read_map K.kind V.kind M.E self.new.buf.now self.new.pos) }
-        // Which bytes are written.
-        ensures sets { SetsFound K.kind V.kind M.E self.old.buf.now self.old.pos
+        ensures set { IsSet K.kind V.kind M.E self.old.buf.now self.old.pos
             (K.kind.order (view_value key.entry)) (V.in_place.own_bytes value) self.new.buf.now result }
+        // If there is no such entry, no byte is written.
+        ensures absent { result ≡ false → self.new.buf.now ≡ self.old.buf.now }
     {
         match self.find(key) {
             None => false,

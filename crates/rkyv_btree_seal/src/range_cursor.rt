@@ -3,10 +3,10 @@ ghost use Rattle.std.specs.Prelude.{◌≡◌, IsTrue, IsSome, IfSome, None, map
 ghost use Rattle.std.specs.Option.{option_map};
 ghost use Rattle.std.specs.Range.Bound.{bound_map};
 ghost use Rattle.std.specs.declared.ops.Bound.TheVariants.{Unbounded};
-ghost use Rattle.rkyv_btree_base.specs.Bytes.{bytes_at};
-ghost use Rattle.rkyv_btree_base.specs.Layout.{layout_of};
-ghost use Rattle.rkyv_btree_base.specs.Read.{entry_at, read_map};
-ghost use Rattle.rkyv_btree_base.specs.Views.{stands};
+ghost use Rattle.rkyv_btree_portable.specs.Bytes.{bytes_at};
+ghost use Rattle.rkyv_btree_format.specs.Layout.{layout_of};
+ghost use Rattle.rkyv_btree_format.specs.Read.{entry_at, read_map};
+ghost use Rattle.rkyv_btree_portable.specs.Views.{stands};
 ghost use Rattle.rkyv_btree_seal.specs.Along.{IsAmong};
 ghost use Rattle.rkyv_btree_walk.specs.Remaining.{places_between};
 ghost use Rattle.rkyv_btree_walk.specs.WalkBetween.{IsWalkBetween};
@@ -23,7 +23,8 @@ ghost use Rattle.rkyv_btree_walk.specs.Search.{shown_value};
 
 use crate::map_seal::MapSeal;
 use crate::value_place::{key_at, put_at, read_at};
-use rkyv_btree_base::check::{InPlace, Portable};
+use rkyv_btree_portable::check::Portable;
+use rkyv_btree_portable::in_place::InPlace;
 use rkyv_btree_view::compare::ViewOrd;
 use rkyv_btree_view::compare_native::CompareWith;
 use rkyv_btree_view::view::View;
@@ -72,6 +73,7 @@ fn step_in<K: Portable, V: Portable, M: ArchivedMap<Key = K, Mapped = V>>(
 
 impl<'a, K: Portable, V: InPlace, M: ArchivedMap<Key = K, Mapped = V>> RangeSeal<'a, M> {
     ghost use Rattle.rkyv_btree_seal.specs.Cursor.{range_remaining_places, range_remaining_entries, range_current_place, Advances, SameBuffer};
+    ghost use Rattle.rkyv_btree_seal.specs.Starting.{IsBeforeRun};
 
     /// Returns the cursor before the first entry of a walk between bounds, of the map at position `pos` of `buf`. Requires that the
     /// bytes mean a map, and that `MapSeal::walk_between` returned the walk for it. No memory is allocated.
@@ -79,9 +81,7 @@ impl<'a, K: Portable, V: InPlace, M: ArchivedMap<Key = K, Mapped = V>> RangeSeal
         requires stands { IsTrue (stands M.kind buf.old pos) }
         requires walks { IsWalkBetween K.kind V.kind M.E buf.old pos walk }
         ensures same_reference { result.buf.ghost_name ≡ buf.entry.ghost_name }
-        ensures buffer { result.buf.now ≡ buf.entry.now }
-        ensures position { result.pos ≡ pos }
-        ensures current { range_current_place result ≡ None }
+        ensures starts { IsBeforeRun buf.entry.now pos result }
         ensures places { range_remaining_places result
             ≡ places_between K.kind V.kind M.E buf.entry.now pos walk }
         ensures entries { range_remaining_entries result
@@ -109,11 +109,7 @@ impl<'a, K: Portable, V: InPlace, M: ArchivedMap<Key = K, Mapped = V>> RangeSeal
         K: CompareWith<T>,
         requires { IsTrue (stands M.kind buf.old pos) }
         ensures same_reference { result.buf.ghost_name ≡ buf.entry.ghost_name }
-        ensures buffer { result.buf.now ≡ buf.entry.now }
-        ensures position { result.pos ≡ pos }
-        ensures current { range_current_place result ≡ None }
-        ensures run { IsRun (range_remaining_places result)
-            (entry_places K.kind V.kind M.E buf.entry.now pos) }
+        ensures starts { IsBeforeRun buf.entry.now pos result }
         ensures whole { low ≡ Unbounded → high ≡ Unbounded
             → range_remaining_entries result ≡ read_map K.kind V.kind M.E buf.entry.now pos }
         ensures between { ByNativeBounds K.kind K.compared_at low high (λ lo hi. IsBetween K.kind.order
@@ -192,7 +188,8 @@ impl<'a, K: Portable, V: InPlace, M: ArchivedMap<Key = K, Mapped = V>> RangeSeal
 }
 
 impl<'a, K: ViewOrd, V: InPlace, M: ArchivedMap<Key = K, Mapped = V>> RangeSeal<'a, M> {
-    ghost use Rattle.rkyv_btree_seal.specs.Cursor.{range_remaining_places, range_remaining_entries, range_current_place};
+    ghost use Rattle.rkyv_btree_seal.specs.Cursor.{range_remaining_entries};
+    ghost use Rattle.rkyv_btree_seal.specs.Starting.{IsBeforeRun};
 
     /// Returns the cursor before the first entry within bounds of keys, of the map at position `pos`. Requires that the bytes mean
     /// a map: `access` is the test.
@@ -204,11 +201,7 @@ impl<'a, K: ViewOrd, V: InPlace, M: ArchivedMap<Key = K, Mapped = V>> RangeSeal<
     ) -> RangeSeal<'a, M>
         requires { IsTrue (stands M.kind buf.old pos) }
         ensures same_reference { result.buf.ghost_name ≡ buf.entry.ghost_name }
-        ensures buffer { result.buf.now ≡ buf.entry.now }
-        ensures position { result.pos ≡ pos }
-        ensures current { range_current_place result ≡ None }
-        ensures run { IsRun (range_remaining_places result)
-            (entry_places K.kind V.kind M.E buf.entry.now pos) }
+        ensures starts { IsBeforeRun buf.entry.now pos result }
         ensures whole { low.now ≡ Unbounded → high.now ≡ Unbounded
             → range_remaining_entries result ≡ read_map K.kind V.kind M.E buf.entry.now pos }
         ensures between { IsBetween K.kind.order
@@ -229,7 +222,8 @@ impl<'a, K: ViewOrd, V: InPlace, M: ArchivedMap<Key = K, Mapped = V>> RangeSeal<
 }
 
 impl<'a, K: Portable, V: InPlace, M: ArchivedMap<Key = K, Mapped = V>> MapSeal<'a, M> {
-    ghost use Rattle.rkyv_btree_seal.specs.Cursor.{range_remaining_places, range_remaining_entries, range_current_place};
+    ghost use Rattle.rkyv_btree_seal.specs.Cursor.{range_remaining_entries};
+    ghost use Rattle.rkyv_btree_seal.specs.Starting.{IsBeforeRun};
 
     /// Returns the walk along the entries within the bounds, of which `RangeSeal::over` makes a cursor.
     ///
@@ -264,11 +258,7 @@ impl<'a, K: Portable, V: InPlace, M: ArchivedMap<Key = K, Mapped = V>> MapSeal<'
     where
         K: CompareWith<T>,
         ensures same_reference { result.buf.ghost_name ≡ self.entry.buf.ghost_name }
-        ensures buffer { result.buf.now ≡ self.entry.buf.now }
-        ensures position { result.pos ≡ self.entry.pos }
-        ensures current { range_current_place result ≡ None }
-        ensures run { IsRun (range_remaining_places result)
-            (entry_places K.kind V.kind M.E self.entry.buf.now self.entry.pos) }
+        ensures starts { IsBeforeRun self.entry.buf.now self.entry.pos result }
         ensures whole { low ≡ Unbounded → high ≡ Unbounded → range_remaining_entries result
             ≡ read_map K.kind V.kind M.E self.entry.buf.now self.entry.pos }
         ensures between { ByNativeBounds K.kind K.compared_at low high (λ lo hi. IsBetween K.kind.order
@@ -280,17 +270,14 @@ impl<'a, K: Portable, V: InPlace, M: ArchivedMap<Key = K, Mapped = V>> MapSeal<'
 }
 
 impl<'a, K: ViewOrd, V: InPlace, M: ArchivedMap<Key = K, Mapped = V>> MapSeal<'a, M> {
-    ghost use Rattle.rkyv_btree_seal.specs.Cursor.{range_remaining_places, range_remaining_entries, range_current_place};
+    ghost use Rattle.rkyv_btree_seal.specs.Cursor.{range_remaining_entries};
+    ghost use Rattle.rkyv_btree_seal.specs.Starting.{IsBeforeRun};
 
     /// Returns the cursor before the first entry within bounds of keys. A contract can say what the buffer is in the end of a cursor
     /// that `RangeSeal::at` makes.
     pub fn range_seal(self, low: &Bound<View<'_, K>>, high: &Bound<View<'_, K>>) -> RangeSeal<'a, M>
         ensures same_reference { result.buf.ghost_name ≡ self.entry.buf.ghost_name }
-        ensures buffer { result.buf.now ≡ self.entry.buf.now }
-        ensures position { result.pos ≡ self.entry.pos }
-        ensures current { range_current_place result ≡ None }
-        ensures run { IsRun (range_remaining_places result)
-            (entry_places K.kind V.kind M.E self.entry.buf.now self.entry.pos) }
+        ensures starts { IsBeforeRun self.entry.buf.now self.entry.pos result }
         ensures whole { low.now ≡ Unbounded → high.now ≡ Unbounded → range_remaining_entries result
             ≡ read_map K.kind V.kind M.E self.entry.buf.now self.entry.pos }
         ensures between { IsBetween K.kind.order

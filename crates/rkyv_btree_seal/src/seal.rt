@@ -1,10 +1,10 @@
 //! One value of a buffer, to read and to write in place.
 ghost use Rattle.std.specs.Prelude.{◌≡◌};
-ghost use Rattle.rkyv_btree_base.specs.Bytes.{bytes_at};
+ghost use Rattle.rkyv_btree_portable.specs.Bytes.{bytes_at};
 ghost use Rattle.rkyv_btree_seal.specs.Put.{put_bytes};
 ghost use Rattle.rkyv_btree_seal.specs.Alone.{StandsAlone};
 
-use rkyv_btree_base::check::InPlace;
+use rkyv_btree_portable::in_place::InPlace;
 use std::marker::PhantomData;
 
 /// The value of `V` at position `pos` of `buf`, which is read and written there.

@@ -1,14 +1,15 @@
 //! Where the entries of a map stand, and writes over their values.
 ghost use Rattle.std.specs.Prelude.{◌≡◌, ◌≤◌, ◌+◌, IsTrue, length, IfSome};
-ghost use Rattle.rkyv_btree_base.specs.Bytes.{bytes_at};
-ghost use Rattle.rkyv_btree_base.specs.Map.{map_kind};
-ghost use Rattle.rkyv_btree_base.specs.Views.{stands};
+ghost use Rattle.rkyv_btree_portable.specs.Bytes.{bytes_at};
+ghost use Rattle.rkyv_btree_verify.specs.Map.{map_kind};
+ghost use Rattle.rkyv_btree_portable.specs.Views.{stands};
 ghost use Rattle.rkyv_btree_seal.specs.Alone.{StandsAlone};
 ghost use Rattle.rkyv_btree_seal.specs.Put.{put_bytes, key_place, value_place};
 ghost use Rattle.rkyv_btree_seal.specs.Places.{IsEntry, ShowsEntry, PutsEntry};
 ghost use Rattle.rkyv_btree_walk.specs.EntryPlaces.{place_of};
 
-use rkyv_btree_base::check::{InPlace, Portable};
+use rkyv_btree_portable::check::Portable;
+use rkyv_btree_portable::in_place::InPlace;
 use rkyv_btree_view::view::View;
 use rkyv_btree_walk::archived_map::ArchivedMap;
 use rkyv_btree_walk::entry_place::EntryPlace;

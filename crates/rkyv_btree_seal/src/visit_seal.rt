@@ -1,6 +1,6 @@
 //! Visits of all entries of a map, whose values they may write.
 ghost use Rattle.std.specs.Prelude.{◌≡◌, IsTrue};
-ghost use Rattle.rkyv_btree_base.specs.Views.{stands};
+ghost use Rattle.rkyv_btree_portable.specs.Views.{stands};
 ghost use Rattle.rkyv_btree_walk.specs.EntryPlaces.{entry_places};
 ghost use Rattle.rkyv_btree_seal.specs.Visits.{Visits, MayVisit};
 
@@ -8,7 +8,8 @@ use crate::closures::step_entry;
 use crate::lent_key::LentKey;
 use crate::map_seal::MapSeal;
 use crate::seal::Seal;
-use rkyv_btree_base::check::{InPlace, Portable};
+use rkyv_btree_portable::check::Portable;
+use rkyv_btree_portable::in_place::InPlace;
 use rkyv_btree_walk::archived_map::ArchivedMap;
 use rkyv_btree_walk::entry_walk::{start, step};
 use std::ops::ControlFlow;

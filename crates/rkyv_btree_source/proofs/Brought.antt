@@ -1,13 +1,13 @@
 -- Values whose own bytes are all of them, brought from a source.
 use Rattle.std.proofs.Common.{◌≡◌, ◌∙◌, ℕ, ◌+◌, ◌%◌, ◌≤◌, ◌++◌, IsTrue, List, length, take, ap, sym, subst, arith, refl, false}
 use Rattle.std.proofs.Math.Seq.{take-append_seam}
-use Rattle.rkyv_btree_base.specs.Bytes.{bytes_at}
-use Rattle.rkyv_btree_base.specs.Kind.{IsLawful}
-use Rattle.rkyv_btree_base.specs.Plain.{Plain, MeansPlainly, plain_kind}
-use Rattle.rkyv_btree_base.specs.Refusal.TheVariants.{Misaligned, BadEntry}
-use Rattle.rkyv_btree_base.specs.Refusing.{RefusesWhole, misplaced, bad_entry, unaligned}
-use Rattle.rkyv_btree_base.specs.Views.{stands}
-use Rattle.rkyv_btree_base.specs.laws.Views.{stands_of}
+use Rattle.rkyv_btree_portable.specs.Bytes.{bytes_at}
+use Rattle.rkyv_btree_portable.specs.Kind.{IsLawful}
+use Rattle.rkyv_btree_portable.specs.Plain.{Plain, MeansPlainly, plain_kind}
+use Rattle.rkyv_btree_portable.specs.declared.refusal.Refusal.TheVariants.{Misaligned, BadEntry}
+use Rattle.rkyv_btree_portable.specs.Refusing.{RefusesWhole, misplaced, bad_entry, unaligned}
+use Rattle.rkyv_btree_portable.specs.Views.{stands}
+use Rattle.rkyv_btree_portable.specs.laws.Views.{stands_of}
 use Rattle.rkyv_btree_source.specs.Reading.{IsPart}
 
 -- the bytes at the front

@@ -4,15 +4,15 @@ use Rattle.std.proofs.lemmas.Bool.{eq-eqb, ne_eqb, cases_lt}
 use Rattle.std.specs.Prelude.{if◌then◌else◌, min, ℤ}
 use Rattle.std.specs.declared.cmp.Ordering.{Ordering}
 use Rattle.std.specs.declared.cmp.Ordering.TheVariants.{Less, Equal, Greater}
-use Rattle.rkyv_btree_base.specs.Bytes.{target_at, place_at}
-use Rattle.rkyv_btree_base.specs.Kind.{Kind}
-use Rattle.rkyv_btree_base.specs.Layout.{layout_of, pointer_at}
-use Rattle.rkyv_btree_base.specs.Refusal.{Refusal}
-use Rattle.rkyv_btree_base.specs.Refusals.{map_len}
+use Rattle.rkyv_btree_portable.specs.Bytes.{target_at, place_at}
+use Rattle.rkyv_btree_portable.specs.Kind.{Kind}
+use Rattle.rkyv_btree_format.specs.Layout.{layout_of, pointer_at}
+use Rattle.rkyv_btree_portable.specs.declared.refusal.Refusal.{Refusal}
+use Rattle.rkyv_btree_verify.specs.Refusals.{map_len}
 use Rattle.rkyv_btree_unverified.proofs.Exact.{is_node, is_place, place_of}
 use Rattle.rkyv_btree_unverified.specs.Steps.{key_place, value_place, Asks, ChildGives, of_leaf, absent, bad_place, child, Gives, HeadGives, misplaced, empty, bad_root, root, NodeGives, StopsBefore}
-use Rattle.rkyv_btree_unverified.specs.declared.unverified_search.Next.{Next}
-use Rattle.rkyv_btree_unverified.specs.declared.unverified_search.Next.TheVariants.{Hit, Down}
+use Rattle.rkyv_btree_unverified.specs.declared.search.Next.{Next}
+use Rattle.rkyv_btree_unverified.specs.declared.search.Next.TheVariants.{Hit, Down}
 use Rattle.rkyv_btree_source.proofs.Lacking.{keys_more}
 use Rattle.rkyv_btree_source.specs.Reads.{Lengths, Part, NodeBytes, IsLast, IsOver, NodeReads, NodeTakes, Reads, Takes, keys_len, part_len, reads_child, reads_entry, reads_key, reads_own, reads_root, reads_value, takes_down, takes_hit, takes_miss, takes_own, takes_tree}
 

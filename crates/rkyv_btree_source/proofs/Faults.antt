@@ -1,16 +1,17 @@
 -- How faults of the steps become those of a lookup, and what the steps that succeed make up.
-use Rattle.std.proofs.Common.{◌≡◌, ◌∙◌, ℕ, IsTrue, List, Option, Some, Result, Ok, Err, sym, ap, subst}
+use Rattle.std.proofs.Common.{◌≡◌, ◌∙◌, ◌+◌, ◌<◌, ◌≤◌, arith, ℕ, IsTrue, List, Option, Some, Result, Ok, Err, sym, ap, subst}
 use Rattle.std.specs.declared.cmp.Ordering.{Ordering}
 use Rattle.std.specs.declared.cmp.Ordering.TheVariants.{Equal}
-use Rattle.rkyv_btree_base.specs.Kind.{Kind}
-use Rattle.rkyv_btree_base.specs.Refusal.{Refusal}
-use Rattle.rkyv_btree_base.specs.Views.{stands}
-use Rattle.rkyv_btree_source.specs.Reading.{GivesBy, IfRefused}
-use Rattle.rkyv_btree_source.specs.declared.source_fault.SourceFault.{SourceFault}
-use Rattle.rkyv_btree_source.specs.declared.source_fault.SourceFault.TheVariants.{Refused, Read, NoRoom, OverBudget}
-use Rattle.rkyv_btree_source.specs.declared.source_search.Hit.{Hit}
-use Rattle.rkyv_btree_source.specs.declared.source_search.Step.{Step}
-use Rattle.rkyv_btree_source.specs.declared.source_search.Step.TheVariants.{Ends, Below}
+use Rattle.rkyv_btree_portable.specs.Kind.{Kind}
+use Rattle.rkyv_btree_portable.specs.declared.refusal.Refusal.{Refusal}
+use Rattle.rkyv_btree_portable.specs.Views.{stands}
+use Rattle.rkyv_btree_source.specs.Reading.{GivesBy, IfRefused, IsCaused}
+use Rattle.rkyv_btree_source.specs.Reads.{IsLacking}
+use Rattle.rkyv_btree_source.specs.declared.fault.SourceFault.{SourceFault}
+use Rattle.rkyv_btree_source.specs.declared.fault.SourceFault.TheVariants.{Refused, Read, NoRoom, OverBudget}
+use Rattle.rkyv_btree_source.specs.declared.search.Hit.{Hit}
+use Rattle.rkyv_btree_source.specs.declared.search.Step.{Step}
+use Rattle.rkyv_btree_source.specs.declared.search.Step.TheVariants.{Ends, Below}
 use Rattle.rkyv_btree_source.specs.mirror.Found.{entry_of, StepStands}
 use Rattle.rkyv_btree_unverified.proofs.Goes.{keys_refuse}
 use Rattle.rkyv_btree_unverified.proofs.Passes.{gives_at}
@@ -63,3 +64,17 @@ module _ (K V : Kind) (E : ℕ) (room : List ℕ) (p : ℕ) (step : Step) (h : S
 
   pub room_below : (q : ℕ) → step ≡ Below q → HasRoom K V E p q
   room_below q is = rw is at h
+
+-- what is caused by a bound is caused by a greater one
+pub caused_within : (end further node room left : ℕ) {X : Type 0} (fault : SourceFault X) → end ≤ further → IsCaused end node room left fault → IsCaused further node room left fault
+caused_within end further node room left (Refused e) more h = tt
+caused_within end further node room left (Read e) more h = tt
+caused_within end further node room left (NoRoom n) more h = let small = h.2 in (h.0, h.1, omega (arith, more, small))
+caused_within end further node room left OverBudget more h = omega (arith, more, h)
+
+-- the map's own bytes need no room
+pub head_within : (before after room : ℕ) {X : Type 0} (fault : SourceFault X) → after ≤ before → IsLacking (λ (n : ℕ). ⊥) (before < 8) fault → IsCaused 4294967295 0 room after fault
+head_within before after room (Refused e) less h = tt
+head_within before after room (Read e) less h = tt
+head_within before after room (NoRoom n) less h = absurd h
+head_within before after room OverBudget less h = omega (arith, less, h)

@@ -2,17 +2,17 @@
 use Rattle.std.proofs.Common.{◌≡◌, ◌∙◌, inl, inr, ℕ, ◌+◌, ◌≤◌, ◌<◌, List, ap, arith, subst, sym, refl, Some, None, Ok}
 use Rattle.std.proofs.lemmas.Bool.{cases_lt}
 use Rattle.std.specs.declared.cmp.Ordering.{Ordering}
-use Rattle.rkyv_btree_base.specs.Kind.{Kind}
+use Rattle.rkyv_btree_portable.specs.Kind.{Kind}
 use Rattle.rkyv_btree_source.proofs.Covered.{asked_within, found_stops, hit_ends, moved, one_count, one_end, one_root, one_taking, stop_ends}
 use Rattle.rkyv_btree_source.specs.Reads.{Lengths, Part, NodeBytes, EachFits, IsLast, NodeReads, NodeTakes, Reads, part_room, reads_child, reads_entry, reads_key, reads_own, reads_root, reads_value}
-use Rattle.rkyv_btree_source.specs.declared.source_search.Stop.{Stop}
-use Rattle.rkyv_btree_source.specs.declared.source_search.Stop.TheVariants.{At, Before}
+use Rattle.rkyv_btree_source.specs.declared.search.Stop.{Stop}
+use Rattle.rkyv_btree_source.specs.declared.search.Stop.TheVariants.{At, Before}
 use Rattle.rkyv_btree_source.specs.mirror.Found.{From, from_child, from_entry, from_node, FromFits, NodeStepTakes, StopFits, StopTakes, next_of}
-use Rattle.rkyv_btree_source.specs.declared.source_search.Step.{Step}
-use Rattle.rkyv_btree_source.specs.declared.source_search.Step.TheVariants.{Below}
+use Rattle.rkyv_btree_source.specs.declared.search.Step.{Step}
+use Rattle.rkyv_btree_source.specs.declared.search.Step.TheVariants.{Below}
 use Rattle.rkyv_btree_unverified.specs.Steps.{value_place, HeadGives, NodeGives}
-use Rattle.rkyv_btree_unverified.specs.declared.unverified_search.Next.{Next}
-use Rattle.rkyv_btree_unverified.specs.declared.unverified_search.Next.TheVariants.{Down}
+use Rattle.rkyv_btree_unverified.specs.declared.search.Next.{Next}
+use Rattle.rkyv_btree_unverified.specs.declared.search.Next.TheVariants.{Down}
 
 -- one more key fits
 pub each_more : (P : ℕ → Type 0) (i : ℕ) → ((k : ℕ) → k < i → P k) → P i → (k : ℕ) → k < i + 1 → P k
@@ -137,5 +137,5 @@ module _ (K V : Kind) (E : ℕ) (b : List ℕ) (KL VL : Lengths) (comparison : K
   fits_in Reading room other len fits before part reads = let fit = fits before part reads in omega (arith, fit, len)
 
   -- beside the bytes for a node
-  pub beside : (Reading : ℕ → Part → Type 0) (node room lent : ℕ) → lent ≡ node + room → EachFits K V E b KL VL Reading 0 room → EachFits K V E b KL VL Reading node lent
+  pub beside : (Reading : ℕ → Part → Type 0) (node room lent : ℕ) → node + room ≤ lent → EachFits K V E b KL VL Reading 0 room → EachFits K V E b KL VL Reading node lent
   beside Reading node room lent whole fits before part reads = let fit = fits before part reads in omega (arith, fit, whole)

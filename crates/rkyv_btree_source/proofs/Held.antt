@@ -1,7 +1,7 @@
 -- Bytes within a piece.
 use Rattle.std.proofs.Common.{◌≡◌, ◌∙◌, ◌+◌, ◌-◌, ◌≤◌, ℕ, List, ap, arith, sym, take, drop}
 use Rattle.std.proofs.lemmas.List.{drop-drop, drop-take, take-take}
-use Rattle.rkyv_btree_base.specs.Bytes.{bytes_at}
+use Rattle.rkyv_btree_portable.specs.Bytes.{bytes_at}
 use Rattle.rkyv_btree_source.specs.Known.{IsPiece}
 use Rattle.rkyv_btree_source.specs.declared.piece.Piece.{Piece}
 

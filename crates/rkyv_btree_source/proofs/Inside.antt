@@ -1,8 +1,8 @@
 -- Keys and values lie in a node's bytes.
 use Rattle.std.proofs.Common.{◌≡◌, ℕ, ◌+◌, ◌*◌, ◌≤◌, ◌<◌, IsTrue, arith}
-use Rattle.rkyv_btree_base.proofs.Sizes.{room_of}
-use Rattle.rkyv_btree_base.specs.Kind.{Kind, IsLawful}
-use Rattle.rkyv_btree_base.specs.Layout.{layout_of, are_fitting, leaf_size, key_at, value_at}
+use Rattle.rkyv_btree_format.proofs.Sizes.{room_of}
+use Rattle.rkyv_btree_portable.specs.Kind.{Kind, IsLawful}
+use Rattle.rkyv_btree_format.specs.Layout.{layout_of, are_fitting, leaf_size, key_at, value_at}
 
 one_more : (i n : ℕ) → (i + 1) * n ≡ i * n + n
 one_more i n = grind arith

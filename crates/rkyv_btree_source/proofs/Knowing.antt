@@ -2,8 +2,8 @@
 use Rattle.std.proofs.Common.{◌≡◌, ℕ, List, Result, Ok, Err, IfErr, subst, sym}
 use Rattle.rkyv_btree_source.specs.Known.{Known, AreOf}
 use Rattle.rkyv_btree_source.specs.Reading.{IfRead}
-use Rattle.rkyv_btree_source.specs.declared.source_fault.SourceFault.{SourceFault}
-use Rattle.rkyv_btree_source.specs.declared.source_fault.SourceFault.TheVariants.{Refused, Read, NoRoom, OverBudget}
+use Rattle.rkyv_btree_source.specs.declared.fault.SourceFault.{SourceFault}
+use Rattle.rkyv_btree_source.specs.declared.fault.SourceFault.TheVariants.{Refused, Read, NoRoom, OverBudget}
 
 pub of_same : {now then : Known} (b : List ℕ) → now ≡ then → AreOf then b → AreOf now b
 of_same b same e = subst (λ k. AreOf k b) (sym same) e

@@ -3,11 +3,11 @@ use Rattle.std.proofs.Common.{◌≡◌, ℕ, ◌+◌, ◌<◌, List, arith, sub
 use Rattle.std.specs.declared.cmp.Ordering.{Ordering}
 use Rattle.std.specs.declared.cmp.Ordering.TheVariants.{Equal}
 use Rattle.std.specs.Prelude.{Ok}
-use Rattle.rkyv_btree_base.specs.Kind.{Kind}
+use Rattle.rkyv_btree_portable.specs.Kind.{Kind}
 use Rattle.rkyv_btree_source.specs.Reading.{IsOfReading}
 use Rattle.rkyv_btree_source.specs.Reads.{Lengths, Part, NodeBytes, KeyText, ValueText, IsLacking, Lacks, IsShort, NodeReads, Reads, keys_len, part_len, part_room, reads_entry, reads_key, reads_value}
-use Rattle.rkyv_btree_source.specs.declared.source_fault.SourceFault.{SourceFault}
-use Rattle.rkyv_btree_source.specs.declared.source_fault.SourceFault.TheVariants.{Refused, Read, NoRoom, OverBudget}
+use Rattle.rkyv_btree_source.specs.declared.fault.SourceFault.{SourceFault}
+use Rattle.rkyv_btree_source.specs.declared.fault.SourceFault.TheVariants.{Refused, Read, NoRoom, OverBudget}
 use Rattle.rkyv_btree_unverified.specs.Steps.{key_place, value_place, Asks, Gives, NodeGives}
 
 module _ (K V : Kind) (E : ℕ) (b : List ℕ) (KL VL : Lengths) where
@@ -51,11 +51,10 @@ module _ (K V : Kind) (E : ℕ) (b : List ℕ) (KL VL : Lengths) where
   lacks_at fault L at place room left same h = subst (λ (x : ℕ). IsLacking (λ n. (n ≡ L.room b x) × (room < n)) (left < L.outlying b x) fault) same h
 
   -- beside the bytes for a node
-  pub short_beside : (Reading : ℕ → Part → Type 0) (node room lent n needed : ℕ) → IsShort K V E b KL VL Reading 0 room n → lent ≡ node + room → needed ≡ n + node → IsShort K V E b KL VL Reading node lent needed
-  short_beside Reading node room lent n needed h whole same =
+  pub short_beside : (Reading : ℕ → Part → Type 0) (node room lent n needed : ℕ) → IsShort K V E b KL VL Reading 0 room n → lent < needed → needed ≡ n + node → IsShort K V E b KL VL Reading node lent needed
+  short_beside Reading node room lent n needed h short same =
       let needs = h.needs in
-      let more = h.more in
-      record { before = h.before; part = h.part; reads = h.reads; needs = omega (arith, needs, same); more = omega (arith, more, whole, same) }
+      record { before = h.before; part = h.part; reads = h.reads; needs = omega (arith, needs, same); more = short }
 
   module _ (comparison : K.Value → Ordering) where
     -- a key of a node or a value, after the keys before it

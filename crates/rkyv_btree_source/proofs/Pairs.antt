@@ -1,17 +1,17 @@
 -- Pairs that are brought from a source, whose parts lie in their own bytes alone.
 use Rattle.std.proofs.Common.{◌≡◌, ◌∙◌, ℕ, ◌+◌, ◌%◌, ◌≤◌, IsTrue, List, length, ap, sym, subst, arith, refl}
 use Rattle.std.proofs.Math.Nat.{zero-mod}
-use Rattle.rkyv_btree_base.specs.Bytes.{bytes_at}
-use Rattle.rkyv_btree_base.specs.Entry.{entry_align, entry_kind, entry_size, value_offset, MeansEntry, RefusesEntry, bad_key, bad_value, misplaced_entry}
-use Rattle.rkyv_btree_base.specs.InPlace.{LiesAlone, value_of}
-use Rattle.rkyv_btree_base.specs.Kind.{Kind, IsLawful}
-use Rattle.rkyv_btree_base.specs.Refusal.TheVariants.{Misaligned, BadEntry}
-use Rattle.rkyv_btree_base.specs.Refusing.{HasPlace, unaligned}
-use Rattle.rkyv_btree_base.specs.Views.{stands}
-use Rattle.rkyv_btree_base.specs.laws.EntryLaws.{entry_laws, entry_of_parts, key_inside, value_inside}
-use Rattle.rkyv_btree_base.specs.laws.Rounding.{aligned_add, aligned_left, aligned_right, round_up-aligned}
+use Rattle.rkyv_btree_portable.specs.Bytes.{bytes_at}
+use Rattle.rkyv_btree_portable.specs.Entry.{entry_align, entry_kind, entry_size, value_offset, MeansEntry, RefusesEntry, bad_key, bad_value, misplaced_entry}
+use Rattle.rkyv_btree_portable.specs.InPlace.{LiesAlone, value_of}
+use Rattle.rkyv_btree_portable.specs.Kind.{Kind, IsLawful}
+use Rattle.rkyv_btree_portable.specs.declared.refusal.Refusal.TheVariants.{Misaligned, BadEntry}
+use Rattle.rkyv_btree_portable.specs.Refusing.{HasPlace, unaligned}
+use Rattle.rkyv_btree_portable.specs.Views.{stands}
+use Rattle.rkyv_btree_portable.specs.laws.EntryLaws.{entry_laws, entry_of_parts, key_inside, value_inside}
+use Rattle.rkyv_btree_portable.specs.laws.Rounding.{aligned_add, aligned_left, aligned_right, round_up-aligned}
 use Rattle.rkyv_btree_portable.specs.laws.Standing.{bytes_at-bytes_at}
-use Rattle.rkyv_btree_base.specs.laws.Views.{stands_of}
+use Rattle.rkyv_btree_portable.specs.laws.Views.{stands_of}
 use Rattle.rkyv_btree_source.specs.Reading.{IsPart}
 
 -- own bytes that are a value of such a type are one wherever they lie, the same

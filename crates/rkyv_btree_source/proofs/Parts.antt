@@ -3,7 +3,7 @@ use Rattle.std.proofs.Common.{◌≡◌, ◌∙◌, ℕ, ◌+◌, ◌≤◌, ◌
 use Rattle.std.specs.Int.{cast_signed, w32}
 use Rattle.std.specs.Prelude.{pos, ◌+ℤ◌}
 use Rattle.std.proofs.lemmas.List.{get_or-take, get_or-drop}
-use Rattle.rkyv_btree_base.specs.Bytes.{bytes_at, from_le, number_at, place_at}
+use Rattle.rkyv_btree_portable.specs.Bytes.{bytes_at, from_le, number_at, place_at}
 use Rattle.rkyv_btree_portable.specs.laws.Standing.{bytes_at-bytes_at, length-bytes_at}
 use Rattle.rkyv_btree_source.specs.Reading.{IsPart}
 

@@ -4,12 +4,12 @@ use Rattle.std.specs.BTreeMap.{is_at}
 use Rattle.std.specs.Map.{lookup}
 use Rattle.std.specs.Option.{option_map}
 use Rattle.std.specs.declared.cmp.Ordering.{Ordering}
-use Rattle.rkyv_btree_base.specs.Increasing.{Increasing}
-use Rattle.rkyv_btree_base.specs.Kind.{Kind, IsLawful}
-use Rattle.rkyv_btree_base.specs.Layout.{layout_of, are_fitting}
-use Rattle.rkyv_btree_base.specs.Read.{entry_at}
-use Rattle.rkyv_btree_base.specs.Refusal.{Refusal}
-use Rattle.rkyv_btree_base.specs.Refusing.{AreRefusals}
+use Rattle.rkyv_btree_format.specs.Increasing.{Increasing}
+use Rattle.rkyv_btree_portable.specs.Kind.{Kind, IsLawful}
+use Rattle.rkyv_btree_format.specs.Layout.{layout_of, are_fitting}
+use Rattle.rkyv_btree_format.specs.Read.{entry_at}
+use Rattle.rkyv_btree_portable.specs.declared.refusal.Refusal.{Refusal}
+use Rattle.rkyv_btree_portable.specs.Refusing.{AreRefusals}
 use Rattle.rkyv_btree_view.proofs.LookedUp.{value_of_entry}
 use Rattle.rkyv_btree_unverified.proofs.Found.{sorted_finds}
 use Rattle.rkyv_btree_unverified.proofs.OnMaps.{lookup_is}

@@ -2,16 +2,16 @@
 use Rattle.std.proofs.Common.{◌∙◌, ℕ, Bool, IsTrue, List, Option, Result, Ok, Err, is_some, sym, ap}
 use Rattle.std.specs.Option.{option_map}
 use Rattle.std.specs.declared.cmp.Ordering.{Ordering}
-use Rattle.rkyv_btree_base.specs.Kind.{Kind, IsLawful}
-use Rattle.rkyv_btree_base.specs.Layout.{are_fitting}
-use Rattle.rkyv_btree_base.specs.Refusal.{Refusal}
-use Rattle.rkyv_btree_base.specs.Refusing.{AreRefusals}
+use Rattle.rkyv_btree_portable.specs.Kind.{Kind, IsLawful}
+use Rattle.rkyv_btree_format.specs.Layout.{are_fitting}
+use Rattle.rkyv_btree_portable.specs.declared.refusal.Refusal.{Refusal}
+use Rattle.rkyv_btree_portable.specs.Refusing.{AreRefusals}
 use Rattle.rkyv_btree_portable.specs.declared.check.Portable
 use Rattle.rkyv_btree_source.proofs.Sorted.{finds_sorted, none_refused}
 use Rattle.rkyv_btree_source.specs.Reading.{IfRefused}
 use Rattle.rkyv_btree_source.specs.Sourced.{ReadsValue, ReadsWhether}
-use Rattle.rkyv_btree_source.specs.declared.source_fault.SourceFault.{SourceFault}
-use Rattle.rkyv_btree_source.specs.declared.source_fault.SourceFault.TheVariants.{Refused}
+use Rattle.rkyv_btree_source.specs.declared.fault.SourceFault.{SourceFault}
+use Rattle.rkyv_btree_source.specs.declared.fault.SourceFault.TheVariants.{Refused}
 use Rattle.rkyv_btree_unverified.specs.Lookups.{FindsAt, LookupGives}
 use Rattle.rkyv_btree_unverified.specs.Steps.{value_place}
 use Rattle.rkyv_btree_view.proofs.LookedUp.{natives_agree}

@@ -2,17 +2,17 @@
 use Rattle.std.proofs.Common.{◌≡◌, ℕ, ◌+◌, ◌<◌, List, ap, arith, subst, sym}
 use Rattle.std.specs.declared.cmp.Ordering.{Ordering}
 use Rattle.std.specs.Prelude.{Option, Some, None, Ok, min}
-use Rattle.rkyv_btree_base.specs.Kind.{Kind}
+use Rattle.rkyv_btree_portable.specs.Kind.{Kind}
 use Rattle.rkyv_btree_source.proofs.Lacking.{keys_more}
 use Rattle.rkyv_btree_source.specs.Reads.{Lengths, NodeBytes, NodeTakes, Reads, Takes, IsLast, keys_len, part_len, reads_child, takes_down, takes_hit, takes_miss, takes_tree}
-use Rattle.rkyv_btree_source.specs.declared.source_search.Hit.{Hit}
-use Rattle.rkyv_btree_source.specs.declared.source_search.Step.{Step}
-use Rattle.rkyv_btree_source.specs.declared.source_search.Step.TheVariants.{Ends, Nothing, Below}
-use Rattle.rkyv_btree_source.specs.declared.source_search.Stop.{Stop}
-use Rattle.rkyv_btree_source.specs.declared.source_search.Stop.TheVariants.{At, Before}
+use Rattle.rkyv_btree_source.specs.declared.search.Hit.{Hit}
+use Rattle.rkyv_btree_source.specs.declared.search.Step.{Step}
+use Rattle.rkyv_btree_source.specs.declared.search.Step.TheVariants.{Ends, Nothing, Below}
+use Rattle.rkyv_btree_source.specs.declared.search.Stop.{Stop}
+use Rattle.rkyv_btree_source.specs.declared.search.Stop.TheVariants.{At, Before}
 use Rattle.rkyv_btree_source.specs.mirror.Found.{next_of, NodeStepTakes, StepTakes, StopTakes}
 use Rattle.rkyv_btree_unverified.specs.Steps.{key_place, value_place, ChildGives, NodeGives}
-use Rattle.rkyv_btree_unverified.specs.declared.unverified_search.Next.TheVariants.{Hit as NextHit}
+use Rattle.rkyv_btree_unverified.specs.declared.search.Next.TheVariants.{Hit as NextHit}
 
 module _ (K V : Kind) (E : ℕ) (b : List ℕ) (KL VL : Lengths) (p i : ℕ) where
   -- none yet

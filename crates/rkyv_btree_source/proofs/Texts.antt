@@ -7,12 +7,12 @@ use Rattle.std.proofs.Math.Seq.{take-append_seam}
 use Rattle.std.proofs.lemmas.Int.{ints}
 use Rattle.std.proofs.lemmas.List.{drop_at, take-append-le, length-append, length-drop, take_all}
 use lib.Signed.{lt_z}
-use Rattle.rkyv_btree_base.specs.Bytes.{bytes_at, number_at, place_at, Holds}
-use Rattle.rkyv_btree_base.specs.Refusal.TheVariants.{Misaligned, BadEntry}
-use Rattle.rkyv_btree_base.specs.Refusing.{HasPlace, RefusesWhole, misplaced, bad_entry, unaligned}
-use Rattle.rkyv_btree_base.specs.Text.{IsTextRange, MeansText, text_kind, text_len, read_text}
-use Rattle.rkyv_btree_base.specs.Views.{stands}
-use Rattle.rkyv_btree_base.specs.laws.Views.{stands_of}
+use Rattle.rkyv_btree_portable.specs.Bytes.{bytes_at, number_at, place_at, Holds}
+use Rattle.rkyv_btree_portable.specs.declared.refusal.Refusal.TheVariants.{Misaligned, BadEntry}
+use Rattle.rkyv_btree_portable.specs.Refusing.{HasPlace, RefusesWhole, misplaced, bad_entry, unaligned}
+use Rattle.rkyv_btree_portable.specs.Text.{IsTextRange, MeansText, text_kind, text_len, read_text}
+use Rattle.rkyv_btree_portable.specs.Views.{stands}
+use Rattle.rkyv_btree_portable.specs.laws.Views.{stands_of}
 use Rattle.rkyv_btree_portable.specs.laws.Holding.{Holds-front, Holds-back}
 use Rattle.rkyv_btree_portable.specs.laws.TextLaws.{text_laws}
 use Rattle.rkyv_btree_source.specs.Reading.{IsPart}

@@ -1,6 +1,6 @@
 -- What is known of the bytes of a source: nothing, all of them, or how many there are and those of some pieces.
 use Rattle.std.specs.Prelude.{◌≡◌, ℕ, ◌+◌, ◌≤◌, ◌<◌, List, length, Contains}
-use Rattle.rkyv_btree_base.specs.Bytes.{bytes_at}
+use Rattle.rkyv_btree_portable.specs.Bytes.{bytes_at}
 use Rattle.rkyv_btree_source.specs.declared.piece.Piece.{Piece}
 use Rattle.rkyv_btree_source.specs.declared.piece.Missing.{Missing}
 
@@ -26,8 +26,13 @@ pub record Covers (room : ℕ) (piece : Piece) (at len : ℕ) : Type 0 where
   pub starts : piece.pos ≤ at
   pub ends : at + len ≤ piece.pos + piece.len
 
--- a part is missing where no piece has it. A source that has no pieces says nothing
+-- all bytes that the pieces may be of have a part, and no piece has all of it
+pub record IsLeftOut (size : ℕ) (all : List Piece) (c : List ℕ) (part : Missing) : Type 0 where
+  pub inside : (b : List ℕ) → AreOf (pieces size all c) b → part.pos + part.len ≤ length b
+  pub held : (piece : Piece) → Contains all piece → Covers (length c) piece part.pos part.len → ⊥
+
+-- a part is missing where the source has it and no piece does. A source that has no pieces says nothing
 abbrev pub IsMissing : Known → Missing → Type 0
 IsMissing nothing part = Unit {0}
 IsMissing (whole c) part = Unit {0}
-IsMissing (pieces size all c) part = (piece : Piece) → Contains all piece → Covers (length c) piece part.pos part.len → ⊥
+IsMissing (pieces size all c) part = IsLeftOut size all c part

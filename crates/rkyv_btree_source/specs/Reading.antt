@@ -1,11 +1,11 @@
 -- What a lookup in a source returns: what one in its bytes does, or a fault of reading.
 use Rattle.std.specs.Prelude.{◌≡◌, ℕ, ◌+◌, ◌*◌, ◌≤◌, ◌<◌, IsTrue, List, length, Result, Ok, Err}
-use Rattle.rkyv_btree_base.specs.Bytes.{bytes_at}
-use Rattle.rkyv_btree_base.specs.Kind.{Kind}
-use Rattle.rkyv_btree_base.specs.Refusal.{Refusal}
-use Rattle.rkyv_btree_base.specs.Views.{stands}
-use Rattle.rkyv_btree_source.specs.declared.source_fault.SourceFault.{SourceFault}
-use Rattle.rkyv_btree_source.specs.declared.source_fault.SourceFault.TheVariants.{Refused, Read, NoRoom, OverBudget}
+use Rattle.rkyv_btree_portable.specs.Bytes.{bytes_at}
+use Rattle.rkyv_btree_portable.specs.Kind.{Kind}
+use Rattle.rkyv_btree_portable.specs.declared.refusal.Refusal.{Refusal}
+use Rattle.rkyv_btree_portable.specs.Views.{stands}
+use Rattle.rkyv_btree_source.specs.declared.fault.SourceFault.{SourceFault}
+use Rattle.rkyv_btree_source.specs.declared.fault.SourceFault.TheVariants.{Refused, Read, NoRoom, OverBudget}
 
 -- where the bytes are refused, P holds of the refusal
 abbrev pub IfRefused : {E : Type 0} → (Refusal → Type 0) → SourceFault E → Type 0

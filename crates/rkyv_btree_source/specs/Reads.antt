@@ -2,14 +2,14 @@
 use Rattle.std.specs.Prelude.{◌≡◌, ℕ, zero, suc, ◌+◌, ◌-◌, ◌*◌, ◌/◌, ◌≤◌, ◌<◌, List, Some, None, Ok, min}
 use Rattle.std.specs.declared.cmp.Ordering.{Ordering}
 use Rattle.std.specs.declared.cmp.Ordering.TheVariants.{Equal}
-use Rattle.rkyv_btree_base.specs.Kind.{Kind}
-use Rattle.rkyv_btree_base.specs.Layout.{layout_of, inner_size}
-use Rattle.rkyv_btree_base.specs.Text.{text_len}
-use Rattle.rkyv_btree_source.specs.declared.source_fault.SourceFault.{SourceFault}
-use Rattle.rkyv_btree_source.specs.declared.source_fault.SourceFault.TheVariants.{Refused, Read, NoRoom, OverBudget}
+use Rattle.rkyv_btree_portable.specs.Kind.{Kind}
+use Rattle.rkyv_btree_format.specs.Layout.{layout_of, inner_size}
+use Rattle.rkyv_btree_portable.specs.Text.{text_len}
+use Rattle.rkyv_btree_source.specs.declared.fault.SourceFault.{SourceFault}
+use Rattle.rkyv_btree_source.specs.declared.fault.SourceFault.TheVariants.{Refused, Read, NoRoom, OverBudget}
 use Rattle.rkyv_btree_unverified.specs.Steps.{key_place, value_place, Asks, ChildGives, Gives, HeadGives, NodeGives, StopsBefore}
-use Rattle.rkyv_btree_unverified.specs.declared.unverified_search.Next.{Next}
-use Rattle.rkyv_btree_unverified.specs.declared.unverified_search.Next.TheVariants.{Hit, Miss, Down}
+use Rattle.rkyv_btree_unverified.specs.declared.search.Next.{Next}
+use Rattle.rkyv_btree_unverified.specs.declared.search.Next.TheVariants.{Hit, Miss, Down}
 
 -- the lengths of a value that is brought from a source
 pub record Lengths : Type 0 where

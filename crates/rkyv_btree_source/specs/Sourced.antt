@@ -5,15 +5,15 @@ use Rattle.std.specs.Map.{lookup}
 use Rattle.std.specs.Option.{option_map}
 use Rattle.std.specs.Prelude.{◌≡◌, ℕ, ◌+◌, ◌≤◌, Bool, IfErr, IfOk, is_some, List, length, Option, Result, Ok, Err}
 use Rattle.std.specs.declared.cmp.Ordering.{Ordering}
-use Rattle.rkyv_btree_base.specs.Increasing.{Increasing}
-use Rattle.rkyv_btree_base.specs.Kind.{Kind}
-use Rattle.rkyv_btree_base.specs.Layout.{layout_of, inner_size}
-use Rattle.rkyv_btree_base.specs.Refusal.{Refusal}
+use Rattle.rkyv_btree_format.specs.Increasing.{Increasing}
+use Rattle.rkyv_btree_portable.specs.Kind.{Kind}
+use Rattle.rkyv_btree_format.specs.Layout.{layout_of, inner_size}
+use Rattle.rkyv_btree_portable.specs.declared.refusal.Refusal.{Refusal}
 use Rattle.rkyv_btree_portable.specs.declared.check.Portable
 use Rattle.rkyv_btree_source.specs.Known.{AreOf, Known}
 use Rattle.rkyv_btree_source.specs.Reading.{IfRead, IfRefused, IsCaused, most_read}
 use Rattle.rkyv_btree_source.specs.Reads.{EachFits, Lacks, Lengths, Reads, Takes}
-use Rattle.rkyv_btree_source.specs.declared.source_fault.SourceFault.{SourceFault}
+use Rattle.rkyv_btree_source.specs.declared.fault.SourceFault.{SourceFault}
 use Rattle.rkyv_btree_unverified.specs.Lookups.{FindsAt, LookupGives}
 use Rattle.rkyv_btree_unverified.specs.Steps.{value_place}
 use Rattle.rkyv_btree_view.specs.Map.{IsMap}

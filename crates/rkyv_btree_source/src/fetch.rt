@@ -1,29 +1,30 @@
 //! Values that are brought from a source into a lent buffer, and validated there.
 ghost use Rattle.std.specs.Prelude.{◌≡◌, ◌+◌, ◌≤◌, ◌<◌, List, ℕ, Some, IsTrue, IfErr, IfNone, IfOk, IfSome, length};
-ghost use Rattle.rkyv_btree_base.specs.Bytes.{number_at};
-ghost use Rattle.rkyv_btree_base.specs.Entry.{entry_size};
-ghost use Rattle.rkyv_btree_base.specs.Plain.{plain_kind};
-ghost use Rattle.rkyv_btree_base.specs.Refusing.{RefusesWhole};
-ghost use Rattle.rkyv_btree_base.specs.Text.{IsTextRange};
-ghost use Rattle.rkyv_btree_base.specs.Views.{stands};
+ghost use Rattle.rkyv_btree_portable.specs.Bytes.{number_at};
+ghost use Rattle.rkyv_btree_portable.specs.Entry.{entry_size};
+ghost use Rattle.rkyv_btree_portable.specs.Plain.{plain_kind};
+ghost use Rattle.rkyv_btree_portable.specs.Refusing.{RefusesWhole};
+ghost use Rattle.rkyv_btree_portable.specs.Text.{IsTextRange};
+ghost use Rattle.rkyv_btree_portable.specs.Views.{stands};
 ghost use Rattle.rkyv_btree_source.specs.Reading.{IfRead, Brings, IsCaused, IsPart};
 ghost use Rattle.rkyv_btree_source.specs.Reads.{IsLacking, Lengths, own_lengths, text_lengths};
 ghost use Rattle.rkyv_btree_writer.specs.TextArchival.{text_own};
 ghost use Rattle.rkyv_btree_source.specs.Known.{AreOf};
 
+use crate::fault::SourceFault;
 use crate::fetch_pair::fetch_pair;
+use crate::node::place_of;
 use crate::reader::Reader;
 use crate::source::ReadAt;
-use crate::source_fault::SourceFault;
-use crate::source_node::place_of;
-use rkyv_btree_base::check::{CheckBytes, InPlace, Portable, Scalar};
-use rkyv_btree_base::refusal::Refusal;
-use rkyv_btree_base::text::ArchivedText;
-use rkyv_btree_base::util::Entry;
 use rkyv_btree_portable::bytes::num32;
+use rkyv_btree_portable::check::{CheckBytes, Portable, Scalar};
+use rkyv_btree_portable::entry::Entry;
+use rkyv_btree_portable::in_place::InPlace;
 use rkyv_btree_portable::little_endian::LittleEndian;
-use rkyv_btree_portable::text::is_utf8;
+use rkyv_btree_portable::refusal::Refusal;
+use rkyv_btree_portable::text::{ArchivedText, is_utf8};
 use rkyv_btree_writer::place::write_offset;
+use std::num::{NonZeroI8, NonZeroU8};
 
 /// An archived type whose values can be brought from a source into a lent buffer: numbers, truth values, characters, `()`, pairs of
 /// such, and text.
@@ -137,6 +138,32 @@ impl Fetch for i8 {
         room: &mut [u8],
     ) -> Result<u32, SourceFault<S::Error>> {
         fetch_own::<i8, S::Error>(own_bytes, pos, room)
+    }
+}
+
+impl Fetch for NonZeroU8 {
+    ghost lengths = { own_lengths 1 };
+
+    fn fetch<S: ReadAt>(
+        own_bytes: &[u8],
+        pos: u32,
+        _reader: &mut Reader<S>,
+        room: &mut [u8],
+    ) -> Result<u32, SourceFault<S::Error>> {
+        fetch_own::<NonZeroU8, S::Error>(own_bytes, pos, room)
+    }
+}
+
+impl Fetch for NonZeroI8 {
+    ghost lengths = { own_lengths 1 };
+
+    fn fetch<S: ReadAt>(
+        own_bytes: &[u8],
+        pos: u32,
+        _reader: &mut Reader<S>,
+        room: &mut [u8],
+    ) -> Result<u32, SourceFault<S::Error>> {
+        fetch_own::<NonZeroI8, S::Error>(own_bytes, pos, room)
     }
 }
 

@@ -1,14 +1,15 @@
 //! Pairs that are brought from a source into a lent buffer, and validated there.
 ghost use Rattle.std.specs.Prelude.{◌≡◌, ◌+◌, ◌≤◌, ◌<◌, List, ℕ, IsTrue, IfErr, IfOk, false, length};
-ghost use Rattle.rkyv_btree_base.specs.Entry.{entry_kind, entry_size, RefusesEntry};
-ghost use Rattle.rkyv_btree_base.specs.Views.{stands};
+ghost use Rattle.rkyv_btree_portable.specs.Entry.{entry_kind, entry_size, RefusesEntry};
+ghost use Rattle.rkyv_btree_portable.specs.Views.{stands};
 ghost use Rattle.rkyv_btree_source.specs.Reading.{IfRead, Brings, IsCaused, IsPart};
 ghost use Rattle.rkyv_btree_source.specs.Reads.{IsLacking};
 
-use crate::source_fault::SourceFault;
-use rkyv_btree_base::check::{CheckBytes, InPlace, Portable, Window};
-use rkyv_btree_base::refusal::Refusal;
-use rkyv_btree_base::util::{Entry, value_offset};
+use crate::fault::SourceFault;
+use rkyv_btree_portable::check::{CheckBytes, Portable, Window};
+use rkyv_btree_portable::entry::{Entry, value_offset};
+use rkyv_btree_portable::in_place::InPlace;
+use rkyv_btree_portable::refusal::Refusal;
 
 /// Tests the part at position `place` of a buffer, where its own bytes are all of it.
 fn is_part<T: InPlace>(room: &[u8], place: u32) -> bool

@@ -2,15 +2,15 @@
 //! compares. It validates what it reads, and nothing else.
 #![tactic(auto)]
 
+pub mod fault;
 pub mod fetch;
 mod fetch_pair;
+pub mod laws;
+mod node;
 pub mod piece;
 pub mod pieces;
 pub mod reader;
+pub mod search;
 pub mod source;
-pub mod source_fault;
-pub mod source_laws;
-mod source_node;
-pub mod source_search;
-pub mod source_tree;
+pub mod tree;
 pub mod unverified_source;

@@ -1,6 +1,6 @@
 //! A source of which some pieces are in memory. A lookup reads these, and returns the part that it lacks.
 ghost use Rattle.std.specs.Prelude.{◌≡◌, ◌+◌, ◌≤◌, List, ℕ, Contains, IfSome, None, length};
-ghost use Rattle.rkyv_btree_base.specs.Bytes.{bytes_at};
+ghost use Rattle.rkyv_btree_portable.specs.Bytes.{bytes_at};
 ghost use Rattle.rkyv_btree_source.specs.declared.piece.Piece.{Piece as Held};
 ghost use Rattle.rkyv_btree_source.specs.Known.{AreOf, Covers, IsMissing, IsPiece, pieces};
 

@@ -1,11 +1,11 @@
 //! Reads from a source, up to a number of bytes.
 ghost use Rattle.std.specs.Prelude.{◌≡◌, ◌+◌, ◌≤◌, ◌<◌, List, ℕ, Some, length, IfOk, IfErr, OnOk};
-ghost use Rattle.rkyv_btree_base.specs.Bytes.{bytes_at};
+ghost use Rattle.rkyv_btree_portable.specs.Bytes.{bytes_at};
 ghost use Rattle.rkyv_btree_source.specs.Reading.{IfRead, IsOfReading};
 ghost use Rattle.rkyv_btree_source.specs.Known.{AreOf};
 
+use crate::fault::SourceFault;
 use crate::source::ReadAt;
-use crate::source_fault::SourceFault;
 
 /// A source, and how many more bytes of it may be read.
 #[derive(Drop)]

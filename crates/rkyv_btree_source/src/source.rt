@@ -1,6 +1,6 @@
 //! Sources of bytes that are read at a position.
 ghost use Rattle.std.specs.Prelude.{◌≡◌, ◌+◌, ◌≤◌, List, Option, Some, None, ℕ, length, IfErr, IfOk, OnOk};
-ghost use Rattle.rkyv_btree_base.specs.Bytes.{bytes_at};
+ghost use Rattle.rkyv_btree_portable.specs.Bytes.{bytes_at};
 ghost use Rattle.rkyv_btree_source.specs.Known.{Known, AreOf, nothing, whole};
 
 use std::convert::Infallible;

@@ -1,22 +1,22 @@
 //! Maps in a source of bytes that nobody has validated.
 ghost use Rattle.std.specs.Prelude.{◌≡◌, ◌+◌, ◌≤◌, ◌<◌, ℕ, List, Some, None, Ok, Err, IfOk, IfErr, IsTrue, length};
-ghost use Rattle.rkyv_btree_base.specs.Layout.{are_fitting, layout_of, inner_size};
-ghost use Rattle.rkyv_btree_base.specs.Map.{map_kind};
-ghost use Rattle.rkyv_btree_base.specs.Refusal.TheVariants.{TooLong};
-ghost use Rattle.rkyv_btree_base.specs.Whole.{own_at};
+ghost use Rattle.rkyv_btree_format.specs.Layout.{are_fitting, layout_of, inner_size};
+ghost use Rattle.rkyv_btree_verify.specs.Map.{map_kind};
+ghost use Rattle.rkyv_btree_portable.specs.declared.refusal.Refusal.TheVariants.{TooLong};
+ghost use Rattle.rkyv_btree_format.specs.OwnBytes.{own_at};
 ghost use Rattle.rkyv_btree_source.specs.Reading.{IfRead, IfRefused, IsOfSize};
 ghost use Rattle.rkyv_btree_source.specs.Sourced.{IsBounded, LeavesSource, ReadsParts, ReadsValue, ReadsWhether};
 ghost use Rattle.rkyv_btree_view.specs.Lookup.{ByNative};
 ghost use Rattle.rkyv_btree_source.specs.Known.{AreOf};
 
+use crate::fault::SourceFault;
 use crate::fetch::Fetch;
 use crate::reader::Reader;
 use crate::source::ReadAt;
-use crate::source_fault::SourceFault;
-use crate::source_tree::search;
-use rkyv_btree_base::check::Portable;
-use rkyv_btree_base::refusal::Refusal;
-use rkyv_btree_unverified::unverified_node::inner_size;
+use crate::tree::search;
+use rkyv_btree_portable::check::Portable;
+use rkyv_btree_portable::refusal::Refusal;
+use rkyv_btree_unverified::node::inner_size;
 use rkyv_btree_view::compare_native::CompareWith;
 use rkyv_btree_view::view::View;
 use rkyv_btree_walk::archived_map::ArchivedMap;
@@ -144,7 +144,6 @@ impl<S: ReadAt, K: Fetch, V: Fetch, M: ArchivedMap<Key = K, Mapped = V>> Unverif
     ) -> Result<Option<View<'r, V>>, SourceFault<S::Error>>
     where
         K: CompareWith<T>,
-        requires { length lent.old ≤ 4294967295 }
         ensures same_as { (b : List ℕ) → AreOf (S.known self.old.reader.source) b →
             ReadsValue K.kind M.E K.Refuses V.Refuses b self.old.pos
             (ByNative K.kind K.compared_at key) result }
@@ -165,6 +164,9 @@ impl<S: ReadAt, K: Fetch, V: Fetch, M: ArchivedMap<Key = K, Mapped = V>> Unverif
             });
         }
         let (page, room) = lent.split_at_mut(page_len as usize);
+        // No position reaches further.
+        let reach = room.len().min(u32::MAX as usize);
+        let room = &mut room[..reach];
         match search::<S, T, K, V, M>(self.pos, &key, &mut self.reader, room, page) {
             Err(SourceFault::Refused(refusal)) => Err(SourceFault::Refused(refusal)),
             Err(SourceFault::Read(error)) => Err(SourceFault::Read(error)),
@@ -189,7 +191,6 @@ impl<S: ReadAt, K: Fetch, V: Fetch, M: ArchivedMap<Key = K, Mapped = V>> Unverif
     ) -> Result<bool, SourceFault<S::Error>>
     where
         K: CompareWith<T>,
-        requires { length lent.old ≤ 4294967295 }
         ensures same_as { (b : List ℕ) → AreOf (S.known self.old.reader.source) b →
             ReadsWhether K.kind V.kind M.E K.Refuses V.Refuses b self.old.pos
             (ByNative K.kind K.compared_at key) result }

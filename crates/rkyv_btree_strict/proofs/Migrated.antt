@@ -2,21 +2,21 @@
 use Rattle.std.proofs.Common.{◌≡◌, ℕ, ◌≤◌, List, ◌++◌, length, map, Result, Ok, Err, IfOk, IfErr, inl, inr, sym, ap, subst, ◌∙◌, append_assoc}
 use Rattle.std.specs.Map.Iter.{TakesFirst, deref_pair}
 use Rattle.std.specs.declared.cmp.Ordering.{Ordering}
-use Rattle.rkyv_btree_base.specs.Archives.{HoldsArchive}
-use Rattle.rkyv_btree_base.specs.Archiving.{Archival, BeginsWith}
-use Rattle.rkyv_btree_base.specs.Building.{IsRootUnwritten, IsRootWritten}
-use Rattle.rkyv_btree_base.specs.EntryFault.{EntryFault}
-use Rattle.rkyv_btree_base.specs.Entries.{now_of}
-use Rattle.rkyv_btree_base.specs.Fault.{Fault}
-use Rattle.rkyv_btree_base.specs.Image.{root_image}
-use Rattle.rkyv_btree_base.specs.Kept.{OnlyAppended}
-use Rattle.rkyv_btree_base.specs.Kind.{Kind}
-use Rattle.rkyv_btree_base.specs.Layout.{layout_of}
-use Rattle.rkyv_btree_base.specs.Serialising.{Built, Serialised, BuildFault, RootFault}
-use Rattle.rkyv_btree_base.specs.SmallestMaps.{IsSmallestArchive}
-use Rattle.rkyv_btree_base.specs.Writing.{Writing, position, Wrote, last_end}
-use Rattle.rkyv_btree_base.proofs.Accepting.{written_is_held_after}
-use Rattle.rkyv_btree_base.proofs.TreeSerialised.{entries_drained}
+use Rattle.rkyv_btree_writing_laws.specs.Archives.{HoldsArchive}
+use Rattle.rkyv_btree_writer.specs.Archiving.{Archival, BeginsWith}
+use Rattle.rkyv_btree_writing_laws.specs.Building.{IsRootUnwritten, IsRootWritten}
+use Rattle.rkyv_btree_writer.specs.declared.fault.EntryFault.{EntryFault}
+use Rattle.rkyv_btree_writing_laws.specs.Entries.{now_of}
+use Rattle.rkyv_btree_writer.specs.declared.fault.Fault.{Fault}
+use Rattle.rkyv_btree_writing_laws.specs.Image.{root_image}
+use Rattle.rkyv_btree_writing_laws.specs.Kept.{OnlyAppended}
+use Rattle.rkyv_btree_portable.specs.Kind.{Kind}
+use Rattle.rkyv_btree_format.specs.Layout.{layout_of}
+use Rattle.rkyv_btree_writing_laws.specs.Serialising.{Built, Serialised, BuildFault, RootFault}
+use Rattle.rkyv_btree_writing_laws.specs.SmallestMaps.{IsSmallestArchive}
+use Rattle.rkyv_btree_writer.specs.Writing.{Writing, position, Wrote, last_end}
+use Rattle.rkyv_btree_writing_laws.proofs.Accepting.{written_is_held_after}
+use Rattle.rkyv_btree_writing_laws.proofs.TreeSerialised.{entries_drained}
 use Rattle.rkyv_btree_convert.proofs.StdMaps.{ascending_meant}
 use Rattle.rkyv_btree_strict.specs.Migrated.{AreNative, Migrates, MigratesToStrict, FailsToMigrate}
 

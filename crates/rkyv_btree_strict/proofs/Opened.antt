@@ -1,13 +1,13 @@
 -- Strict maps that are opened, at a position and as whole archives.
 use Rattle.std.proofs.Common.{◌≡◌, ℕ, ◌≤◌, ◌<◌, List, length, ap, arith, refl, subst, sym}
 use Rattle.std.specs.Prelude.{Result, Ok, Err, IfOk}
-use Rattle.rkyv_btree_base.proofs.MapLaws.{map_laws}
-use Rattle.rkyv_btree_base.specs.Kind.{Kind, IsLawful}
-use Rattle.rkyv_btree_base.specs.Map.{map_kind}
-use Rattle.rkyv_btree_base.specs.Read.{read_map}
-use Rattle.rkyv_btree_base.specs.Refusal.{Refusal}
-use Rattle.rkyv_btree_base.specs.Refusal.TheVariants.{TooLong}
-use Rattle.rkyv_btree_base.specs.Whole.{own_at}
+use Rattle.rkyv_btree_verify.proofs.MapLaws.{map_laws}
+use Rattle.rkyv_btree_portable.specs.Kind.{Kind, IsLawful}
+use Rattle.rkyv_btree_verify.specs.Map.{map_kind}
+use Rattle.rkyv_btree_format.specs.Read.{read_map}
+use Rattle.rkyv_btree_portable.specs.declared.refusal.Refusal.{Refusal}
+use Rattle.rkyv_btree_portable.specs.declared.refusal.Refusal.TheVariants.{TooLong}
+use Rattle.rkyv_btree_format.specs.OwnBytes.{own_at}
 use Rattle.rkyv_btree_convert.proofs.Opened.{archive_short, refused_exactly, too_long_alone}
 use Rattle.rkyv_btree_strict.proofs.Checked.{is_what_is_read}
 use Rattle.rkyv_btree_strict.specs.Strict.{IsStrictMap, RefusesStrict}

@@ -6,8 +6,8 @@ use Rattle.std.specs.Ordering.{match_ordering}
 use Rattle.std.specs.Prelude.{MatchOption}
 use Rattle.std.specs.declared.cmp.Ordering.{Ordering}
 use Rattle.std.specs.declared.cmp.Ordering.TheVariants.{Less, Equal, Greater}
-use Rattle.rkyv_btree_base.proofs.Increasing.{alone, increasing_snoc, nothing}
-use Rattle.rkyv_btree_base.specs.Increasing.{Increasing, EachIsGreater, IsOutOfOrder}
+use Rattle.rkyv_btree_format.proofs.Increasing.{alone, increasing_snoc, nothing}
+use Rattle.rkyv_btree_format.specs.Increasing.{Increasing, EachIsGreater, IsOutOfOrder}
 use Rattle.rkyv_btree_strict.specs.mirror.Order.{unordered_after, unordered}
 
 module _ {A B : Type 0} {order : A → A → Ordering} (total : IsTotalOrder order) where

@@ -8,7 +8,7 @@ use Rattle.std.specs.Ordering.{nat_cmp, ordering_then, is_le, is_ge}
 use Rattle.std.specs.declared.cmp.Ordering.{Ordering}
 use Rattle.std.specs.declared.cmp.Ordering.TheVariants.{Less, Equal, Greater}
 use Rattle.rkyv_btree_walk.specs.Search.{OrderedBy}
-use Rattle.rkyv_btree_base.specs.Increasing.{Increasing}
+use Rattle.rkyv_btree_format.specs.Increasing.{Increasing}
 use Rattle.rkyv_btree_strict.specs.Prefix.{prefix_cmp}
 
 -- the order of two numbers before a third

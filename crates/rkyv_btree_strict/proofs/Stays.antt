@@ -6,7 +6,7 @@ use Rattle.std.specs.Map.{keys_of}
 use Rattle.std.specs.Prelude.{MatchOption}
 use Rattle.std.specs.declared.ops.ControlFlow.{ControlFlow}
 use Rattle.std.specs.declared.ops.ControlFlow.TheVariants.{Continue, Break}
-use Rattle.rkyv_btree_base.specs.Kind.{Kind}
+use Rattle.rkyv_btree_portable.specs.Kind.{Kind}
 use Rattle.rkyv_btree_seal.specs.Places.{PutsEntry}
 use Rattle.rkyv_btree_seal.specs.Put.{put_value}
 use Rattle.rkyv_btree_seal.specs.Visits.{Goes}

@@ -4,19 +4,19 @@ use Rattle.std.specs.List.Sorted.{IsStrictlySortedBy}
 use Rattle.std.specs.Map.{keys_of}
 use Rattle.std.specs.Map.Iter.{TakesFirst, deref_pair}
 use Rattle.std.specs.declared.cmp.Ordering.{Ordering}
-use Rattle.rkyv_btree_base.specs.Archiving.{Archival, Matches}
-use Rattle.rkyv_btree_base.specs.Entries.{now_of}
-use Rattle.rkyv_btree_base.specs.EntryFault.{EntryFault}
-use Rattle.rkyv_btree_base.specs.Fault.{Fault}
-use Rattle.rkyv_btree_base.specs.Fault.TheVariants.{Memory, Entry}
-use Rattle.rkyv_btree_base.specs.Image.{root_image}
-use Rattle.rkyv_btree_base.specs.Kept.{OnlyAppended}
-use Rattle.rkyv_btree_base.specs.Kind.{Kind}
-use Rattle.rkyv_btree_base.specs.Layout.{layout_of}
-use Rattle.rkyv_btree_base.specs.Rounding.{round_up}
-use Rattle.rkyv_btree_base.specs.Serialising.{Built, BuildFault, RootFault}
-use Rattle.rkyv_btree_base.specs.SmallestMaps.{IsSmallestArchive, entry_value}
-use Rattle.rkyv_btree_base.specs.Writing.{Writing, position, Wrote, last_end}
+use Rattle.rkyv_btree_writer.specs.Archiving.{Archival, Matches}
+use Rattle.rkyv_btree_writing_laws.specs.Entries.{now_of}
+use Rattle.rkyv_btree_writer.specs.declared.fault.EntryFault.{EntryFault}
+use Rattle.rkyv_btree_writer.specs.declared.fault.Fault.{Fault}
+use Rattle.rkyv_btree_writer.specs.declared.fault.Fault.TheVariants.{Memory, Entry}
+use Rattle.rkyv_btree_writing_laws.specs.Image.{root_image}
+use Rattle.rkyv_btree_writing_laws.specs.Kept.{OnlyAppended}
+use Rattle.rkyv_btree_portable.specs.Kind.{Kind}
+use Rattle.rkyv_btree_format.specs.Layout.{layout_of}
+use Rattle.rkyv_btree_portable.specs.Rounding.{round_up}
+use Rattle.rkyv_btree_writing_laws.specs.Serialising.{Built, BuildFault, RootFault}
+use Rattle.rkyv_btree_writing_laws.specs.SmallestMaps.{IsSmallestArchive, entry_value}
+use Rattle.rkyv_btree_writer.specs.Writing.{Writing, position, Wrote, last_end}
 use Rattle.rkyv_btree_convert.specs.StdMaps.{OrdersAlike}
 use Rattle.rkyv_btree_strict.specs.Strict.{IsStrictMap}
 

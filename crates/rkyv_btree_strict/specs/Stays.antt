@@ -4,7 +4,7 @@ use Rattle.std.specs.Borrow.{MutBor}
 use Rattle.std.specs.Map.{keys_of}
 use Rattle.std.specs.declared.cmp.Ordering.{Ordering}
 use Rattle.std.specs.declared.ops.ControlFlow.{ControlFlow}
-use Rattle.rkyv_btree_base.specs.Kind.{Kind}
+use Rattle.rkyv_btree_portable.specs.Kind.{Kind}
 use Rattle.rkyv_btree_seal.specs.Places.{PutsEntry, SetsFound}
 use Rattle.rkyv_btree_seal.specs.Visits.{Visits}
 use Rattle.rkyv_btree_seal.specs.declared.lent_key.LentKey.{LentKey}

@@ -1,12 +1,12 @@
 -- Strict maps: accepted maps whose keys increase.
 use Rattle.std.specs.Prelude.{◌≡◌, ℕ, List}
-use Rattle.rkyv_btree_base.specs.Kind.{Kind}
-use Rattle.rkyv_btree_base.specs.Refusal.{Refusal}
-use Rattle.rkyv_btree_base.specs.Refusal.TheVariants.{OutOfOrder}
-use Rattle.rkyv_btree_base.specs.Refusals.{RefusesMap}
-use Rattle.rkyv_btree_base.specs.Spells.{Accepted}
+use Rattle.rkyv_btree_portable.specs.Kind.{Kind}
+use Rattle.rkyv_btree_portable.specs.declared.refusal.Refusal.{Refusal}
+use Rattle.rkyv_btree_portable.specs.declared.refusal.Refusal.TheVariants.{OutOfOrder}
+use Rattle.rkyv_btree_verify.specs.Refusals.{RefusesMap}
+use Rattle.rkyv_btree_format.specs.Spells.{Accepted}
 use Rattle.rkyv_btree_portable.specs.declared.check.Window.{Window}
-use Rattle.rkyv_btree_base.specs.Increasing.{Increasing, IsOutOfOrder}
+use Rattle.rkyv_btree_format.specs.Increasing.{Increasing, IsOutOfOrder}
 use Rattle.rkyv_btree_view.specs.Map.{IsMap}
 
 module _ (K V : Kind) (E : ℕ) (b : List ℕ) where

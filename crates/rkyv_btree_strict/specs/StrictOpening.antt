@@ -1,10 +1,10 @@
 -- What opens strict maps and sets: exactly those whose keys increase, and every other one with its own error.
 use Rattle.std.specs.Prelude.{◌≡◌, ◌↔◌, ℕ, List, Result, Err, IsOk}
-use Rattle.rkyv_btree_base.specs.Increasing.{Increasing}
-use Rattle.rkyv_btree_base.specs.Kind.{Kind}
-use Rattle.rkyv_btree_base.specs.Map.{map_kind}
-use Rattle.rkyv_btree_base.specs.Refusal.{Refusal}
-use Rattle.rkyv_btree_base.specs.Whole.{IsArchiveOf}
+use Rattle.rkyv_btree_format.specs.Increasing.{Increasing}
+use Rattle.rkyv_btree_portable.specs.Kind.{Kind}
+use Rattle.rkyv_btree_verify.specs.Map.{map_kind}
+use Rattle.rkyv_btree_portable.specs.declared.refusal.Refusal.{Refusal}
+use Rattle.rkyv_btree_format.specs.OwnBytes.{IsArchiveOf}
 use Rattle.rkyv_btree_convert.specs.Whole.{IsUnopened}
 use Rattle.rkyv_btree_strict.specs.Strict.{IsStrictMap, RefusesStrict}
 

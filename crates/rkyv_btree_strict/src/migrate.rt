@@ -1,19 +1,20 @@
 //! Archives whose keys are in any order, made anew so that they increase.
 ghost use Rattle.std.specs.Prelude.{◌≡◌, ℕ, ◌≤◌, IsTrue, IsErrOf, OnOk, OnErr, IfOk, IfErr};
-ghost use Rattle.rkyv_btree_base.specs.Archiving.{BeginsWith};
-ghost use Rattle.rkyv_btree_base.specs.Kept.{OnlyAppended};
-ghost use Rattle.rkyv_btree_base.specs.Layout.{are_fitting};
-ghost use Rattle.rkyv_btree_base.specs.Writing.{position, last_end};
+ghost use Rattle.rkyv_btree_writer.specs.Archiving.{BeginsWith};
+ghost use Rattle.rkyv_btree_writing_laws.specs.Kept.{OnlyAppended};
+ghost use Rattle.rkyv_btree_format.specs.Layout.{are_fitting};
+ghost use Rattle.rkyv_btree_writer.specs.Writing.{position, last_end};
 ghost use Rattle.rkyv_btree_convert.specs.Maps.{native_map, model_both};
 ghost use Rattle.rkyv_btree_strict.specs.Migrated.{FailsToMigrate, Migrates, MigratesToStrict};
 
-use rkyv_btree_base::archive::{Archive, Serialize};
-use rkyv_btree_base::fault::Fault;
-use rkyv_btree_base::map::ArchivedBTreeMap;
-use rkyv_btree_base::place::Writer;
+use rkyv_btree_archive::archive::{Archive, Serialize};
+use rkyv_btree_archive::build_map::BuildMap;
 use rkyv_btree_convert::deserialize::{Deserialize, DeserializeFault};
 use rkyv_btree_convert::native_key::DeserializeKey;
+use rkyv_btree_types::map::ArchivedBTreeMap;
 use rkyv_btree_view::view::View;
+use rkyv_btree_writer::fault::Fault;
+use rkyv_btree_writer::place::Writer;
 use std::alloc::Global;
 use std::collections::BTreeMap;
 

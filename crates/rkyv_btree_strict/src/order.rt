@@ -1,10 +1,10 @@
 //! The order of a map's keys.
 ghost use Rattle.std.specs.Prelude.{◌≡◌, ◌↔◌, IsTrue, MatchOption};
 ghost use Rattle.std.specs.declared.cmp.Ordering.TheVariants.{Less};
-ghost use Rattle.rkyv_btree_base.specs.Increasing.{Increasing, IsOutOfOrder};
+ghost use Rattle.rkyv_btree_format.specs.Increasing.{Increasing, IsOutOfOrder};
 ghost use Rattle.rkyv_btree_view.specs.View.{entries_of, view_value};
 
-use rkyv_btree_base::check::Portable;
+use rkyv_btree_portable::check::Portable;
 use rkyv_btree_view::compare::ViewOrd;
 use rkyv_btree_view::map_view::ShowsEntries;
 use rkyv_btree_view::view::View;

@@ -1,14 +1,14 @@
 //! Entries of strict maps whose keys begin with a text.
 ghost use Rattle.std.specs.Prelude.{◌≡◌, filter};
-ghost use Rattle.rkyv_btree_base.specs.Text.{text_kind};
+ghost use Rattle.rkyv_btree_portable.specs.Text.{text_kind};
 ghost use Rattle.rkyv_btree_strict.specs.Prefix.{begins_with, prefix_cmp};
 ghost use Rattle.rkyv_btree_view.specs.Range.{range_left};
 ghost use Rattle.rkyv_btree_view.specs.Ranges.{IsRange};
 ghost use Rattle.rkyv_btree_view.specs.View.{entries_of, view_entry};
 
 use crate::strict_map::{Strict, StrictEntries};
-use rkyv_btree_base::check::Portable;
-use rkyv_btree_base::text::ArchivedText;
+use rkyv_btree_portable::check::Portable;
+use rkyv_btree_portable::text::ArchivedText;
 use rkyv_btree_view::range::Range;
 use rkyv_btree_view::view::View;
 use rkyv_btree_walk::archived_map::ArchivedMap;

@@ -1,10 +1,10 @@
 //! Validation of maps and sets whose keys must increase.
 ghost use Rattle.std.specs.Prelude.{◌≡◌, ◌↔◌, ◌≤◌, IsTrue, IfOk, Ok, Err};
-ghost use Rattle.rkyv_btree_base.specs.Layout.{are_fitting};
-ghost use Rattle.rkyv_btree_base.specs.Map.{map_kind};
-ghost use Rattle.rkyv_btree_base.specs.Read.{read_map};
-ghost use Rattle.rkyv_btree_base.specs.Refusal.{Refusal};
-ghost use Rattle.rkyv_btree_base.specs.Whole.{own_at};
+ghost use Rattle.rkyv_btree_format.specs.Layout.{are_fitting};
+ghost use Rattle.rkyv_btree_verify.specs.Map.{map_kind};
+ghost use Rattle.rkyv_btree_format.specs.Read.{read_map};
+ghost use Rattle.rkyv_btree_portable.specs.declared.refusal.Refusal.{Refusal};
+ghost use Rattle.rkyv_btree_format.specs.OwnBytes.{own_at};
 ghost use Rattle.rkyv_btree_portable.specs.declared.check.Window.{Window};
 ghost use Rattle.rkyv_btree_strict.specs.Strict.{IsStrictIn, IsStrictMap, RefusesStrict};
 ghost use Rattle.rkyv_btree_strict.specs.StrictOpening.{IsStrictArchive, IsStrictAccess, IsStrictOpening};
@@ -12,12 +12,12 @@ ghost use Rattle.rkyv_btree_view.specs.View.{entries_of};
 
 use crate::order::first_out_of_order;
 use crate::strict_map::Strict;
-use rkyv_btree_base::check::{CheckBytes, Window};
-use rkyv_btree_base::map::ArchivedBTreeMap;
-use rkyv_btree_base::refusal::Refusal;
-use rkyv_btree_base::set::ArchivedBTreeSet;
-use rkyv_btree_base::verify::verify;
+use rkyv_btree_portable::check::{CheckBytes, Window};
+use rkyv_btree_portable::refusal::Refusal;
 use rkyv_btree_seal::map_seal::MapSeal;
+use rkyv_btree_types::map::ArchivedBTreeMap;
+use rkyv_btree_types::set::ArchivedBTreeSet;
+use rkyv_btree_verify::verify::verify;
 use rkyv_btree_view::compare::ViewOrd;
 use rkyv_btree_view::map_view::access_valid;
 use rkyv_btree_view::view::View;

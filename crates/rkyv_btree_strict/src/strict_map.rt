@@ -6,8 +6,8 @@ ghost use Rattle.std.specs.Map.{keys_of, lookup, lookup_entry};
 ghost use Rattle.std.specs.Option.{option_map};
 ghost use Rattle.std.specs.Prelude.{◌≡◌, ◌≤◌, ◌↔◌, [], length, map, is_some, IsTrue, IsOk, IfOk, IfErr, Err, ℕ, ⊤};
 ghost use Rattle.std.specs.Range.Bound.{bound_map};
-ghost use Rattle.rkyv_btree_base.specs.Refusal.TheVariants.{OutOfOrder};
-ghost use Rattle.rkyv_btree_base.specs.Increasing.{Increasing, IsOutOfOrder};
+ghost use Rattle.rkyv_btree_portable.specs.declared.refusal.Refusal.TheVariants.{OutOfOrder};
+ghost use Rattle.rkyv_btree_format.specs.Increasing.{Increasing, IsOutOfOrder};
 ghost use Rattle.rkyv_btree_view.specs.Items.{ShowsAll};
 ghost use Rattle.rkyv_btree_view.specs.Lookup.{ByNative};
 ghost use Rattle.rkyv_btree_view.specs.ManyLookups.{looked_up_in};
@@ -15,9 +15,9 @@ ghost use Rattle.rkyv_btree_view.specs.View.{view_value, view_entry, entries_of}
 ghost use Rattle.rkyv_btree_walk.specs.Bounds.{entries_within};
 
 use crate::order::first_out_of_order;
-use rkyv_btree_base::check::Portable;
-use rkyv_btree_base::map::ArchivedBTreeMap;
-use rkyv_btree_base::refusal::Refusal;
+use rkyv_btree_portable::check::Portable;
+use rkyv_btree_portable::refusal::Refusal;
+use rkyv_btree_types::map::ArchivedBTreeMap;
 use rkyv_btree_view::compare::ViewOrd;
 use rkyv_btree_view::compare_native::CompareWith;
 use rkyv_btree_view::get_many::Lookups;

@@ -14,7 +14,7 @@ ghost use Rattle.rkyv_btree_view.specs.View.{view_value};
 ghost use Rattle.rkyv_btree_walk.specs.Bounds.{keys_within};
 
 use crate::strict_map::{Strict, StrictView};
-use rkyv_btree_base::set::ArchivedBTreeSet;
+use rkyv_btree_types::set::ArchivedBTreeSet;
 use rkyv_btree_view::compare::ViewOrd;
 use rkyv_btree_view::compare_native::CompareWith;
 use rkyv_btree_view::get_many::KeyLookups;

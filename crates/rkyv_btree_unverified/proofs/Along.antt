@@ -3,16 +3,16 @@ use Rattle.std.proofs.Common.{◌≡◌, ℕ, List, [], ◌∷◌, map, Option, 
 use Rattle.std.specs.Iterator.{Drains}
 use Rattle.std.specs.declared.cmp.Ordering.{Ordering}
 use Rattle.std.specs.declared.ops.Bound.{Bound}
-use Rattle.rkyv_btree_base.specs.Refusal.{Refusal}
+use Rattle.rkyv_btree_portable.specs.declared.refusal.Refusal.{Refusal}
 use Rattle.rkyv_btree_portable.specs.declared.check.Portable
 use Rattle.rkyv_btree_unverified.specs.UnverifiedIter.{AgreesWith, IfNoError, IsOver, StepsUnverified, entries_left}
 use Rattle.rkyv_btree_unverified.specs.UnverifiedKeys.{StepsKeys, key_item, unverified_keys_left}
 use Rattle.rkyv_btree_unverified.specs.UnverifiedRange.{IsRangeOver, StepsRange, unverified_range_left}
 use Rattle.rkyv_btree_unverified.specs.UnverifiedRangeKeys.{StepsRangeKeys, unverified_range_keys_left}
 use Rattle.rkyv_btree_unverified.specs.Walks.{Fails, IsFaultless}
-use Rattle.rkyv_btree_unverified.specs.declared.unverified_range.UnverifiedRange.{UnverifiedRange}
-use Rattle.rkyv_btree_unverified.specs.declared.unverified_iter.UnverifiedIter.{UnverifiedIter}
-use Rattle.rkyv_btree_unverified.specs.declared.unverified_keys.UnverifiedKeys.{UnverifiedKeys}
+use Rattle.rkyv_btree_unverified.specs.declared.range.UnverifiedRange.{UnverifiedRange}
+use Rattle.rkyv_btree_unverified.specs.declared.iter.UnverifiedIter.{UnverifiedIter}
+use Rattle.rkyv_btree_unverified.specs.declared.keys.UnverifiedKeys.{UnverifiedKeys}
 use Rattle.rkyv_btree_view.specs.View.{view_entry, view_value}
 use Rattle.rkyv_btree_walk.specs.declared.archived_map.ArchivedMap
 

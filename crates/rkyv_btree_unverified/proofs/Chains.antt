@@ -2,13 +2,13 @@
 use Rattle.std.proofs.Common.{◌≡◌, ℕ, suc, ◌+◌, ◌-◌, ◌≤◌, ◌<◌, List, [], ◌∷◌, ◌++◌, length, length-append, refl, sym, ap, subst, arith, Option, Some, None, Ok, IsTrue, false, inl, inr, slice_index}
 use Rattle.std.proofs.lemmas.Bool.{cases_eq, eq-eqb, ne_eqb}
 use Rattle.std.specs.Prelude.{ℤ, pos, negsuc}
-use Rattle.rkyv_btree_base.proofs.Sizes.{room_of}
-use Rattle.rkyv_btree_base.specs.Bytes.{number_at, place_at}
-use Rattle.rkyv_btree_base.specs.Kind.{Kind, IsLawful}
-use Rattle.rkyv_btree_base.specs.Layout.{NodeLayout, layout_of, are_fitting, inner_size, len_at}
-use Rattle.rkyv_btree_base.specs.Refusals.{IsInner}
-use Rattle.rkyv_btree_base.specs.Refusing.{HasPlace}
-use Rattle.rkyv_btree_base.specs.Spells.{IsNodeAt}
+use Rattle.rkyv_btree_format.proofs.Sizes.{room_of}
+use Rattle.rkyv_btree_portable.specs.Bytes.{number_at, place_at}
+use Rattle.rkyv_btree_portable.specs.Kind.{Kind, IsLawful}
+use Rattle.rkyv_btree_format.specs.Layout.{NodeLayout, layout_of, are_fitting, inner_size, len_at}
+use Rattle.rkyv_btree_verify.specs.Refusals.{IsInner}
+use Rattle.rkyv_btree_portable.specs.Refusing.{HasPlace}
+use Rattle.rkyv_btree_format.specs.Spells.{IsNodeAt}
 use Rattle.rkyv_btree_unverified.specs.Steps.{HasRoom, HeadGives, root, ChildGives, child, leaf, inner, PlaceGives, good_place}
 use Rattle.rkyv_btree_unverified.specs.Walks.{IsReached, as_root, as_child, IsReachedEntry}
 use Rattle.rkyv_btree_unverified.specs.mirror.Walked.{IsChain, chain_before, IsWay, IsLeafRun, path_entries, chain_end}

@@ -2,12 +2,12 @@
 use Rattle.std.proofs.Common.{◌≡◌, ℕ, zero, suc, ◌+◌, ◌-◌, ◌*◌, ◌/◌, ◌≤◌, ◌<◌, List, [], ◌∷◌, ◌++◌, length, length-append, refl, ap, ◌∙◌, subst, arith, Option, Some, None, IsTrue, true, false, inl, inr, slice_index}
 use Rattle.std.proofs.Math.Nat.{le-div_iff_mul-le}
 use Rattle.std.proofs.lemmas.Bool.{cases_eq, eq-eqb, ne_eqb}
-use Rattle.rkyv_btree_base.proofs.Sizes.{room_of}
-use Rattle.rkyv_btree_base.specs.Bytes.{number_at}
-use Rattle.rkyv_btree_base.specs.Kind.{Kind, IsLawful}
-use Rattle.rkyv_btree_base.specs.Layout.{NodeLayout, layout_of, are_fitting, leaf_size}
-use Rattle.rkyv_btree_base.specs.Spells.{Spells, SpellsRow, SpellsChild}
-use Rattle.rkyv_btree_base.specs.Tree.{Tree, leaf, inner, Row, last, step, Child, absent, child, row_entries, height, row_height, child_height, nodes, row_nodes, child_nodes as spelled_child_nodes}
+use Rattle.rkyv_btree_format.proofs.Sizes.{room_of}
+use Rattle.rkyv_btree_portable.specs.Bytes.{number_at}
+use Rattle.rkyv_btree_portable.specs.Kind.{Kind, IsLawful}
+use Rattle.rkyv_btree_format.specs.Layout.{NodeLayout, layout_of, are_fitting, leaf_size}
+use Rattle.rkyv_btree_format.specs.Spells.{Spells, SpellsRow, SpellsChild}
+use Rattle.rkyv_btree_shape.specs.Tree.{Tree, leaf, inner, Row, last, step, Child, absent, child, row_entries, height, row_height, child_height, nodes, row_nodes, child_nodes as spelled_child_nodes}
 use Rattle.rkyv_btree_unverified.specs.mirror.Walked.{child_nodes, children_nodes, tree_nodes, rest_nodes, path_nodes, down_nodes, chain_end}
 use Rattle.rkyv_btree_unverified.proofs.Chains.{all_end}
 use Rattle.rkyv_btree_verify.proofs.Answered.{keys, values, sound}

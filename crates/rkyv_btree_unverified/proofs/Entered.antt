@@ -2,12 +2,12 @@
 use Rattle.std.proofs.Common.{◌≡◌, ℕ, zero, suc, ◌+◌, ◌-◌, ◌*◌, ◌≤◌, ◌<◌, List, [], ◌∷◌, ◌++◌, length, length-append, refl, sym, ap, ◌∙◌, subst, arith, Option, Some, None, Ok, Err, IsTrue, true, slice_index}
 use Rattle.std.proofs.lemmas.Bool.{eq-eqb}
 use Rattle.std.specs.Prelude.{pos}
-use Rattle.rkyv_btree_base.specs.Kind.{Kind, IsLawful}
-use Rattle.rkyv_btree_base.specs.Layout.{layout_of, are_fitting, inner_size, leaf_size}
-use Rattle.rkyv_btree_base.specs.Refusal.{Refusal}
-use Rattle.rkyv_btree_base.specs.Refusal.TheVariants.{OutOfRange, TooDeep}
-use Rattle.rkyv_btree_base.specs.Refusals.{IsInner}
-use Rattle.rkyv_btree_base.specs.Spells.{IsNodeAt}
+use Rattle.rkyv_btree_portable.specs.Kind.{Kind, IsLawful}
+use Rattle.rkyv_btree_format.specs.Layout.{layout_of, are_fitting, inner_size, leaf_size}
+use Rattle.rkyv_btree_portable.specs.declared.refusal.Refusal.{Refusal}
+use Rattle.rkyv_btree_portable.specs.declared.refusal.Refusal.TheVariants.{OutOfRange, TooDeep}
+use Rattle.rkyv_btree_verify.specs.Refusals.{IsInner}
+use Rattle.rkyv_btree_format.specs.Spells.{IsNodeAt}
 use Rattle.rkyv_btree_unverified.proofs.Chains.{way_low, way_reached, way_put, all_end, all_before, entries_put}
 use Rattle.rkyv_btree_unverified.proofs.Counted.{enter_nodes, leaf_nodes, skip_nodes}
 use Rattle.rkyv_btree_unverified.proofs.Faultless.{leaf_tree, inner_tree, no_child, some_child, path_without}

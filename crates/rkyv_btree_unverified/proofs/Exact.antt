@@ -5,20 +5,20 @@ use Rattle.std.proofs.lemmas.Int.{ints}
 use Rattle.std.specs.Prelude.{if◌then◌else◌}
 use Rattle.std.specs.declared.cmp.Ordering.{Ordering}
 use Rattle.std.specs.declared.cmp.Ordering.TheVariants.{Less, Equal, Greater}
-use Rattle.rkyv_btree_base.specs.Bytes.{target_at, place_at}
-use Rattle.rkyv_btree_base.specs.Kind.{Kind, IsLawful}
-use Rattle.rkyv_btree_base.specs.Layout.{layout_of, leaf_size, inner_size, pointer_at, align}
-use Rattle.rkyv_btree_base.specs.Refusal.{Refusal}
-use Rattle.rkyv_btree_base.specs.Refusal.TheVariants.{OutOfRange, Misaligned, BadKind, InvalidLength, TooLong}
-use Rattle.rkyv_btree_base.specs.Refusals.{leaf_len, map_len}
-use Rattle.rkyv_btree_base.specs.Refusing.{HasPlace, Misplaced, too_long, no_room, unaligned, AreRefusals}
-use Rattle.rkyv_btree_base.specs.Views.{stands}
-use Rattle.rkyv_btree_base.specs.laws.Views.{means_read}
+use Rattle.rkyv_btree_portable.specs.Bytes.{target_at, place_at}
+use Rattle.rkyv_btree_portable.specs.Kind.{Kind, IsLawful}
+use Rattle.rkyv_btree_format.specs.Layout.{layout_of, leaf_size, inner_size, pointer_at, align}
+use Rattle.rkyv_btree_portable.specs.declared.refusal.Refusal.{Refusal}
+use Rattle.rkyv_btree_portable.specs.declared.refusal.Refusal.TheVariants.{OutOfRange, Misaligned, BadKind, InvalidLength, TooLong}
+use Rattle.rkyv_btree_verify.specs.Refusals.{leaf_len, map_len}
+use Rattle.rkyv_btree_portable.specs.Refusing.{HasPlace, Misplaced, too_long, no_room, unaligned, AreRefusals}
+use Rattle.rkyv_btree_portable.specs.Views.{stands}
+use Rattle.rkyv_btree_portable.specs.laws.Views.{means_read}
 use Rattle.rkyv_btree_unverified.specs.Steps.{Then, GoesOn, key_place, value_place, PlaceGives, starts_before, ends_past, misaligned, good_place, NodeGives, bad_kind, inner_past, too_many, leaf, inner, ChildGives, of_leaf, absent, bad_place, child}
 use Rattle.rkyv_btree_unverified.specs.Lookups.{AtChild, AtHalt, TreeGives, LookupGives}
 use Rattle.rkyv_btree_unverified.specs.Steps.{HeadGives, misplaced, empty, bad_root, root, Gives, Asks, StopsBefore, KeysGive, bad_key, bad_value, equal_key, stops}
-use Rattle.rkyv_btree_unverified.specs.declared.unverified_search.Halt.{Halt}
-use Rattle.rkyv_btree_unverified.specs.declared.unverified_search.Halt.TheVariants.{Found, Below}
+use Rattle.rkyv_btree_unverified.specs.declared.search.Halt.{Halt}
+use Rattle.rkyv_btree_unverified.specs.declared.search.Halt.TheVariants.{Found, Below}
 
 -- steps whose results are determined make up one whose result is
 one_then : {A B : Type 0} {first : Result A Refusal → Type 0} {next : A → Result B Refusal → Type 0} → ((x y : Result A Refusal) → first x → first y → x ≡ y) → ((a : A) (r s : Result B Refusal) → next a r → next a s → r ≡ s)

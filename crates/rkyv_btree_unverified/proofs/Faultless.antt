@@ -1,8 +1,8 @@
 -- Where what is left of a walk is good, so was what was left before a step, up to the whole map.
 use Rattle.std.proofs.Common.{◌≡◌, ℕ, zero, suc, ◌+◌, ◌-◌, ◌≤◌, ◌<◌, List, [], ◌∷◌, ◌++◌, length, refl, sym, subst, arith, Some, None, Ok, Err, inl, inr}
 use Rattle.std.proofs.lemmas.Bool.{cases_eq}
-use Rattle.rkyv_btree_base.specs.Kind.{Kind}
-use Rattle.rkyv_btree_base.specs.Refusals.{HasKind, IsInner}
+use Rattle.rkyv_btree_portable.specs.Kind.{Kind}
+use Rattle.rkyv_btree_verify.specs.Refusals.{HasKind, IsInner}
 use Rattle.rkyv_btree_unverified.proofs.Exact.{one_node, one_pointer, one_head}
 use Rattle.rkyv_btree_unverified.specs.Steps.{NodeGives, inner, ChildGives, of_leaf, HeadGives}
 use Rattle.rkyv_btree_unverified.specs.Walks.{IsReached, as_root, as_child, IsFaultless}

@@ -5,14 +5,14 @@ use Rattle.std.specs.Map.{lookup_entry}
 use Rattle.std.specs.Option.{option_map}
 use Rattle.std.specs.Prelude.{◌↔◌}
 use Rattle.std.specs.declared.cmp.Ordering.{Ordering}
-use Rattle.rkyv_btree_base.proofs.MapLaws.{map_laws}
-use Rattle.rkyv_btree_base.specs.Kind.{Kind, IsLawful}
-use Rattle.rkyv_btree_base.specs.Layout.{layout_of}
-use Rattle.rkyv_btree_base.specs.Read.{entry_at, read_map}
-use Rattle.rkyv_btree_base.specs.Refusal.{Refusal}
-use Rattle.rkyv_btree_base.specs.Refusing.{AreRefusals}
+use Rattle.rkyv_btree_verify.proofs.MapLaws.{map_laws}
+use Rattle.rkyv_btree_portable.specs.Kind.{Kind, IsLawful}
+use Rattle.rkyv_btree_format.specs.Layout.{layout_of}
+use Rattle.rkyv_btree_format.specs.Read.{entry_at, read_map}
+use Rattle.rkyv_btree_portable.specs.declared.refusal.Refusal.{Refusal}
+use Rattle.rkyv_btree_portable.specs.Refusing.{AreRefusals}
 use Rattle.rkyv_btree_view.proofs.LookedUp.{found_is}
-use Rattle.rkyv_btree_base.specs.Increasing.{Increasing}
+use Rattle.rkyv_btree_format.specs.Increasing.{Increasing}
 use Rattle.rkyv_btree_unverified.proofs.Exact.{one_lookup}
 use Rattle.rkyv_btree_unverified.specs.Lookups.{LookupGives}
 use Rattle.rkyv_btree_view.proofs.Lookups.{place_finds}

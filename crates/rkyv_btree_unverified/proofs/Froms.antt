@@ -3,10 +3,10 @@ use Rattle.std.proofs.Common.{◌≡◌, ℕ, zero, suc, ◌+◌, ◌-◌, ◌�
 use Rattle.std.specs.Prelude.{ℤ, pos, negsuc, filter}
 use Rattle.std.proofs.lemmas.Bool.{cases_Bool, cases_lt, cases_eq, eq-eqb, ne_eqb}
 use Rattle.std.proofs.lemmas.List.Elements.{filter-append}
-use Rattle.rkyv_btree_base.specs.Bytes.{number_at, place_at, target_at}
-use Rattle.rkyv_btree_base.specs.Layout.{NodeLayout, len_at, pointer_at}
-use Rattle.rkyv_btree_base.specs.Read.{run, child_of, row_at, tree_at, tree_of, map_tree}
-use Rattle.rkyv_btree_base.specs.Tree.{Tree, leaf, inner, Row, last, step, Child, absent, child, list, row_list, child_list}
+use Rattle.rkyv_btree_portable.specs.Bytes.{number_at, place_at, target_at}
+use Rattle.rkyv_btree_format.specs.Layout.{NodeLayout, len_at, pointer_at}
+use Rattle.rkyv_btree_format.specs.Read.{run, child_of, row_at, tree_at, tree_of, map_tree}
+use Rattle.rkyv_btree_shape.specs.Tree.{Tree, leaf, inner, Row, last, step, Child, absent, child, list, row_list, child_list}
 use Rattle.rkyv_btree_unverified.proofs.Chains.{natural_is}
 use Rattle.rkyv_btree_unverified.specs.EntriesFrom.{since, entries_from, row_from, child_from}
 use Rattle.rkyv_btree_walk.proofs.Seeks.{all_kept, rises_left, rises_right, none_before}

@@ -2,19 +2,19 @@
 use Rattle.std.proofs.Common.{◌≡◌, ℕ, suc, ◌-◌, ◌+◌, List, Option, Some, None, Result, Ok, Err, refl, subst, arith, slice_index}
 use Rattle.std.specs.Prelude.{ℤ, pos}
 use Rattle.std.specs.declared.cmp.Ordering.{Ordering}
-use Rattle.rkyv_btree_base.specs.Bytes.{target_at}
-use Rattle.rkyv_btree_base.specs.Kind.{Kind}
-use Rattle.rkyv_btree_base.specs.Layout.{layout_of, pointer_at}
-use Rattle.rkyv_btree_base.specs.Refusal.{Refusal}
-use Rattle.rkyv_btree_base.specs.Refusal.TheVariants.{TooDeep}
-use Rattle.rkyv_btree_base.specs.Refusals.{HasKind, IsInner}
+use Rattle.rkyv_btree_portable.specs.Bytes.{target_at}
+use Rattle.rkyv_btree_portable.specs.Kind.{Kind}
+use Rattle.rkyv_btree_format.specs.Layout.{layout_of, pointer_at}
+use Rattle.rkyv_btree_portable.specs.declared.refusal.Refusal.{Refusal}
+use Rattle.rkyv_btree_portable.specs.declared.refusal.Refusal.TheVariants.{TooDeep}
+use Rattle.rkyv_btree_verify.specs.Refusals.{HasKind, IsInner}
 use Rattle.rkyv_btree_unverified.specs.Lookups.{AtChild, AtHalt, TreeGives}
 use Rattle.rkyv_btree_unverified.specs.Steps.{Then, GoesOn, HasRoom, PlaceGives, NodeGives, bad_kind, inner_past, too_many, leaf, inner, ChildGives, of_leaf, absent, bad_place, child, KeysGive}
 use Rattle.rkyv_btree_unverified.specs.mirror.Passes.{NextGives}
-use Rattle.rkyv_btree_unverified.specs.declared.unverified_search.Halt.{Halt}
-use Rattle.rkyv_btree_unverified.specs.declared.unverified_search.Halt.TheVariants.{Found, Below}
-use Rattle.rkyv_btree_unverified.specs.declared.unverified_search.Next.{Next}
-use Rattle.rkyv_btree_unverified.specs.declared.unverified_search.Next.TheVariants.{Hit, Miss, Down}
+use Rattle.rkyv_btree_unverified.specs.declared.search.Halt.{Halt}
+use Rattle.rkyv_btree_unverified.specs.declared.search.Halt.TheVariants.{Found, Below}
+use Rattle.rkyv_btree_unverified.specs.declared.search.Next.{Next}
+use Rattle.rkyv_btree_unverified.specs.declared.search.Next.TheVariants.{Hit, Miss, Down}
 
 pub has_kind : (K V : Kind) (E : ℕ) (b : List ℕ) (hi p kind : ℕ) → HasRoom K V E hi p → slice_index b p ≡ kind → HasKind K V E b 0 hi p kind
 has_kind K V E b hi p kind room is = record { start = omega arith; room = room.room; aligned = room.aligned; kind_byte = is }

@@ -5,10 +5,10 @@ use Rattle.std.specs.declared.cmp.Ordering.{Ordering}
 use Rattle.std.specs.declared.iter.Iterator
 use Rattle.std.specs.declared.ops.Bound.{Bound}
 use Rattle.std.specs.declared.ops.Bound.TheVariants.{Unbounded}
-use Rattle.rkyv_btree_base.specs.Increasing.{Increasing}
-use Rattle.rkyv_btree_base.specs.Kind.{Kind}
-use Rattle.rkyv_btree_base.specs.Read.{read_map}
-use Rattle.rkyv_btree_base.specs.Refusal.{Refusal}
+use Rattle.rkyv_btree_format.specs.Increasing.{Increasing}
+use Rattle.rkyv_btree_portable.specs.Kind.{Kind}
+use Rattle.rkyv_btree_format.specs.Read.{read_map}
+use Rattle.rkyv_btree_portable.specs.declared.refusal.Refusal.{Refusal}
 use Rattle.rkyv_btree_unverified.proofs.Along.{GoesAlong, all_agree, shown_all}
 use Rattle.rkyv_btree_unverified.specs.EntriesFrom.{entries_between}
 use Rattle.rkyv_btree_unverified.specs.Iterating.{IteratesAll, IteratesBetween}

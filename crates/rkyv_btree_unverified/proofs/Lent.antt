@@ -3,15 +3,15 @@ use Rattle.std.proofs.Common.{◌≡◌, ℕ, zero, suc, ◌+◌, ◌-◌, ◌/�
 use Rattle.std.proofs.Math.Nat.{div-le_self, mul-le-mul}
 use Rattle.std.specs.Prelude.{◌≢◌, drop}
 use Rattle.std.specs.List.{drop-map}
-use Rattle.rkyv_btree_base.proofs.Sizes.{room_of}
-use Rattle.rkyv_btree_base.specs.Kind.{Kind, IsLawful}
-use Rattle.rkyv_btree_base.specs.Layout.{NodeLayout, layout_of, are_fitting, leaf_size}
-use Rattle.rkyv_btree_base.specs.Refusal.{Refusal}
+use Rattle.rkyv_btree_format.proofs.Sizes.{room_of}
+use Rattle.rkyv_btree_portable.specs.Kind.{Kind, IsLawful}
+use Rattle.rkyv_btree_format.specs.Layout.{NodeLayout, layout_of, are_fitting, leaf_size}
+use Rattle.rkyv_btree_portable.specs.declared.refusal.Refusal.{Refusal}
 use Rattle.rkyv_btree_unverified.specs.Left.{once_over, left_of, most_entries, most_of}
 use Rattle.rkyv_btree_unverified.specs.mirror.Walked.{places_at, most_at, walk_most, HasLeft, IsCounted, Stepped, TakesEntry}
-use Rattle.rkyv_btree_unverified.specs.declared.unverified_walk.Phase.{Phase}
-use Rattle.rkyv_btree_unverified.specs.declared.unverified_walk.Phase.TheVariants.{Descend, Advance, Over}
-use Rattle.rkyv_btree_unverified.specs.declared.unverified_walk.UnverifiedWalk.{UnverifiedWalk}
+use Rattle.rkyv_btree_unverified.specs.declared.walk.Phase.{Phase}
+use Rattle.rkyv_btree_unverified.specs.declared.walk.Phase.TheVariants.{Descend, Advance, Over}
+use Rattle.rkyv_btree_unverified.specs.declared.walk.UnverifiedWalk.{UnverifiedWalk}
 use Rattle.rkyv_btree_unverified.specs.mirror.Faultless.{FaultlessPhase, FaultlessLeft}
 
 -- with an entry left, fewer have been lent than there can be

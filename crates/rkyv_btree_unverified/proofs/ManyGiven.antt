@@ -8,10 +8,10 @@ use Rattle.std.specs.Option.{option_map}
 use Rattle.std.specs.Prelude.{IsOk}
 use Rattle.std.specs.declared.cmp.Ordering.{Ordering}
 use Rattle.std.specs.declared.cmp.Ordering.TheVariants.{Equal}
-use Rattle.rkyv_btree_base.specs.Kind.{Kind, IsLawful}
-use Rattle.rkyv_btree_base.specs.Layout.{are_fitting}
-use Rattle.rkyv_btree_base.specs.Refusal.{Refusal}
-use Rattle.rkyv_btree_base.specs.Refusing.{AreRefusals}
+use Rattle.rkyv_btree_portable.specs.Kind.{Kind, IsLawful}
+use Rattle.rkyv_btree_format.specs.Layout.{are_fitting}
+use Rattle.rkyv_btree_portable.specs.declared.refusal.Refusal.{Refusal}
+use Rattle.rkyv_btree_portable.specs.Refusing.{AreRefusals}
 use Rattle.rkyv_btree_portable.specs.declared.check.Portable
 use Rattle.rkyv_btree_unverified.proofs.OnMaps.{lookup_is}
 use Rattle.rkyv_btree_unverified.proofs.Promised.{Cuts, Follows, failed, is_equal, is_found, is_sorted, succeeded}
@@ -20,7 +20,7 @@ use Rattle.rkyv_btree_unverified.specs.Given.{GivesKey, GivesValue}
 use Rattle.rkyv_btree_unverified.specs.Lookups.{LookupGives}
 use Rattle.rkyv_btree_unverified.specs.Steps.{key_place, value_place}
 use Rattle.rkyv_btree_unverified.specs.UnverifiedLookups.{Shows, YieldsLeft}
-use Rattle.rkyv_btree_unverified.specs.declared.unverified_many.UnverifiedWay.{UnverifiedWay}
+use Rattle.rkyv_btree_unverified.specs.declared.many.UnverifiedWay.{UnverifiedWay}
 use Rattle.rkyv_btree_unverified.specs.mirror.Many.{AreWaysOf, EndStands}
 use Rattle.rkyv_btree_view.proofs.LookedUp.{key_of_entry, value_of_entry}
 use Rattle.rkyv_btree_view.specs.Map.{IsMap}

@@ -2,14 +2,14 @@
 use Rattle.std.proofs.Common.{◌≡◌, ◌∙◌, ℕ, suc, ◌+◌, ◌≤◌, List, length, Option, Some, None, Result, Ok, Err, refl, subst}
 use Rattle.std.specs.Prelude.{pos}
 use Rattle.std.specs.declared.cmp.Ordering.{Ordering}
-use Rattle.rkyv_btree_base.specs.Kind.{Kind}
-use Rattle.rkyv_btree_base.specs.Refusal.{Refusal}
-use Rattle.rkyv_btree_base.specs.Refusal.TheVariants.{TooDeep}
+use Rattle.rkyv_btree_portable.specs.Kind.{Kind}
+use Rattle.rkyv_btree_portable.specs.declared.refusal.Refusal.{Refusal}
+use Rattle.rkyv_btree_portable.specs.declared.refusal.Refusal.TheVariants.{TooDeep}
 use Rattle.rkyv_btree_unverified.proofs.Goes.{no_levels}
 use Rattle.rkyv_btree_unverified.specs.Ends.{result_of}
 use Rattle.rkyv_btree_unverified.specs.Lookups.{LookupGives, TreeGives}
-use Rattle.rkyv_btree_unverified.specs.declared.unverified_many.UnverifiedWay.{UnverifiedWay}
-use Rattle.rkyv_btree_unverified.specs.declared.unverified_many.UnverifiedWay.TheVariants.{On, Ended}
+use Rattle.rkyv_btree_unverified.specs.declared.many.UnverifiedWay.{UnverifiedWay}
+use Rattle.rkyv_btree_unverified.specs.declared.many.UnverifiedWay.TheVariants.{On, Ended}
 use Rattle.rkyv_btree_unverified.specs.mirror.Many.{EndStands, HasEnded, IsUnderWay, Steps, WayStands}
 use Rattle.rkyv_btree_walk.specs.mirror.Node.{RunStands}
 

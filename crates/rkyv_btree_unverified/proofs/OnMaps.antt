@@ -4,18 +4,18 @@ use Rattle.std.proofs.lemmas.Bool.{eq-eqb, ne_eqb, eqb-true, cases_Bool}
 use Rattle.std.specs.Prelude.{ℤ, pos}
 use Rattle.std.specs.declared.cmp.Ordering.{Ordering}
 use Rattle.std.specs.declared.cmp.Ordering.TheVariants.{Less, Greater}
-use Rattle.rkyv_btree_base.specs.Bytes.{number_at, place_at}
-use Rattle.rkyv_btree_base.specs.Kind.{Kind, IsLawful}
-use Rattle.rkyv_btree_base.specs.Layout.{layout_of, are_fitting}
-use Rattle.rkyv_btree_base.specs.Refusal.{Refusal}
-use Rattle.rkyv_btree_base.specs.Refusing.{AreRefusals}
+use Rattle.rkyv_btree_portable.specs.Bytes.{number_at, place_at}
+use Rattle.rkyv_btree_portable.specs.Kind.{Kind, IsLawful}
+use Rattle.rkyv_btree_format.specs.Layout.{layout_of, are_fitting}
+use Rattle.rkyv_btree_portable.specs.declared.refusal.Refusal.{Refusal}
+use Rattle.rkyv_btree_portable.specs.Refusing.{AreRefusals}
 use Rattle.rkyv_btree_unverified.proofs.Exact.{is_place, is_node, no_key, no_value}
 use Rattle.rkyv_btree_unverified.proofs.Goes.{has_kind}
 use Rattle.rkyv_btree_unverified.proofs.Passes.{accepted_passes, child_fits, child_none, child_passes, child_some, none_left, not_misplaced, root_entries, root_finds, root_fits, tree_node}
 use Rattle.rkyv_btree_unverified.specs.Lookups.{AtChild, AtHalt, TreeGives, LookupGives}
 use Rattle.rkyv_btree_unverified.specs.Steps.{key_place, value_place, Then, GoesOn, HasRoom, PlaceGives, starts_before, ends_past, misaligned, good_place, NodeGives, leaf, inner, ChildGives, of_leaf, absent, bad_place, child}
 use Rattle.rkyv_btree_unverified.specs.Steps.{HeadGives, misplaced, empty, bad_root, root, KeysGive, bad_key, bad_value, equal_key, stops}
-use Rattle.rkyv_btree_unverified.specs.declared.unverified_search.Halt.{Halt}
+use Rattle.rkyv_btree_unverified.specs.declared.search.Halt.{Halt}
 use Rattle.rkyv_btree_unverified.specs.mirror.Passes.{NodePasses, Passes}
 use Rattle.rkyv_btree_view.specs.Map.{IsMap}
 use Rattle.rkyv_btree_walk.proofs.Searches.{leaf_alone, search_finds, search_ends, search_down}

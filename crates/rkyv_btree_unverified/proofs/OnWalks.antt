@@ -2,12 +2,12 @@
 use Rattle.std.proofs.Common.{◌≡◌, ℕ, zero, suc, ◌+◌, ◌-◌, ◌≤◌, ◌<◌, List, [], ◌∷◌, ◌++◌, length, length-append, append-nil, append_assoc, refl, sym, ap, ◌∙◌, subst, arith, Option, Some, IsTrue, true, false, inl, inr}
 use Rattle.std.proofs.lemmas.Bool.{cases_eq, eq-eqb, ne_eqb}
 use Rattle.std.specs.Prelude.{ℤ, pos, negsuc}
-use Rattle.rkyv_btree_base.proofs.MapLaws.{map_laws}
-use Rattle.rkyv_btree_base.specs.Bytes.{number_at, place_at}
-use Rattle.rkyv_btree_base.specs.Kind.{Kind, IsLawful}
-use Rattle.rkyv_btree_base.specs.Layout.{NodeLayout, layout_of, are_fitting, inner_size, len_at}
-use Rattle.rkyv_btree_base.specs.Read.{run, tree_at, tree_of, map_tree, read_map}
-use Rattle.rkyv_btree_base.specs.Tree.{list}
+use Rattle.rkyv_btree_verify.proofs.MapLaws.{map_laws}
+use Rattle.rkyv_btree_portable.specs.Bytes.{number_at, place_at}
+use Rattle.rkyv_btree_portable.specs.Kind.{Kind, IsLawful}
+use Rattle.rkyv_btree_format.specs.Layout.{NodeLayout, layout_of, are_fitting, inner_size, len_at}
+use Rattle.rkyv_btree_format.specs.Read.{run, tree_at, tree_of, map_tree, read_map}
+use Rattle.rkyv_btree_shape.specs.Tree.{list}
 use Rattle.rkyv_btree_unverified.proofs.Chains.{all_end, is_inner, natural_is, some_is, way_parts}
 use Rattle.rkyv_btree_unverified.proofs.Passes.{accepted_passes, child_passes, none_left}
 use Rattle.rkyv_btree_unverified.specs.mirror.Passes.{Passes}

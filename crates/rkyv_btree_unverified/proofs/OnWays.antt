@@ -2,17 +2,17 @@
 use Rattle.std.proofs.Common.{◌≡◌, ℕ, zero, suc, ◌+◌, ◌-◌, ◌≤◌, List, [], ◌∷◌, ◌++◌, length, map, refl, sym, ap, ◌∙◌, subst, arith, append-nil, Option, Some, None, false, inl, inr}
 use Rattle.std.proofs.lemmas.Bool.{cases_eq, eq-eqb, ne_eqb}
 use Rattle.std.specs.Prelude.{ℤ, pos, negsuc}
-use Rattle.rkyv_btree_base.specs.Bytes.{number_at, place_at, target_at}
-use Rattle.rkyv_btree_base.specs.Kind.{Kind}
-use Rattle.rkyv_btree_base.specs.Layout.{NodeLayout, layout_of, inner_size, pointer_at}
-use Rattle.rkyv_btree_base.specs.Read.{run, child_of, row_at, tree_at, tree_of, map_tree}
-use Rattle.rkyv_btree_base.specs.Tree.{Tree, Child, absent, child, child_list as tree_child_list}
+use Rattle.rkyv_btree_portable.specs.Bytes.{number_at, place_at, target_at}
+use Rattle.rkyv_btree_portable.specs.Kind.{Kind}
+use Rattle.rkyv_btree_format.specs.Layout.{NodeLayout, layout_of, inner_size, pointer_at}
+use Rattle.rkyv_btree_format.specs.Read.{run, child_of, row_at, tree_at, tree_of, map_tree}
+use Rattle.rkyv_btree_shape.specs.Tree.{Tree, Child, absent, child, child_list as tree_child_list}
 use Rattle.rkyv_btree_unverified.proofs.Chains.{is_inner}
 use Rattle.rkyv_btree_unverified.proofs.OnWalks.{whole_rest}
 use Rattle.rkyv_btree_unverified.specs.Ways.{way_end, row_way_end, child_way_end, after_way, after_row_way, after_child_way, places_left, places_left_at}
-use Rattle.rkyv_btree_unverified.specs.declared.unverified_walk.Phase.{Phase}
-use Rattle.rkyv_btree_unverified.specs.declared.unverified_walk.Phase.TheVariants.{Descend, Advance, Over}
-use Rattle.rkyv_btree_unverified.specs.declared.unverified_walk.UnverifiedWalk.{UnverifiedWalk}
+use Rattle.rkyv_btree_unverified.specs.declared.walk.Phase.{Phase}
+use Rattle.rkyv_btree_unverified.specs.declared.walk.Phase.TheVariants.{Descend, Advance, Over}
+use Rattle.rkyv_btree_unverified.specs.declared.walk.UnverifiedWalk.{UnverifiedWalk}
 use Rattle.rkyv_btree_unverified.specs.mirror.Walked.{IsChain, IsWay, HasPhase, IsUnverifiedWalk, Finishes, TakesEntry, chain_end, down_rest, places_at, unverified_left}
 use Rattle.rkyv_btree_walk.specs.Below.{root_place}
 use Rattle.rkyv_btree_walk.specs.Nodes.{natural, is_leaf, child_place}

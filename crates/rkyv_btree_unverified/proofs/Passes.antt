@@ -2,31 +2,31 @@
 use Rattle.std.proofs.Common.{◌≡◌, ◌*◌, min, ◌%◌, ℕ, zero, suc, ◌+◌, ◌-◌, ◌≤◌, ◌<◌, IsTrue, List, length, refl, subst, ap, arith, true, false, Option, Some, None, Ok, slice_index, inl, inr}
 use Rattle.std.proofs.lemmas.Bool.{eq-eqb, ne_eqb, cases_lt}
 use Rattle.std.specs.Prelude.{ℤ, pos, negsuc}
-use Rattle.rkyv_btree_base.specs.Bytes.{target_at, place_at, number_at}
-use Rattle.rkyv_btree_base.specs.Kind.{Kind, IsLawful}
-use Rattle.rkyv_btree_base.specs.Refusal.{Refusal}
-use Rattle.rkyv_btree_base.specs.Layout.{NodeLayout, layout_of, are_fitting, pointer_at}
+use Rattle.rkyv_btree_portable.specs.Bytes.{target_at, place_at, number_at}
+use Rattle.rkyv_btree_portable.specs.Kind.{Kind, IsLawful}
+use Rattle.rkyv_btree_portable.specs.declared.refusal.Refusal.{Refusal}
+use Rattle.rkyv_btree_format.specs.Layout.{NodeLayout, layout_of, are_fitting, pointer_at}
 use Rattle.std.specs.declared.cmp.Ordering.{Ordering}
 use Rattle.std.specs.declared.cmp.Ordering.TheVariants.{Less, Equal, Greater}
 use Rattle.rkyv_btree_walk.specs.mirror.Search.{comparison_at, searched, searched_map}
-use Rattle.rkyv_btree_base.specs.Map.{map_kind}
-use Rattle.rkyv_btree_base.specs.Spells.{Spells, SpellsRow, SpellsChild, Accepted}
-use Rattle.rkyv_btree_base.specs.Tree.{Tree, leaf, inner, Row, last, step, Child, absent, child, row_entries, height, row_height, child_height}
-use Rattle.rkyv_btree_base.proofs.Sizes.{room_of}
+use Rattle.rkyv_btree_verify.specs.Map.{map_kind}
+use Rattle.rkyv_btree_format.specs.Spells.{Spells, SpellsRow, SpellsChild, Accepted}
+use Rattle.rkyv_btree_shape.specs.Tree.{Tree, leaf, inner, Row, last, step, Child, absent, child, row_entries, height, row_height, child_height}
+use Rattle.rkyv_btree_format.proofs.Sizes.{room_of}
 use Rattle.rkyv_btree_walk.specs.Nodes.{natural, is_leaf, child_place, entry_count}
 use Rattle.rkyv_btree_walk.specs.mirror.Node.{EntryStands}
 use Rattle.rkyv_btree_walk.proofs.Nodes.{spelled_stands, child_stands, tree_node as tree_stands}
-use Rattle.rkyv_btree_base.specs.Refusing.{Misplaced, too_long, no_room, unaligned}
-use Rattle.rkyv_btree_base.specs.Views.{stands}
-use Rattle.rkyv_btree_base.specs.laws.Views.{stands_of}
-use Rattle.rkyv_btree_base.proofs.MapLaws.{map_laws, map_length}
+use Rattle.rkyv_btree_portable.specs.Refusing.{Misplaced, too_long, no_room, unaligned}
+use Rattle.rkyv_btree_portable.specs.Views.{stands}
+use Rattle.rkyv_btree_portable.specs.laws.Views.{stands_of}
+use Rattle.rkyv_btree_verify.proofs.MapLaws.{map_laws, map_length}
 use Rattle.rkyv_btree_walk.proofs.Roots.{root_searched}
 use Rattle.rkyv_btree_unverified.specs.Steps.{key_place, HasRoom, Gives, KeysGive, equal_key, stops}
 use Rattle.rkyv_btree_unverified.specs.mirror.Passes.{comparisons_by, NextCounts, NodePasses, TreePasses, Passes, HaltStands, NextStands, NextPasses, NextFinds, NextEqual}
-use Rattle.rkyv_btree_unverified.specs.declared.unverified_search.Halt.{Halt}
-use Rattle.rkyv_btree_unverified.specs.declared.unverified_search.Halt.TheVariants.{Found, Below}
-use Rattle.rkyv_btree_unverified.specs.declared.unverified_search.Next.{Next}
-use Rattle.rkyv_btree_unverified.specs.declared.unverified_search.Next.TheVariants.{Hit, Miss, Down}
+use Rattle.rkyv_btree_unverified.specs.declared.search.Halt.{Halt}
+use Rattle.rkyv_btree_unverified.specs.declared.search.Halt.TheVariants.{Found, Below}
+use Rattle.rkyv_btree_unverified.specs.declared.search.Next.{Next}
+use Rattle.rkyv_btree_unverified.specs.declared.search.Next.TheVariants.{Hit, Miss, Down}
 
 module _ (K V : Kind) (E : ℕ) (b : List ℕ) where
   grown : (m hi p : ℕ) → NodePasses (layout_of K V E) b hi p → ((i q : ℕ) → i ≤ E → child_place (layout_of K V E) b p i ≡ Some q → TreePasses (layout_of K V E) b m p q) → TreePasses (layout_of K V E) b (suc m) hi p

@@ -1,10 +1,10 @@
 -- The node to which a path leads: what is known of the map's own bytes, or of the path's last node.
 use Rattle.std.proofs.Common.{◌≡◌, ℕ, suc, ◌-◌, ◌≤◌, List, [], ◌∷◌, ◌++◌, length, length-append, refl, sym, ap, ◌∙◌, subst, arith, Option, Some, None, Ok, Err, IsTrue}
-use Rattle.rkyv_btree_base.specs.Kind.{Kind, IsLawful}
-use Rattle.rkyv_btree_base.specs.Layout.{layout_of, are_fitting, inner_size}
-use Rattle.rkyv_btree_base.specs.Refusal.{Refusal}
-use Rattle.rkyv_btree_base.specs.Refusals.{IsInner}
-use Rattle.rkyv_btree_base.specs.Refusing.{HasPlace}
+use Rattle.rkyv_btree_portable.specs.Kind.{Kind, IsLawful}
+use Rattle.rkyv_btree_format.specs.Layout.{layout_of, are_fitting, inner_size}
+use Rattle.rkyv_btree_portable.specs.declared.refusal.Refusal.{Refusal}
+use Rattle.rkyv_btree_verify.specs.Refusals.{IsInner}
+use Rattle.rkyv_btree_portable.specs.Refusing.{HasPlace}
 use Rattle.rkyv_btree_unverified.proofs.Chains.{way_low, way_placed, way_short, way_parts, way_reached, all_end, all_before, inner_room, node_inside}
 use Rattle.rkyv_btree_unverified.proofs.Faultless.{no_root, some_root, no_child, some_child, pending_from}
 use Rattle.rkyv_btree_unverified.proofs.OnWalks.{last_passes}

@@ -6,11 +6,11 @@ use Rattle.std.specs.declared.cmp.Ordering.{Ordering}
 use Rattle.std.specs.declared.ops.Bound.{Bound}
 use Rattle.std.specs.declared.ops.Bound.TheVariants.{Unbounded}
 use Rattle.std.proofs.lemmas.Bool.{eq-eqb}
-use Rattle.rkyv_btree_base.specs.Kind.{Kind, IsLawful}
-use Rattle.rkyv_btree_base.specs.Layout.{layout_of, are_fitting, inner_size}
-use Rattle.rkyv_btree_base.specs.Read.{map_tree}
-use Rattle.rkyv_btree_base.specs.Refusal.{Refusal}
-use Rattle.rkyv_btree_base.specs.Refusals.{IsInner}
+use Rattle.rkyv_btree_portable.specs.Kind.{Kind, IsLawful}
+use Rattle.rkyv_btree_format.specs.Layout.{layout_of, are_fitting, inner_size}
+use Rattle.rkyv_btree_format.specs.Read.{map_tree}
+use Rattle.rkyv_btree_portable.specs.declared.refusal.Refusal.{Refusal}
+use Rattle.rkyv_btree_verify.specs.Refusals.{IsInner}
 use Rattle.rkyv_btree_unverified.proofs.Chains.{no_way, is_inner}
 use Rattle.rkyv_btree_unverified.proofs.Entered.{IsDown, one_less, reached, passes, leaf_runs, leaf_few, way_on, most_on, none_few, down_on}
 use Rattle.rkyv_btree_unverified.proofs.Froms.{tree_from, leaf_since, absent_since, child_since, map_since, map_gone, from_whole}
@@ -19,8 +19,8 @@ use Rattle.rkyv_btree_unverified.proofs.Passes.{root_entries}
 use Rattle.rkyv_btree_unverified.specs.EntriesFrom.{entries_from, from_place}
 use Rattle.rkyv_btree_unverified.specs.Steps.{key_place, HasRoom, NodeGives}
 use Rattle.rkyv_btree_unverified.specs.Walks.{Fails, of_entry, refused_key}
-use Rattle.rkyv_btree_unverified.specs.declared.unverified_walk.Phase.TheVariants.{Descend, Advance, Over}
-use Rattle.rkyv_btree_unverified.specs.declared.unverified_walk.UnverifiedWalk.{UnverifiedWalk}
+use Rattle.rkyv_btree_unverified.specs.declared.walk.Phase.TheVariants.{Descend, Advance, Over}
+use Rattle.rkyv_btree_unverified.specs.declared.walk.UnverifiedWalk.{UnverifiedWalk}
 use Rattle.rkyv_btree_unverified.specs.mirror.Sought.{PartFound, Begins, BeginGives}
 use Rattle.rkyv_btree_unverified.specs.mirror.Walked.{LeadsTo, FewLeft, HasPhase, IsUnverifiedWalk, unverified_left}
 use Rattle.rkyv_btree_walk.proofs.Paths.{rest_snoc}

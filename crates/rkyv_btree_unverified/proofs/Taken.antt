@@ -1,10 +1,10 @@
 -- Entries that a walk takes of a path, and of a leaf.
 use Rattle.std.proofs.Common.{◌≡◌, ℕ, ◌+◌, ◌-◌, ◌≤◌, ◌<◌, List, [], ◌∷◌, ◌++◌, length, refl, sym, ◌∙◌, subst, arith, Option, Some, None, Result, Ok, Err, IsTrue, true, false, inl, inr, slice_index}
 use Rattle.std.proofs.lemmas.Bool.{cases_eq, eq-eqb}
-use Rattle.rkyv_btree_base.proofs.Sizes.{room_of}
-use Rattle.rkyv_btree_base.specs.Kind.{Kind, IsLawful}
-use Rattle.rkyv_btree_base.specs.Layout.{layout_of, are_fitting, inner_size, leaf_size}
-use Rattle.rkyv_btree_base.specs.Refusal.{Refusal}
+use Rattle.rkyv_btree_format.proofs.Sizes.{room_of}
+use Rattle.rkyv_btree_portable.specs.Kind.{Kind, IsLawful}
+use Rattle.rkyv_btree_format.specs.Layout.{layout_of, are_fitting, inner_size, leaf_size}
+use Rattle.rkyv_btree_portable.specs.declared.refusal.Refusal.{Refusal}
 use Rattle.std.specs.Prelude.{◌≢◌}
 use Rattle.rkyv_btree_unverified.proofs.Chains.{way_low, way_placed, way_short, way_parts, way_put, entries_put, inner_entry, leaf_entry, is_inner}
 use Rattle.rkyv_btree_unverified.proofs.Counted.{take_nodes, leave_nodes}
@@ -12,9 +12,9 @@ use Rattle.rkyv_btree_unverified.proofs.Faultless.{from_next, from_end, path_wit
 use Rattle.rkyv_btree_unverified.proofs.OnWalks.{end_passes, last_passes, last_short, take_rest, leave_rest}
 use Rattle.rkyv_btree_unverified.proofs.Passes.{root_entries, with_level}
 use Rattle.rkyv_btree_unverified.specs.Walks.{EntryRefuses, Fails, of_entry}
-use Rattle.rkyv_btree_unverified.specs.declared.unverified_walk.Phase.{Phase}
-use Rattle.rkyv_btree_unverified.specs.declared.unverified_walk.Phase.TheVariants.{Descend, Advance, Over}
-use Rattle.rkyv_btree_unverified.specs.declared.unverified_walk.UnverifiedWalk.{UnverifiedWalk}
+use Rattle.rkyv_btree_unverified.specs.declared.walk.Phase.{Phase}
+use Rattle.rkyv_btree_unverified.specs.declared.walk.Phase.TheVariants.{Descend, Advance, Over}
+use Rattle.rkyv_btree_unverified.specs.declared.walk.UnverifiedWalk.{UnverifiedWalk}
 use Rattle.rkyv_btree_unverified.specs.mirror.Faultless.{FaultlessPath, FaultlessDown, FaultlessAt, FaultlessPhase, FaultlessLeft}
 use Rattle.rkyv_btree_unverified.specs.mirror.Walked.{IsWay, IsLeafRun, OnMaps, IsClimbed, HasClimbed, HasPhase, IsUnverifiedWalk, Finishes, TakesEntry, GoesDown, Stepped, HasAt, chain_before, path_entries, path_nodes, walk_most, unverified_left}
 use Rattle.rkyv_btree_view.specs.Map.{IsMap}

@@ -7,10 +7,10 @@ use Rattle.std.specs.Range.Bound.{bound_map}
 use Rattle.std.specs.declared.cmp.Ordering.{Ordering}
 use Rattle.std.specs.declared.ops.Bound.{Bound}
 use Rattle.std.specs.declared.ops.Bound.TheVariants.{Included, Excluded, Unbounded}
-use Rattle.rkyv_btree_base.specs.Kind.{Kind}
-use Rattle.rkyv_btree_base.specs.Layout.{layout_of}
-use Rattle.rkyv_btree_base.specs.Read.{entry_at, map_tree, read_map}
-use Rattle.rkyv_btree_base.specs.Tree.{Tree, list}
+use Rattle.rkyv_btree_portable.specs.Kind.{Kind}
+use Rattle.rkyv_btree_format.specs.Layout.{layout_of}
+use Rattle.rkyv_btree_format.specs.Read.{entry_at, map_tree, read_map}
+use Rattle.rkyv_btree_shape.specs.Tree.{Tree, list}
 use Rattle.rkyv_btree_unverified.proofs.Froms.{from_end, from_kept, from_whole}
 use Rattle.rkyv_btree_unverified.specs.EntriesFrom.{entries_from, from_place, past_place, places_from, until}
 use Rattle.rkyv_btree_walk.proofs.Ranges.{from_rises, past_rises, within_means, run_means}

@@ -2,13 +2,13 @@
 use Rattle.std.proofs.Common.{◌≡◌, ℕ, zero, suc, IsTrue, List, Option, Some, None, Result, Ok, Err, sym, subst}
 use Rattle.std.specs.declared.cmp.Ordering.{Ordering}
 use Rattle.std.specs.declared.cmp.Ordering.TheVariants.{Equal}
-use Rattle.rkyv_btree_base.specs.Kind.{Kind}
-use Rattle.rkyv_btree_base.specs.Refusal.{Refusal}
-use Rattle.rkyv_btree_base.specs.Views.{stands}
+use Rattle.rkyv_btree_portable.specs.Kind.{Kind}
+use Rattle.rkyv_btree_portable.specs.declared.refusal.Refusal.{Refusal}
+use Rattle.rkyv_btree_portable.specs.Views.{stands}
 use Rattle.rkyv_btree_unverified.specs.Lookups.{AtChild, AtHalt, TreeGives, LookupGives}
 use Rattle.rkyv_btree_unverified.specs.Steps.{value_place, GoesOn, KeysGive, equal_key, Then, Gives}
-use Rattle.rkyv_btree_unverified.specs.declared.unverified_search.Halt.{Halt}
-use Rattle.rkyv_btree_unverified.specs.declared.unverified_search.Halt.TheVariants.{Found, Below}
+use Rattle.rkyv_btree_unverified.specs.declared.search.Halt.{Halt}
+use Rattle.rkyv_btree_unverified.specs.declared.search.Halt.TheVariants.{Found, Below}
 
 module _ (K V : Kind) (E : ℕ) (b : List ℕ) (comparison : K.Value → Ordering) (KR VR : List ℕ → ℕ → ℕ → ℕ → Refusal → Type 0) (e : ℕ × ℕ) where
   abbrev R : Type 0

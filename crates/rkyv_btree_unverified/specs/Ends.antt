@@ -1,9 +1,9 @@
 -- Where searches side by side have come to, in bytes that nobody has validated.
 use Rattle.std.specs.Prelude.{ℕ, List, Option, Result, Err, pos, slice_index_or}
-use Rattle.rkyv_btree_base.specs.Refusal.{Refusal}
-use Rattle.rkyv_btree_base.specs.Refusal.TheVariants.{TooDeep}
-use Rattle.rkyv_btree_unverified.specs.declared.unverified_many.UnverifiedWay.{UnverifiedWay}
-use Rattle.rkyv_btree_unverified.specs.declared.unverified_many.UnverifiedWay.TheVariants.{On, Ended}
+use Rattle.rkyv_btree_portable.specs.declared.refusal.Refusal.{Refusal}
+use Rattle.rkyv_btree_portable.specs.declared.refusal.Refusal.TheVariants.{TooDeep}
+use Rattle.rkyv_btree_unverified.specs.declared.many.UnverifiedWay.{UnverifiedWay}
+use Rattle.rkyv_btree_unverified.specs.declared.many.UnverifiedWay.TheVariants.{On, Ended}
 
 -- the way of a number, of which there are sixteen
 abbrev pub way_at : List UnverifiedWay → ℕ → UnverifiedWay

@@ -1,10 +1,10 @@
 -- What a walk has left in bytes that nobody has validated, by the number of entries that it has lent.
 use Rattle.std.specs.Prelude.{ℕ, suc, ◌-◌, ◌*◌, ◌/◌, List, [], length, drop}
-use Rattle.rkyv_btree_base.specs.Kind.{Kind}
-use Rattle.rkyv_btree_base.specs.Layout.{layout_of, leaf_size}
-use Rattle.rkyv_btree_unverified.specs.declared.unverified_walk.Phase.{Phase}
-use Rattle.rkyv_btree_unverified.specs.declared.unverified_walk.Phase.TheVariants.{Descend, Advance, Over}
-use Rattle.rkyv_btree_unverified.specs.declared.unverified_walk.UnverifiedWalk.{UnverifiedWalk}
+use Rattle.rkyv_btree_portable.specs.Kind.{Kind}
+use Rattle.rkyv_btree_format.specs.Layout.{layout_of, leaf_size}
+use Rattle.rkyv_btree_unverified.specs.declared.walk.Phase.{Phase}
+use Rattle.rkyv_btree_unverified.specs.declared.walk.Phase.TheVariants.{Descend, Advance, Over}
+use Rattle.rkyv_btree_unverified.specs.declared.walk.UnverifiedWalk.{UnverifiedWalk}
 
 -- the first once a walk is over, else the second
 abbrev pub once_over : {X : Type 0} → Phase → X → X → X

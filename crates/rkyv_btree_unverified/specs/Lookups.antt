@@ -3,14 +3,14 @@ use Rattle.std.specs.Option.{option_map}
 use Rattle.std.specs.Prelude.{◌≡◌, ℕ, suc, zero, IsTrue, List, Option, Some, None, Result, Ok, Err, pos}
 use Rattle.std.specs.declared.cmp.Ordering.{Ordering}
 use Rattle.std.specs.declared.cmp.Ordering.TheVariants.{Equal}
-use Rattle.rkyv_btree_base.specs.Kind.{Kind}
-use Rattle.rkyv_btree_base.specs.Read.{entry_at}
-use Rattle.rkyv_btree_base.specs.Refusal.{Refusal}
-use Rattle.rkyv_btree_base.specs.Refusal.TheVariants.{TooDeep}
-use Rattle.rkyv_btree_base.specs.Views.{stands}
+use Rattle.rkyv_btree_portable.specs.Kind.{Kind}
+use Rattle.rkyv_btree_format.specs.Read.{entry_at}
+use Rattle.rkyv_btree_portable.specs.declared.refusal.Refusal.{Refusal}
+use Rattle.rkyv_btree_portable.specs.declared.refusal.Refusal.TheVariants.{TooDeep}
+use Rattle.rkyv_btree_portable.specs.Views.{stands}
 use Rattle.rkyv_btree_unverified.specs.Steps.{value_place, Then, NodeGives, ChildGives, HeadGives, KeysGive, Gives}
-use Rattle.rkyv_btree_unverified.specs.declared.unverified_search.Halt.{Halt}
-use Rattle.rkyv_btree_unverified.specs.declared.unverified_search.Halt.TheVariants.{Found, Below}
+use Rattle.rkyv_btree_unverified.specs.declared.search.Halt.{Halt}
+use Rattle.rkyv_btree_unverified.specs.declared.search.Halt.TheVariants.{Found, Below}
 use Rattle.rkyv_btree_view.specs.Lookup.{found_at}
 use Rattle.rkyv_btree_view.specs.Map.{IsMap}
 

@@ -4,17 +4,17 @@
 use Rattle.std.specs.Prelude.{◌≡◌, ◌≢◌, ℕ, ◌+◌, ◌%◌, ◌≤◌, ◌<◌, IsTrue, List, Option, Some, None, Result, Ok, Err, ℤ, pos, ◌+ℤ◌, ◌<ℤ◌}
 use Rattle.std.specs.declared.cmp.Ordering.{Ordering}
 use Rattle.std.specs.declared.cmp.Ordering.TheVariants.{Less, Equal, Greater}
-use Rattle.rkyv_btree_base.specs.Bytes.{place_at, target_at}
-use Rattle.rkyv_btree_base.specs.Kind.{Kind}
-use Rattle.rkyv_btree_base.specs.Layout.{layout_of, key_at, value_at, leaf_size, inner_size, pointer_at, align}
-use Rattle.rkyv_btree_base.specs.Refusal.{Refusal}
-use Rattle.rkyv_btree_base.specs.Refusal.TheVariants.{OutOfRange, Misaligned, BadKind, InvalidLength}
-use Rattle.rkyv_btree_base.specs.Refusals.{HasKind, IsInner, leaf_len, map_len}
-use Rattle.rkyv_btree_base.specs.Refusing.{HasPlace, Misplaced}
-use Rattle.rkyv_btree_base.specs.Views.{stands}
+use Rattle.rkyv_btree_portable.specs.Bytes.{place_at, target_at}
+use Rattle.rkyv_btree_portable.specs.Kind.{Kind}
+use Rattle.rkyv_btree_format.specs.Layout.{layout_of, key_at, value_at, leaf_size, inner_size, pointer_at, align}
+use Rattle.rkyv_btree_portable.specs.declared.refusal.Refusal.{Refusal}
+use Rattle.rkyv_btree_portable.specs.declared.refusal.Refusal.TheVariants.{OutOfRange, Misaligned, BadKind, InvalidLength}
+use Rattle.rkyv_btree_verify.specs.Refusals.{HasKind, IsInner, leaf_len, map_len}
+use Rattle.rkyv_btree_portable.specs.Refusing.{HasPlace, Misplaced}
+use Rattle.rkyv_btree_portable.specs.Views.{stands}
 use Rattle.rkyv_btree_portable.specs.declared.check.Portable
-use Rattle.rkyv_btree_unverified.specs.declared.unverified_search.Halt.{Halt}
-use Rattle.rkyv_btree_unverified.specs.declared.unverified_search.Halt.TheVariants.{Found, Below}
+use Rattle.rkyv_btree_unverified.specs.declared.search.Halt.{Halt}
+use Rattle.rkyv_btree_unverified.specs.declared.search.Halt.TheVariants.{Found, Below}
 use Rattle.rkyv_btree_view.specs.declared.view.View.{View}
 
 -- a step gives some value, with which the next one goes on, or an error, which is the last

@@ -1,15 +1,15 @@
 -- What an iterator over the entries of bytes that nobody has validated lends.
 use Rattle.std.specs.Prelude.{◌≡◌, ℕ, ◌<◌, List, [], ◌∷◌, ◌++◌, ◌⊎◌, map, Option, Some, None, Result, Ok, Err}
 use Rattle.std.specs.Iterator.{Drains}
-use Rattle.rkyv_btree_base.specs.Read.{read_map}
-use Rattle.rkyv_btree_base.specs.Refusal.{Refusal}
+use Rattle.rkyv_btree_format.specs.Read.{read_map}
+use Rattle.rkyv_btree_portable.specs.declared.refusal.Refusal.{Refusal}
 use Rattle.rkyv_btree_portable.specs.declared.check.Portable
 use Rattle.rkyv_btree_walk.specs.declared.archived_map.ArchivedMap
 use Rattle.rkyv_btree_unverified.specs.Left.{left_of, most_of, turns_of}
 use Rattle.rkyv_btree_unverified.specs.Steps.{entry_places, places}
 use Rattle.rkyv_btree_unverified.specs.Walks.{IsReachedEntry, IsFaultless, WalkRefuses, NoMap}
-use Rattle.rkyv_btree_unverified.specs.declared.unverified_iter.UnverifiedIter.{UnverifiedIter}
-use Rattle.rkyv_btree_unverified.specs.declared.unverified_walk.Phase.TheVariants.{Over}
+use Rattle.rkyv_btree_unverified.specs.declared.iter.UnverifiedIter.{UnverifiedIter}
+use Rattle.rkyv_btree_unverified.specs.declared.walk.Phase.TheVariants.{Over}
 use Rattle.rkyv_btree_view.specs.View.{view_entry}
 use Rattle.rkyv_btree_view.specs.declared.view.View.{View}
 

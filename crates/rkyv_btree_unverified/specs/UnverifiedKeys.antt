@@ -2,11 +2,11 @@
 use Rattle.std.specs.Prelude.{◌≡◌, ℕ, List, map, Option, Result}
 use Rattle.std.specs.Option.{option_map}
 use Rattle.std.specs.Result.{result_map_both}
-use Rattle.rkyv_btree_base.specs.Refusal.{Refusal}
+use Rattle.rkyv_btree_portable.specs.declared.refusal.Refusal.{Refusal}
 use Rattle.rkyv_btree_portable.specs.declared.check.Portable
 use Rattle.rkyv_btree_walk.specs.declared.archived_map.ArchivedMap
 use Rattle.rkyv_btree_unverified.specs.UnverifiedIter.{buffer_of, position_of, entries_left, most_left, turns_left, StepsUnverified}
-use Rattle.rkyv_btree_unverified.specs.declared.unverified_keys.UnverifiedKeys.{UnverifiedKeys}
+use Rattle.rkyv_btree_unverified.specs.declared.keys.UnverifiedKeys.{UnverifiedKeys}
 use Rattle.rkyv_btree_view.specs.declared.view.View.{View}
 
 -- the key of an item of an iterator over entries

@@ -2,16 +2,16 @@
 use Rattle.std.specs.List.{AllZip}
 use Rattle.std.specs.Prelude.{◌≡◌, ℕ, ◌+◌, List, ◌++◌, drop, length, map, take, Option, Result}
 use Rattle.std.specs.declared.cmp.Ordering.{Ordering}
-use Rattle.rkyv_btree_base.specs.Refusal.{Refusal}
+use Rattle.rkyv_btree_portable.specs.declared.refusal.Refusal.{Refusal}
 use Rattle.rkyv_btree_portable.specs.declared.check.Portable
 use Rattle.rkyv_btree_walk.specs.declared.archived_map.ArchivedMap
 use Rattle.rkyv_btree_unverified.specs.Ends.{result_of}
 use Rattle.rkyv_btree_unverified.specs.Lookups.{LookupGives}
 use Rattle.rkyv_btree_unverified.specs.UnverifiedLookups.{Shows}
 use Rattle.rkyv_btree_unverified.specs.Steps.{key_place, value_place}
-use Rattle.rkyv_btree_unverified.specs.declared.unverified_get_many.UnverifiedEntryLookups.{UnverifiedEntryLookups}
-use Rattle.rkyv_btree_unverified.specs.declared.unverified_get_many.UnverifiedKeyLookups.{UnverifiedKeyLookups}
-use Rattle.rkyv_btree_unverified.specs.declared.unverified_get_many.UnverifiedLookups.{UnverifiedLookups}
+use Rattle.rkyv_btree_unverified.specs.declared.get_many.UnverifiedEntryLookups.{UnverifiedEntryLookups}
+use Rattle.rkyv_btree_unverified.specs.declared.get_many.UnverifiedKeyLookups.{UnverifiedKeyLookups}
+use Rattle.rkyv_btree_unverified.specs.declared.get_many.UnverifiedLookups.{UnverifiedLookups}
 use Rattle.rkyv_btree_view.specs.Lookup.{ByNative}
 use Rattle.rkyv_btree_view.specs.declared.view.View.{View}
 

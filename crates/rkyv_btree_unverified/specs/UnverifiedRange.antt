@@ -2,8 +2,8 @@
 use Rattle.std.specs.Prelude.{◌≡◌, ℕ, ◌<◌, List, [], ◌∷◌, map, false, Option, Some, None, Result, Ok, Err}
 use Rattle.std.specs.declared.cmp.Ordering.{Ordering}
 use Rattle.std.specs.declared.ops.Bound.{Bound}
-use Rattle.rkyv_btree_base.specs.Read.{entry_at}
-use Rattle.rkyv_btree_base.specs.Refusal.{Refusal}
+use Rattle.rkyv_btree_format.specs.Read.{entry_at}
+use Rattle.rkyv_btree_portable.specs.declared.refusal.Refusal.{Refusal}
 use Rattle.rkyv_btree_portable.specs.declared.check.Portable
 use Rattle.rkyv_btree_walk.specs.declared.archived_map.ArchivedMap
 use Rattle.rkyv_btree_unverified.specs.EntriesFrom.{is_past_place, past_place, until}
@@ -11,8 +11,8 @@ use Rattle.rkyv_btree_unverified.specs.Left.{most_of, turns_of}
 use Rattle.rkyv_btree_unverified.specs.Steps.{entry_places, places}
 use Rattle.rkyv_btree_unverified.specs.Walks.{IsReachedEntry, WalkRefuses, NoMap}
 use Rattle.rkyv_btree_unverified.specs.Ways.{places_left}
-use Rattle.rkyv_btree_unverified.specs.declared.unverified_range.UnverifiedRange.{UnverifiedRange}
-use Rattle.rkyv_btree_unverified.specs.declared.unverified_walk.Phase.TheVariants.{Over}
+use Rattle.rkyv_btree_unverified.specs.declared.range.UnverifiedRange.{UnverifiedRange}
+use Rattle.rkyv_btree_unverified.specs.declared.walk.Phase.TheVariants.{Over}
 use Rattle.rkyv_btree_view.specs.View.{view_entry}
 use Rattle.rkyv_btree_view.specs.declared.view.View.{View}
 

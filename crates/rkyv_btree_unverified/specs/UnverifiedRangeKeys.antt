@@ -2,12 +2,12 @@
 use Rattle.std.specs.Prelude.{◌≡◌, ℕ, List, map, Option, Result}
 use Rattle.std.specs.declared.cmp.Ordering.{Ordering}
 use Rattle.std.specs.declared.ops.Bound.{Bound}
-use Rattle.rkyv_btree_base.specs.Refusal.{Refusal}
+use Rattle.rkyv_btree_portable.specs.declared.refusal.Refusal.{Refusal}
 use Rattle.rkyv_btree_portable.specs.declared.check.Portable
 use Rattle.rkyv_btree_walk.specs.declared.archived_map.ArchivedMap
 use Rattle.rkyv_btree_unverified.specs.UnverifiedKeys.{key_item}
 use Rattle.rkyv_btree_unverified.specs.UnverifiedRange.{range_buffer_of, range_position_of, key_range, unverified_range_left, most_range_left, range_turns_left, StepsRange}
-use Rattle.rkyv_btree_unverified.specs.declared.unverified_range_keys.UnverifiedRangeKeys.{UnverifiedRangeKeys}
+use Rattle.rkyv_btree_unverified.specs.declared.range_keys.UnverifiedRangeKeys.{UnverifiedRangeKeys}
 use Rattle.rkyv_btree_view.specs.declared.view.View.{View}
 
 module _ {M T R K V : Type 0} {g : ArchivedMap.Ghosts M K V} {m : Portable.Ghosts M} {k : Portable.Ghosts K} {v : Portable.Ghosts V} where

@@ -1,9 +1,9 @@
 -- Which nodes and entries a walk reaches in bytes that nobody has validated, and why it fails.
 use Rattle.std.specs.Prelude.{ℕ, suc, ◌≤◌, ◌<◌, IsTrue, List, Some, Result, Ok, Err, pos}
-use Rattle.rkyv_btree_base.specs.Kind.{Kind}
-use Rattle.rkyv_btree_base.specs.Refusal.{Refusal}
-use Rattle.rkyv_btree_base.specs.Refusal.TheVariants.{OutOfRange, TooDeep}
-use Rattle.rkyv_btree_base.specs.Views.{stands}
+use Rattle.rkyv_btree_portable.specs.Kind.{Kind}
+use Rattle.rkyv_btree_portable.specs.declared.refusal.Refusal.{Refusal}
+use Rattle.rkyv_btree_portable.specs.declared.refusal.Refusal.TheVariants.{OutOfRange, TooDeep}
+use Rattle.rkyv_btree_portable.specs.Views.{stands}
 use Rattle.rkyv_btree_unverified.specs.Steps.{key_place, value_place, NodeGives, ChildGives, HeadGives}
 use Rattle.rkyv_btree_view.specs.Map.{IsMap}
 

@@ -1,16 +1,16 @@
 //! Lookups in bytes that nobody has validated: a lookup validates what it reads, and nothing else.
 #![tactic(auto)]
 
+pub mod get_many;
+pub mod iter;
+pub mod keys;
+pub mod laws;
+pub mod many;
+pub mod node;
+pub mod range;
+pub mod range_keys;
+pub mod search;
+pub mod seek;
+pub mod set;
 pub mod unverified;
-pub mod unverified_get_many;
-pub mod unverified_iter;
-pub mod unverified_keys;
-pub mod unverified_laws;
-pub mod unverified_many;
-pub mod unverified_node;
-pub mod unverified_range;
-pub mod unverified_range_keys;
-pub mod unverified_search;
-pub mod unverified_seek;
-pub mod unverified_set;
-pub mod unverified_walk;
+pub mod walk;

@@ -1,14 +1,14 @@
 //! Maps that nobody has validated.
 ghost use Rattle.std.specs.Option.{option_map};
 ghost use Rattle.std.specs.Prelude.{◌≡◌, ◌↔◌, ◌≤◌, ◌<◌, ◌+◌, ◌-◌, ◌*◌, Err, Ok, IfErr, IfOk, IfSome, IsOk, IsTrue, length, ⊤};
-ghost use Rattle.rkyv_btree_base.specs.Layout.{are_fitting, layout_of};
-ghost use Rattle.rkyv_btree_base.specs.Map.{map_kind};
-ghost use Rattle.rkyv_btree_base.specs.Read.{entry_at, map_tree};
-ghost use Rattle.rkyv_btree_base.specs.Refusal.{Refusal};
-ghost use Rattle.rkyv_btree_base.specs.Refusal.TheVariants.{TooLong};
-ghost use Rattle.rkyv_btree_base.specs.Refusals.{RefusesMap, map_len};
-ghost use Rattle.rkyv_btree_base.specs.Refusing.{Misplaced};
-ghost use Rattle.rkyv_btree_base.specs.Whole.{own_at};
+ghost use Rattle.rkyv_btree_format.specs.Layout.{are_fitting, layout_of};
+ghost use Rattle.rkyv_btree_verify.specs.Map.{map_kind};
+ghost use Rattle.rkyv_btree_format.specs.Read.{entry_at, map_tree};
+ghost use Rattle.rkyv_btree_portable.specs.declared.refusal.Refusal.{Refusal};
+ghost use Rattle.rkyv_btree_portable.specs.declared.refusal.Refusal.TheVariants.{TooLong};
+ghost use Rattle.rkyv_btree_verify.specs.Refusals.{RefusesMap, map_len};
+ghost use Rattle.rkyv_btree_portable.specs.Refusing.{Misplaced};
+ghost use Rattle.rkyv_btree_format.specs.OwnBytes.{own_at};
 ghost use Rattle.rkyv_btree_unverified.specs.Given.{ByKey, GivesEntry, GivesEntryWith, GivesValue, GivesWhether};
 ghost use Rattle.rkyv_btree_unverified.specs.Lookups.{LookupGivesWithin};
 ghost use Rattle.rkyv_btree_unverified.specs.Steps.{entry_places, places};
@@ -18,13 +18,12 @@ ghost use Rattle.rkyv_btree_view.specs.View.{entries_of, view_value, view_entry}
 ghost use Rattle.rkyv_btree_walk.specs.Search.{comparisons, shown_value};
 ghost use Rattle.rkyv_btree_walk.specs.mirror.Node.{RunStands};
 
-use crate::unverified_search::search;
-use rkyv_btree_base::bytes::num32;
-use rkyv_btree_base::check::{CheckBytes, Portable};
-use rkyv_btree_base::map::ArchivedBTreeMap;
-use rkyv_btree_base::refusal::Refusal;
-use rkyv_btree_base::steps::StepCounter;
-use rkyv_btree_portable::check::check_own_bytes;
+use crate::search::search;
+use rkyv_btree_portable::bytes::num32;
+use rkyv_btree_portable::check::{CheckBytes, Portable, check_own_bytes};
+use rkyv_btree_portable::refusal::Refusal;
+use rkyv_btree_portable::steps::StepCounter;
+use rkyv_btree_types::map::ArchivedBTreeMap;
 use rkyv_btree_view::compare::ViewOrd;
 use rkyv_btree_view::compare_native::CompareWith;
 use rkyv_btree_view::map_view::{ShowsEntries, access};

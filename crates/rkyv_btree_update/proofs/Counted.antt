@@ -12,7 +12,7 @@ use Rattle.std.specs.Ordering.{is_eq, ordering_reverse}
 use Rattle.std.specs.Prelude.{is_some}
 use Rattle.std.specs.declared.cmp.Ordering.{Ordering}
 use Rattle.std.specs.declared.cmp.Ordering.TheVariants.{Less}
-use Rattle.rkyv_btree_base.specs.Increasing.{Increasing}
+use Rattle.rkyv_btree_format.specs.Increasing.{Increasing}
 use Rattle.rkyv_btree_update.proofs.Changed.{after_change, sorted_changed}
 use Rattle.rkyv_btree_update.specs.Natives.{both}
 use Rattle.rkyv_btree_update.specs.Updated.{change_meant, changed, updated, last_word}

@@ -1,8 +1,8 @@
 -- What the entries of a map show is what they mean, made shown.
 use Rattle.std.proofs.Common.{◌≡◌, ℕ, ◌+◌, ◌-◌, List, [], ◌∷◌, length, map, drop, Option, Some, None, refl, sym, ap, ◌∙◌}
 use Rattle.std.specs.Iterator.{YieldsFirst}
-use Rattle.rkyv_btree_base.specs.Kind.{Kind}
-use Rattle.rkyv_btree_base.specs.Read.{entry_at, read_map}
+use Rattle.rkyv_btree_portable.specs.Kind.{Kind}
+use Rattle.rkyv_btree_format.specs.Read.{entry_at, read_map}
 use Rattle.rkyv_btree_portable.specs.declared.check.Portable
 use Rattle.rkyv_btree_update.specs.Natives.{both, shown_at, read_shown}
 use Rattle.rkyv_btree_update.specs.mirror.Merged.{ahead, shown_left}

@@ -7,9 +7,9 @@ use Rattle.std.specs.Map.{keys_of, remove_entry}
 use Rattle.std.specs.Ordering.{is_eq, match_ordering}
 use Rattle.std.specs.declared.cmp.Ordering.{Ordering}
 use Rattle.std.specs.declared.cmp.Ordering.TheVariants.{Less, Equal, Greater}
-use Rattle.rkyv_btree_base.specs.Kind.{Kind}
-use Rattle.rkyv_btree_base.specs.Read.{entry_at, read_map}
-use Rattle.rkyv_btree_base.specs.Archiving.{Archival}
+use Rattle.rkyv_btree_portable.specs.Kind.{Kind}
+use Rattle.rkyv_btree_format.specs.Read.{entry_at, read_map}
+use Rattle.rkyv_btree_writer.specs.Archiving.{Archival}
 use Rattle.rkyv_btree_update.specs.Natives.{IsLent, both, read_shown, shown_at}
 use Rattle.rkyv_btree_update.specs.Updated.{all_put, changed, updated, change_meant, changes_meant}
 use Rattle.rkyv_btree_update.specs.declared.change.Change.{Change}

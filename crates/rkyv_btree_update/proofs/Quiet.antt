@@ -8,7 +8,7 @@ use Rattle.std.specs.Option.{option_map}
 use Rattle.std.specs.Prelude.{IfNone}
 use Rattle.std.specs.declared.cmp.Ordering.{Ordering}
 use Rattle.std.specs.declared.cmp.Ordering.TheVariants.{Less}
-use Rattle.rkyv_btree_base.specs.Increasing.{Increasing}
+use Rattle.rkyv_btree_format.specs.Increasing.{Increasing}
 use Rattle.rkyv_btree_portable.specs.declared.check.Portable
 use Rattle.rkyv_btree_update.proofs.Changed.{before_updated, less_than_all}
 use Rattle.rkyv_btree_update.proofs.Merged.{increasing_tail}

@@ -2,23 +2,23 @@
 use Rattle.std.proofs.Common.{◌≡◌, ℕ, ◌<◌, ◌≤◌, List, [], ◌∷◌, ◌++◌, length, map, Option, Result, Ok, Err, IfOk, IfErr, OnOk, inl, inr, refl, sym, ap, subst, ◌∙◌, append-nil}
 use Rattle.std.specs.Iterator.{Yields, Drains, YieldsFirst}
 use Rattle.std.specs.declared.cmp.Ordering.{Ordering}
-use Rattle.rkyv_btree_base.specs.Archives.{HoldsArchive}
-use Rattle.rkyv_btree_base.specs.Building.{IsRootUnwritten}
-use Rattle.rkyv_btree_base.specs.Archiving.{Archival, Matches}
-use Rattle.rkyv_btree_base.specs.Entries.{both_borrowed}
-use Rattle.rkyv_btree_base.specs.Fault.{Fault}
-use Rattle.rkyv_btree_base.specs.Fault.TheVariants.{Length, LengthOverflow, PositionOverflow, OffsetOverflow, Writer, Memory, Entry, OutOfOrder}
-use Rattle.rkyv_btree_base.specs.Image.{root_image}
-use Rattle.rkyv_btree_base.specs.Increasing.{Increasing}
-use Rattle.rkyv_btree_base.specs.Kept.{OnlyAppended}
-use Rattle.rkyv_btree_base.specs.Kind.{Kind}
-use Rattle.rkyv_btree_base.specs.Layout.{layout_of}
-use Rattle.rkyv_btree_base.specs.Rounding.{round_up}
-use Rattle.rkyv_btree_base.specs.Serialising.{Built, Serialised, BuildFault, RootFault, StoppedBuilding}
-use Rattle.rkyv_btree_base.specs.SmallestMaps.{IsSmallestArchive, IsSmallestMap, entry_value, map_at}
-use Rattle.rkyv_btree_base.specs.Spells.{Accepted}
-use Rattle.rkyv_btree_base.specs.Writing.{Writing, position, Wrote, last_end}
-use Rattle.rkyv_btree_base.proofs.Accepting.{written_is_held_after}
+use Rattle.rkyv_btree_writing_laws.specs.Archives.{HoldsArchive}
+use Rattle.rkyv_btree_writing_laws.specs.Building.{IsRootUnwritten}
+use Rattle.rkyv_btree_writer.specs.Archiving.{Archival, Matches}
+use Rattle.rkyv_btree_writing_laws.specs.Entries.{both_borrowed}
+use Rattle.rkyv_btree_writer.specs.declared.fault.Fault.{Fault}
+use Rattle.rkyv_btree_writer.specs.declared.fault.Fault.TheVariants.{Length, LengthOverflow, PositionOverflow, OffsetOverflow, Writer, Memory, Entry, OutOfOrder}
+use Rattle.rkyv_btree_writing_laws.specs.Image.{root_image}
+use Rattle.rkyv_btree_format.specs.Increasing.{Increasing}
+use Rattle.rkyv_btree_writing_laws.specs.Kept.{OnlyAppended}
+use Rattle.rkyv_btree_portable.specs.Kind.{Kind}
+use Rattle.rkyv_btree_format.specs.Layout.{layout_of}
+use Rattle.rkyv_btree_portable.specs.Rounding.{round_up}
+use Rattle.rkyv_btree_writing_laws.specs.Serialising.{Built, Serialised, BuildFault, RootFault, StoppedBuilding}
+use Rattle.rkyv_btree_writing_laws.specs.SmallestMaps.{IsSmallestArchive, IsSmallestMap, entry_value, map_at}
+use Rattle.rkyv_btree_format.specs.Spells.{Accepted}
+use Rattle.rkyv_btree_writer.specs.Writing.{Writing, position, Wrote, last_end}
+use Rattle.rkyv_btree_writing_laws.proofs.Accepting.{written_is_held_after}
 use Rattle.std.proofs.lemmas.List.{length-map}
 use Rattle.std.specs.Option.{option_map}
 use Rattle.rkyv_btree_update.specs.Natives.{both}

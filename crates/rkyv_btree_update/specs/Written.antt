@@ -1,19 +1,19 @@
 -- What is left in a writer where entries are written as a map.
 use Rattle.std.specs.Prelude.{◌≡◌, ℕ, ◌+◌, ◌<◌, ◌≤◌, List, ◌++◌, length, map, MatchOption, Option}
 use Rattle.std.specs.declared.cmp.Ordering.{Ordering}
-use Rattle.rkyv_btree_base.specs.Archiving.{Archival, BeginsWith}
-use Rattle.rkyv_btree_base.specs.Fault.{Fault}
-use Rattle.rkyv_btree_base.specs.Fault.TheVariants.{LengthOverflow, Memory, OutOfOrder}
-use Rattle.rkyv_btree_base.specs.Increasing.{IsOutOfOrder}
-use Rattle.rkyv_btree_base.specs.Kept.{OnlyAppended}
-use Rattle.rkyv_btree_base.specs.Kind.{Kind}
-use Rattle.rkyv_btree_base.specs.Layout.{layout_of}
-use Rattle.rkyv_btree_base.specs.Plan.{planned_alone}
-use Rattle.rkyv_btree_base.specs.Serialising.{Built, RootFault}
-use Rattle.rkyv_btree_base.specs.SmallestMaps.{IsSmallestMap, map_at}
-use Rattle.rkyv_btree_base.specs.Spells.{Accepted}
-use Rattle.rkyv_btree_base.specs.Writing.{Writing, last_end, position}
-use Rattle.rkyv_btree_base.specs.Written.{ChildStopped}
+use Rattle.rkyv_btree_writer.specs.Archiving.{Archival, BeginsWith}
+use Rattle.rkyv_btree_writer.specs.declared.fault.Fault.{Fault}
+use Rattle.rkyv_btree_writer.specs.declared.fault.Fault.TheVariants.{LengthOverflow, Memory, OutOfOrder}
+use Rattle.rkyv_btree_format.specs.Increasing.{IsOutOfOrder}
+use Rattle.rkyv_btree_writing_laws.specs.Kept.{OnlyAppended}
+use Rattle.rkyv_btree_portable.specs.Kind.{Kind}
+use Rattle.rkyv_btree_format.specs.Layout.{layout_of}
+use Rattle.rkyv_btree_shape.specs.Plan.{planned_alone}
+use Rattle.rkyv_btree_writing_laws.specs.Serialising.{Built, RootFault}
+use Rattle.rkyv_btree_writing_laws.specs.SmallestMaps.{IsSmallestMap, map_at}
+use Rattle.rkyv_btree_format.specs.Spells.{Accepted}
+use Rattle.rkyv_btree_writer.specs.Writing.{Writing, last_end, position}
+use Rattle.rkyv_btree_writing_laws.specs.Written.{ChildStopped}
 use Rattle.rkyv_btree_strict.specs.Strict.{IsStrictMap}
 use Rattle.rkyv_btree_update.specs.Natives.{both}
 use Rattle.rkyv_btree_update.specs.declared.change.Change.{Change}

@@ -7,8 +7,8 @@ ghost use Rattle.rkyv_btree_update.specs.mirror.Merged.{entries_ahead, shown_lef
 ghost use Rattle.rkyv_btree_view.specs.Iter.{at_hand};
 
 use crate::from_archived::FromArchived;
-use rkyv_btree_base::archive::Archive;
-use rkyv_btree_base::check::Portable;
+use rkyv_btree_archive::archive::Archive;
+use rkyv_btree_portable::check::Portable;
 use rkyv_btree_strict::strict_map::{Strict, StrictEntries};
 use rkyv_btree_view::compare::ViewOrd;
 use rkyv_btree_view::iter::Iter;

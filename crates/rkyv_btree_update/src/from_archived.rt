@@ -1,6 +1,6 @@
 //! Native values that are made of archived ones without an allocation.
 ghost use Rattle.std.specs.Prelude.{◌≡◌, IsTrue};
-ghost use Rattle.rkyv_btree_base.specs.Views.{stands};
+ghost use Rattle.rkyv_btree_portable.specs.Views.{stands};
 
 use crate::compare_archived::CompareArchived;
 

@@ -1,16 +1,16 @@
 //! Numbers, truth values, characters, `()` and text, made of archived ones.
 ghost use Rattle.std.specs.Int.NonZero.{non_zero_u32_get};
 ghost use Rattle.std.specs.Prelude.{◌≡◌, IsTrue};
-ghost use Rattle.rkyv_btree_base.specs.Scalars.{bool_kind, char_kind, i16_kind, i32_kind, i64_kind, i8_kind, non_zero_kind};
-ghost use Rattle.rkyv_btree_base.specs.Scalars.{u16_kind, u32_kind, u64_kind, u8_kind};
-ghost use Rattle.rkyv_btree_base.specs.Text.{text_kind};
-ghost use Rattle.rkyv_btree_base.specs.Views.{stands};
+ghost use Rattle.rkyv_btree_portable.specs.Scalars.{bool_kind, char_kind, i16_kind, i32_kind, i64_kind, i8_kind, non_zero_kind};
+ghost use Rattle.rkyv_btree_portable.specs.Scalars.{u16_kind, u32_kind, u64_kind, u8_kind};
+ghost use Rattle.rkyv_btree_portable.specs.Text.{text_kind};
+ghost use Rattle.rkyv_btree_portable.specs.Views.{stands};
 
 use crate::from_archived::FromArchived;
-use rkyv_btree_base::numbers::{ArchivedU16, ArchivedU32, ArchivedU64};
-use rkyv_btree_base::scalars::{ArchivedChar, ArchivedNonZeroU32};
-use rkyv_btree_base::signed::{ArchivedI16, ArchivedI32, ArchivedI64};
-use rkyv_btree_base::text::ArchivedText;
+use rkyv_btree_portable::numbers::{ArchivedU16, ArchivedU32, ArchivedU64};
+use rkyv_btree_portable::scalars::{ArchivedChar, ArchivedNonZeroU32};
+use rkyv_btree_portable::signed::{ArchivedI16, ArchivedI32, ArchivedI64};
+use rkyv_btree_portable::text::ArchivedText;
 use rkyv_btree_view::view::View;
 use rkyv_btree_walk::shows::Shows;
 use std::num::NonZeroU32;

@@ -1,6 +1,6 @@
 //! The order of the keys of changes.
 ghost use Rattle.std.specs.Prelude.{MatchOption, map};
-ghost use Rattle.rkyv_btree_base.specs.Increasing.{Increasing, IsOutOfOrder};
+ghost use Rattle.rkyv_btree_format.specs.Increasing.{Increasing, IsOutOfOrder};
 ghost use Rattle.rkyv_btree_update.specs.Updated.{changes_meant};
 
 use crate::change::Change;

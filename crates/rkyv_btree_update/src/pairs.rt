@@ -1,13 +1,13 @@
 //! Pairs, made of archived ones.
 ghost use Rattle.std.specs.Ordering.{ordering_then};
 ghost use Rattle.std.specs.Prelude.{◌≡◌, ◌+◌, IsTrue};
-ghost use Rattle.rkyv_btree_base.specs.Entry.{entry_kind, value_offset};
-ghost use Rattle.rkyv_btree_base.specs.Views.{stands};
+ghost use Rattle.rkyv_btree_portable.specs.Entry.{entry_kind, value_offset};
+ghost use Rattle.rkyv_btree_portable.specs.Views.{stands};
 
 use crate::compare_archived::CompareArchived;
 use crate::from_archived::FromArchived;
-use rkyv_btree_base::archive::Archive;
-use rkyv_btree_base::util::Entry;
+use rkyv_btree_archive::archive::Archive;
+use rkyv_btree_portable::entry::Entry;
 use rkyv_btree_view::view::View;
 use rkyv_btree_walk::shows::Shows;
 use std::cmp::Ordering;

@@ -1,7 +1,7 @@
 //! New archives of maps, from old ones and changes.
 ghost use Rattle.std.specs.Prelude.{ℕ, IsErrOf, IsTrue, IfErr, IfOk, OnOk};
-ghost use Rattle.rkyv_btree_base.specs.Increasing.{Increasing, IsOutOfOrder};
-ghost use Rattle.rkyv_btree_base.specs.Layout.{are_fitting};
+ghost use Rattle.rkyv_btree_format.specs.Increasing.{Increasing, IsOutOfOrder};
+ghost use Rattle.rkyv_btree_format.specs.Layout.{are_fitting};
 ghost use Rattle.rkyv_btree_update.specs.Natives.{IsLent, meaning, shown_of};
 ghost use Rattle.rkyv_btree_update.specs.Updated.{all_put, changes_meant, updated};
 ghost use Rattle.rkyv_btree_update.specs.Written.{IsAppended, IsCount, IsNotUpdated, IsNotWritten, IsWritten, WritesSmallest};
@@ -14,14 +14,15 @@ use crate::counting::{count_all, count_listed};
 use crate::from_archived::FromArchived;
 use crate::order::first_disorder;
 use crate::updates::Updates;
-use rkyv_btree_base::archive::{Archive, Serialize};
-use rkyv_btree_base::check::Portable;
-use rkyv_btree_base::fault::Fault;
-use rkyv_btree_base::map::ArchivedBTreeMap;
-use rkyv_btree_base::place::Writer;
+use rkyv_btree_archive::archive::{Archive, Serialize};
+use rkyv_btree_archive::build_map::BuildMap;
+use rkyv_btree_portable::check::Portable;
 use rkyv_btree_strict::strict_map::{Strict, StrictEntries, StrictView};
+use rkyv_btree_types::map::ArchivedBTreeMap;
 use rkyv_btree_view::compare::ViewOrd;
 use rkyv_btree_walk::archived_map::ArchivedMap;
+use rkyv_btree_writer::fault::Fault;
+use rkyv_btree_writer::place::Writer;
 use std::alloc::Global;
 
 /// Writes the entries of a map after changes whose keys increase, of which there are `len`, or more than 32 bits can count.

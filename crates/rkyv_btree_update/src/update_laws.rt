@@ -2,11 +2,11 @@
 ghost use Rattle.std.specs.BTreeMap.{is_at};
 ghost use Rattle.std.specs.Map.{lookup};
 ghost use Rattle.std.specs.Prelude.{◌≡◌, List};
-ghost use Rattle.rkyv_btree_base.specs.Increasing.{Increasing};
+ghost use Rattle.rkyv_btree_format.specs.Increasing.{Increasing};
 ghost use Rattle.rkyv_btree_update.specs.Updated.{last_word, updated};
 
 use crate::change::Change;
-use rkyv_btree_base::check::Portable;
+use rkyv_btree_portable::check::Portable;
 use rkyv_btree_view::compare::ViewOrd;
 
 /// States that after changes whose keys increase, each key has the value of the last word on it: the change's, if there is one, and

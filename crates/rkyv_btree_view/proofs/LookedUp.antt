@@ -8,11 +8,11 @@ use Rattle.std.specs.Ordering.{is_eq}
 use Rattle.std.specs.Prelude.{MatchOption, IfSome, IsSome, IsTrue, Contains, is_some, cond, map, ◌↔◌}
 use Rattle.std.specs.declared.cmp.Ordering.{Ordering}
 use Rattle.std.specs.declared.cmp.Ordering.TheVariants.{Less, Equal, Greater}
-use Rattle.rkyv_btree_base.specs.Kind.{Kind}
-use Rattle.rkyv_btree_base.specs.Layout.{layout_of, key_at}
-use Rattle.rkyv_btree_base.specs.Read.{entry_at, map_tree, read_map}
-use Rattle.rkyv_btree_base.specs.Tree.{list}
-use Rattle.rkyv_btree_base.specs.Increasing.{Increasing}
+use Rattle.rkyv_btree_portable.specs.Kind.{Kind}
+use Rattle.rkyv_btree_format.specs.Layout.{layout_of, key_at}
+use Rattle.rkyv_btree_format.specs.Read.{entry_at, map_tree, read_map}
+use Rattle.rkyv_btree_shape.specs.Tree.{list}
+use Rattle.rkyv_btree_format.specs.Increasing.{Increasing}
 use Rattle.rkyv_btree_view.specs.Lookup.{found_at, Only}
 use Rattle.rkyv_btree_view.specs.Query.{IsCut, ComparesAs}
 use Rattle.rkyv_btree_view.proofs.Lookups.{some_mapped}

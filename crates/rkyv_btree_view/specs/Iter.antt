@@ -1,6 +1,6 @@
 -- The entries that remain of an iterator.
 use Rattle.std.specs.Prelude.{ℕ, ◌+◌, ◌-◌, List, length, drop}
-use Rattle.rkyv_btree_base.specs.Read.{read_map}
+use Rattle.rkyv_btree_format.specs.Read.{read_map}
 use Rattle.rkyv_btree_portable.specs.declared.check.Portable
 use Rattle.rkyv_btree_walk.specs.declared.archived_map.ArchivedMap
 use Rattle.rkyv_btree_view.specs.declared.iter.Iter.{Iter}

@@ -4,12 +4,12 @@ use Rattle.std.specs.Borrow.{Bor}
 use Rattle.std.specs.List.Sorted.{IsStrictlySortedBy}
 use Rattle.std.specs.Option.{option_map}
 use Rattle.std.specs.declared.cmp.Ordering.{Ordering}
-use Rattle.rkyv_btree_base.specs.Kind.{Kind}
-use Rattle.rkyv_btree_base.specs.Layout.{layout_of}
-use Rattle.rkyv_btree_base.specs.Read.{entry_at, map_tree, read_map}
-use Rattle.rkyv_btree_base.specs.Mapped.{mapped}
-use Rattle.rkyv_btree_base.specs.Spells.{Accepted, accepted_tree}
-use Rattle.rkyv_btree_base.specs.Tree.{height}
+use Rattle.rkyv_btree_portable.specs.Kind.{Kind}
+use Rattle.rkyv_btree_format.specs.Layout.{layout_of}
+use Rattle.rkyv_btree_format.specs.Read.{entry_at, map_tree, read_map}
+use Rattle.rkyv_btree_shape.specs.Mapped.{mapped}
+use Rattle.rkyv_btree_format.specs.Spells.{Accepted, accepted_tree}
+use Rattle.rkyv_btree_shape.specs.Tree.{height}
 use Rattle.rkyv_btree_portable.specs.declared.check.Portable
 use Rattle.rkyv_btree_walk.specs.Search.{IsHit, ComparesBy, IsSearch, comparisons, OrderedBy, AnyHit, probe}
 use Rattle.rkyv_btree_view.specs.Query.{IsCut}

@@ -6,8 +6,8 @@ use Rattle.std.specs.List.Sorted.{IsStrictlySortedBy}
 use Rattle.std.specs.Map.{lookup, lookup_entry}
 use Rattle.std.specs.Option.{option_map}
 use Rattle.std.specs.declared.cmp.Ordering.{Ordering}
-use Rattle.rkyv_btree_base.specs.Increasing.{Increasing}
-use Rattle.rkyv_btree_base.specs.Kind.{Kind}
+use Rattle.rkyv_btree_format.specs.Increasing.{Increasing}
+use Rattle.rkyv_btree_portable.specs.Kind.{Kind}
 use Rattle.rkyv_btree_portable.specs.declared.check.Portable
 use Rattle.rkyv_btree_walk.specs.Search.{AnyHit, IsHit}
 use Rattle.rkyv_btree_view.specs.Lookup.{IsComplete, IsValueOfEqualKey, found_in}
@@ -44,6 +44,14 @@ module _ (K V : Kind) (E : ℕ) {M : Type 0} {m : Portable.Ghosts M} (view : Vie
     pub complete : IsComplete K V E view comparison (IsSome value)
     -- on each map it is the value of the entry at which the search ends
     pub found : value ≡ option_map (λ e. e.1) (found_in K V E view comparison)
+
+  -- the native value is that of the entry, where `native` has the native value of each value
+  pub record IsNativeLookup {N : Type 0} (native : V.Value → N) (result : Option N) : Type 0 where
+    -- if the keys increase, it is the native value of what std's map finds
+    pub sorted : Increasing K.order (entries_of K V E view) → result ≡ option_map native (lookup (is_at comparison) (entries_of K V E view))
+    pub complete : IsComplete K V E view comparison (IsSome result)
+    -- on each map it is the native value of the entry at which the search ends
+    pub found : result ≡ option_map native (option_map (λ e. e.1) (found_in K V E view comparison))
 
   -- the truth value says whether there is an entry
   pub record IsWhetherFound (result : Bool) : Type 0 where

@@ -2,7 +2,7 @@
 use Rattle.std.specs.Prelude.{◌≡◌, ℕ, Bool, List}
 use Rattle.std.specs.declared.cmp.Ordering.{Ordering}
 use Rattle.std.proofs.Common.{refl}
-use Rattle.rkyv_btree_base.specs.Kind.{Kind}
+use Rattle.rkyv_btree_portable.specs.Kind.{Kind}
 
 -- what is read of a kind is read as a native value, and compared and hashed as it
 pub record ReadAs {N : Type 0} (kind : Kind) (read_native : List ℕ → ℕ → N) (native_same : N → N → Bool)

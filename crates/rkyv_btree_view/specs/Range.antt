@@ -3,10 +3,10 @@ use Rattle.std.specs.Prelude.{◌≡◌, ℕ, List, map}
 use Rattle.std.specs.Range.Bound.{bound_map}
 use Rattle.std.specs.declared.cmp.Ordering.{Ordering}
 use Rattle.std.specs.declared.ops.Bound.{Bound}
-use Rattle.rkyv_btree_base.specs.Kind.{Kind}
+use Rattle.rkyv_btree_portable.specs.Kind.{Kind}
 use Rattle.rkyv_btree_portable.specs.declared.check.Portable
 use Rattle.rkyv_btree_walk.specs.declared.archived_map.ArchivedMap
-use Rattle.rkyv_btree_base.specs.Read.{entry_at}
+use Rattle.rkyv_btree_format.specs.Read.{entry_at}
 use Rattle.rkyv_btree_walk.specs.Remaining.{places_between}
 use Rattle.rkyv_btree_view.specs.declared.range.Range.{Range}
 

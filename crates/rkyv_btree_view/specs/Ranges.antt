@@ -5,7 +5,7 @@ use Rattle.std.specs.List.Sorted.{IsStrictlySortedBy}
 use Rattle.std.specs.declared.cmp.Ordering.{Ordering}
 use Rattle.std.specs.declared.iter.Iterator
 use Rattle.std.specs.declared.ops.Bound.{Bound}
-use Rattle.rkyv_btree_base.specs.Increasing.{Increasing}
+use Rattle.rkyv_btree_format.specs.Increasing.{Increasing}
 use Rattle.rkyv_btree_walk.specs.Bounds.{IsRun, IsWithin, entries_within, keys_within}
 use Rattle.rkyv_btree_view.specs.Items.{ShowsAll}
 use Rattle.rkyv_btree_view.specs.Set.{AreKeysWithin}

@@ -1,12 +1,12 @@
 -- Tests of archived values with native ones.
 use Rattle.std.specs.Prelude.{◌≡◌, ◌+◌, ◌&&◌, ℕ, Bool, true, List}
 use Rattle.std.specs.Cmp.Lexicographic.{pointwise}
-use Rattle.rkyv_btree_base.specs.Kind.{Kind}
-use Rattle.rkyv_btree_base.specs.Layout.{layout_of, key_at, value_at}
-use Rattle.rkyv_btree_base.specs.Read.{map_tree}
-use Rattle.rkyv_btree_base.specs.Scalars.{unit_kind}
-use Rattle.rkyv_btree_base.specs.Sets.{with_units}
-use Rattle.rkyv_btree_base.specs.Tree.{list}
+use Rattle.rkyv_btree_portable.specs.Kind.{Kind}
+use Rattle.rkyv_btree_format.specs.Layout.{layout_of, key_at, value_at}
+use Rattle.rkyv_btree_format.specs.Read.{map_tree}
+use Rattle.rkyv_btree_portable.specs.Scalars.{unit_kind}
+use Rattle.rkyv_btree_format.specs.Units.{with_units}
+use Rattle.rkyv_btree_shape.specs.Tree.{list}
 
 -- testing what stands at a position of a buffer with a native value is testing the value there; and where one value is
 -- the same as a native one, another is so exactly where both values are the same

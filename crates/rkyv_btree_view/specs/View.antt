@@ -1,7 +1,7 @@
 -- What views read.
 use Rattle.std.specs.Prelude.{ℕ, List}
-use Rattle.rkyv_btree_base.specs.Kind.{Kind}
-use Rattle.rkyv_btree_base.specs.Read.{read_map}
+use Rattle.rkyv_btree_portable.specs.Kind.{Kind}
+use Rattle.rkyv_btree_format.specs.Read.{read_map}
 use Rattle.rkyv_btree_portable.specs.declared.check.Portable
 use Rattle.rkyv_btree_view.specs.declared.view.View.{View}
 

@@ -1,16 +1,13 @@
 //! Views in messages, as what they read.
-ghost use Rattle.std.specs.Fmt.{styled_text};
-ghost use Rattle.std.specs.Prelude.{Some};
-ghost use Rattle.rkyv_btree_view.specs.View.{view_value};
 
 use crate::native::ToNative;
 use crate::view::View;
-use rkyv_btree_base::check::Portable;
-use rkyv_btree_base::map::ArchivedBTreeMap;
-use rkyv_btree_base::scalars::ArchivedNonZeroU32;
-use rkyv_btree_base::set::ArchivedBTreeSet;
-use rkyv_btree_base::text::ArchivedText;
-use rkyv_btree_base::util::Entry;
+use rkyv_btree_portable::check::Portable;
+use rkyv_btree_portable::entry::Entry;
+use rkyv_btree_portable::scalars::ArchivedNonZeroU32;
+use rkyv_btree_portable::text::ArchivedText;
+use rkyv_btree_types::map::ArchivedBTreeMap;
+use rkyv_btree_types::set::ArchivedBTreeSet;
 use std::fmt;
 
 /// An archived type whose views can be shown in messages.
@@ -74,15 +71,5 @@ impl<K: ViewDebug, const E: usize> ViewDebug for ArchivedBTreeSet<K, E> {
 impl<'a, T: ViewDebug> fmt::Debug for View<'a, T> {
     fn fmt<W: fmt::Write>(&self, f: &mut fmt::Formatter<W>) -> fmt::Result {
         T::show(self, f)
-    }
-}
-
-impl<'a> fmt::Display for View<'a, ArchivedText> {
-    ghost output = { λ view. Some (view_value view) };
-
-    ghost styled_output = { λ view spec. Some (styled_text spec (view_value view)) };
-
-    fn fmt<W: fmt::Write>(&self, f: &mut fmt::Formatter<W>) -> fmt::Result {
-        f.pad(self.as_str())
     }
 }

@@ -1,11 +1,11 @@
 //! Views of entries.
 ghost use Rattle.std.specs.Prelude.{◌≡◌, ◌+◌};
-ghost use Rattle.rkyv_btree_base.specs.Entry.{value_offset};
+ghost use Rattle.rkyv_btree_portable.specs.Entry.{value_offset};
 ghost use Rattle.rkyv_btree_view.specs.View.{view_value};
 
 use crate::view::View;
-use rkyv_btree_base::check::Portable;
-use rkyv_btree_base::util::{Entry, value_offset};
+use rkyv_btree_portable::check::Portable;
+use rkyv_btree_portable::entry::{Entry, value_offset};
 use std::marker::PhantomData;
 
 impl<'a, K: Portable, V: Portable> View<'a, Entry<K, V>> {

@@ -2,9 +2,9 @@
 ghost use Rattle.std.specs.Prelude.{◌≡◌, ◌+◌, length, IsTrue};
 ghost use Rattle.std.specs.Iterator.{IsFinite};
 ghost use Rattle.rkyv_btree_view.specs.Items.{ShowsAll};
-ghost use Rattle.rkyv_btree_base.specs.Layout.{layout_of};
-ghost use Rattle.rkyv_btree_base.specs.Read.{entry_at};
-ghost use Rattle.rkyv_btree_base.specs.Views.{stands};
+ghost use Rattle.rkyv_btree_format.specs.Layout.{layout_of};
+ghost use Rattle.rkyv_btree_format.specs.Read.{entry_at};
+ghost use Rattle.rkyv_btree_portable.specs.Views.{stands};
 ghost use Rattle.rkyv_btree_walk.specs.EntryPlaces.{entry_places, place_of};
 ghost use Rattle.rkyv_btree_walk.specs.mirror.Along.{walk_left, IsWalk};
 ghost use Rattle.rkyv_btree_walk.specs.mirror.Node.{RunStands};
@@ -13,8 +13,8 @@ ghost use Rattle.rkyv_btree_view.specs.View.{view_entry, entries_of};
 
 use crate::map_view::ShowsEntries;
 use crate::view::View;
-use rkyv_btree_base::check::Portable;
-use rkyv_btree_base::map::ArchivedBTreeMap;
+use rkyv_btree_portable::check::Portable;
+use rkyv_btree_types::map::ArchivedBTreeMap;
 use rkyv_btree_walk::archived_map::ArchivedMap;
 use rkyv_btree_walk::entry_place::EntryPlace;
 use rkyv_btree_walk::entry_walk::{Walk, last_in_leaf, start, step, step_in_leaf};

@@ -1,12 +1,12 @@
 //! Iterators over the keys and over the values of a map.
 ghost use Rattle.std.specs.Prelude.{◌≡◌, length, map};
-ghost use Rattle.std.specs.Iterator.{IsFinite};
+ghost use Rattle.std.specs.Iterator.{IsFinite, size};
 ghost use Rattle.rkyv_btree_view.specs.Items.{ShowsAll};
 ghost use Rattle.rkyv_btree_view.specs.View.{view_value, entries_of};
 
 use crate::iter::Iter;
 use crate::view::View;
-use rkyv_btree_base::check::Portable;
+use rkyv_btree_portable::check::Portable;
 use rkyv_btree_walk::archived_map::ArchivedMap;
 use std::iter::FusedIterator;
 
@@ -110,6 +110,9 @@ impl<'a, K: Portable, V: Portable, M: ArchivedMap<Key = K, Mapped = V>> View<'a,
         ensures yields { ShowsAll ⟦<Keys<'a, M> as Iterator>⟧.next_gives view_value result
             (map (λ e. e.0) (entries_of K.kind V.kind M.E self.entry)) }
         ensures ends { IsFinite (⟦<Keys<'a, M> as Iterator>⟧.remaining result) }
+        // It is what `len` returns.
+        ensures count { size (⟦<Keys<'a, M> as Iterator>⟧.remaining result)
+            ≡ length (entries_of K.kind V.kind M.E self.entry) }
     {
         Keys {
             entries: self.walk(),
@@ -121,6 +124,9 @@ impl<'a, K: Portable, V: Portable, M: ArchivedMap<Key = K, Mapped = V>> View<'a,
         ensures yields { ShowsAll ⟦<Values<'a, M> as Iterator>⟧.next_gives view_value result
             (map (λ e. e.1) (entries_of K.kind V.kind M.E self.entry)) }
         ensures ends { IsFinite (⟦<Values<'a, M> as Iterator>⟧.remaining result) }
+        // It is what `len` returns.
+        ensures count { size (⟦<Values<'a, M> as Iterator>⟧.remaining result)
+            ≡ length (entries_of K.kind V.kind M.E self.entry) }
     {
         Values {
             entries: self.walk(),

@@ -6,12 +6,12 @@ ghost use Rattle.std.specs.BTreeMap.{is_at};
 ghost use Rattle.std.specs.Map.{lookup};
 ghost use Rattle.std.specs.Option.{option_map};
 ghost use Rattle.std.specs.Prelude.{◌≡◌, ◌+◌, ◌*◌, ◌≤◌, [], Contains, IsSome, IfSome, Some};
-ghost use Rattle.rkyv_btree_base.specs.Increasing.{Increasing};
-ghost use Rattle.rkyv_btree_base.specs.Read.{entry_at};
+ghost use Rattle.rkyv_btree_format.specs.Increasing.{Increasing};
+ghost use Rattle.rkyv_btree_format.specs.Read.{entry_at};
 ghost use Rattle.rkyv_btree_view.specs.Lookup.{found_in, comparisons_in, height_of, IsComplete};
 ghost use Rattle.rkyv_btree_view.specs.Lookup.{ByComparison, ByNative};
 ghost use Rattle.rkyv_btree_view.specs.Lookup.{FoundIsEqual, IncreasingIsFound, SearchedIsSpelled, SearchedIsLow};
-ghost use Rattle.rkyv_btree_view.specs.Lookups.{IsEntryLookup, IsLookup, IsLookupWith, IsWhetherFound};
+ghost use Rattle.rkyv_btree_view.specs.Lookups.{IsEntryLookup, IsLookup, IsLookupWith, IsNativeLookup, IsWhetherFound};
 ghost use Rattle.rkyv_btree_view.specs.Native.{ByReading};
 ghost use Rattle.rkyv_btree_view.specs.Query.{IsCut};
 ghost use Rattle.rkyv_btree_view.specs.View.{view_value, view_entry, entries_of};
@@ -24,8 +24,8 @@ use crate::iter::entry;
 use crate::map_view::ShowsEntries;
 use crate::native::ToNative;
 use crate::view::View;
-use rkyv_btree_base::check::Portable;
-use rkyv_btree_base::steps::StepCounter;
+use rkyv_btree_portable::check::Portable;
+use rkyv_btree_portable::steps::StepCounter;
 use rkyv_btree_walk::archived_map::ArchivedMap;
 use rkyv_btree_walk::entry_place::EntryPlace;
 use rkyv_btree_walk::search::{Compared, search};
@@ -223,18 +223,9 @@ impl<'a, K: Portable, V: ToNative, M: ArchivedMap<Key = K, Mapped = V> + ShowsEn
     pub fn get_native_by<T: Drop>(self, key: T) -> Option<V::Native>
     where
         K: CompareWith<T>,
-        // If the keys increase, it is the native value of what std's map finds.
-        ensures sorted { ByReading V.kind V.read_native (λ native.
+        ensures { ByReading V.kind V.read_native (λ native.
             ByNative K.kind K.compared_at key (λ comparison.
-            Increasing K.kind.order (entries_of K.kind V.kind M.E self.entry) →
-            result ≡ option_map native (lookup (is_at comparison)
-            (entries_of K.kind V.kind M.E self.entry)))) }
-        // On each map it is the native value of the entry at which the search ends.
-        ensures found { ByReading V.kind V.read_native (λ native.
-            ByNative K.kind K.compared_at key (λ comparison. result ≡ option_map native
-            (option_map (λ e. e.1) (found_in K.kind V.kind M.E self.entry comparison)))) }
-        ensures complete { ByNative K.kind K.compared_at key (λ comparison.
-            IsComplete K.kind V.kind M.E self.entry comparison (IsSome result)) }
+            IsNativeLookup K.kind V.kind M.E self.entry comparison native result)) }
     {
         match self.get_by(key) {
             None => None,

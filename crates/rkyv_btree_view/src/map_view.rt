@@ -1,15 +1,15 @@
 //! Archived maps, read in place: where a view of one is made, and how many entries it has.
 ghost use Rattle.std.specs.Prelude.{◌≡◌, ◌↔◌, ◌≤◌, [], IsTrue, IsOk, IfOk, Err, length};
-ghost use Rattle.rkyv_btree_base.specs.Refusal.{Refusal};
-ghost use Rattle.rkyv_btree_base.specs.Refusals.{RefusesMap};
-ghost use Rattle.rkyv_btree_base.specs.Layout.{are_fitting};
+ghost use Rattle.rkyv_btree_portable.specs.declared.refusal.Refusal.{Refusal};
+ghost use Rattle.rkyv_btree_verify.specs.Refusals.{RefusesMap};
+ghost use Rattle.rkyv_btree_format.specs.Layout.{are_fitting};
 ghost use Rattle.rkyv_btree_view.specs.Map.{IsMap};
 ghost use Rattle.rkyv_btree_view.specs.View.{view_value, entries_of};
 
 use crate::view::View;
-use rkyv_btree_base::check::{CheckBytes, Portable};
-use rkyv_btree_base::map::ArchivedBTreeMap;
-use rkyv_btree_base::refusal::Refusal;
+use rkyv_btree_portable::check::{CheckBytes, Portable};
+use rkyv_btree_portable::refusal::Refusal;
+use rkyv_btree_types::map::ArchivedBTreeMap;
 use rkyv_btree_walk::archived_map::{ArchivedMap, map_len};
 use std::marker::PhantomData;
 

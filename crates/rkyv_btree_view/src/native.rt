@@ -1,17 +1,17 @@
 //! Archived types whose values are native ones.
 ghost use Rattle.std.specs.Prelude.{◌≡◌, ◌+◌, ◌≤◌, ℕ, List, length};
 ghost use Rattle.std.specs.Int.NonZero.{non_zero_u32_get};
-ghost use Rattle.rkyv_btree_base.specs.Bytes.{from_le, bytes_at};
-ghost use Rattle.rkyv_btree_base.specs.Scalars.{u8_kind, i8_kind, bool_kind, unit_kind, char_kind, non_zero_kind, u16_kind};
-ghost use Rattle.rkyv_btree_base.specs.Scalars.{i16_kind, u32_kind, i32_kind, u64_kind, i64_kind};
+ghost use Rattle.rkyv_btree_portable.specs.Bytes.{from_le, bytes_at};
+ghost use Rattle.rkyv_btree_portable.specs.Scalars.{u8_kind, i8_kind, bool_kind, unit_kind, char_kind, non_zero_kind, u16_kind};
+ghost use Rattle.rkyv_btree_portable.specs.Scalars.{i16_kind, u32_kind, i32_kind, u64_kind, i64_kind};
 ghost use Rattle.rkyv_btree_view.specs.Native.{ReadAs, as_itself};
 
 use crate::view::View;
-use rkyv_btree_base::bytes::num32;
-use rkyv_btree_base::check::Portable;
-use rkyv_btree_base::numbers::{ArchivedU16, ArchivedU32, ArchivedU64};
-use rkyv_btree_base::scalars::{ArchivedChar, ArchivedNonZeroU32};
-use rkyv_btree_base::signed::{ArchivedI16, ArchivedI32, ArchivedI64};
+use rkyv_btree_portable::bytes::num32;
+use rkyv_btree_portable::check::Portable;
+use rkyv_btree_portable::numbers::{ArchivedU16, ArchivedU32, ArchivedU64};
+use rkyv_btree_portable::scalars::{ArchivedChar, ArchivedNonZeroU32};
+use rkyv_btree_portable::signed::{ArchivedI16, ArchivedI32, ArchivedI64};
 use std::fmt::Debug;
 use std::hash::Hash;
 use std::num::NonZeroU32;
@@ -189,7 +189,7 @@ impl View<'_, ArchivedNonZeroU32> {
 }
 
 /// The number of the two bytes at `pos`.
-fn num16(buf: &[u8], pos: u32) -> u16
+pub(crate) fn num16(buf: &[u8], pos: u32) -> u16
     requires { pos + 2 ≤ length buf.now }
     ensures { result ≡ from_le (bytes_at buf.now pos 2) }
 {
@@ -198,7 +198,7 @@ fn num16(buf: &[u8], pos: u32) -> u16
 }
 
 /// The number of the eight bytes at `pos`.
-fn num64(buf: &[u8], pos: u32) -> u64
+pub(crate) fn num64(buf: &[u8], pos: u32) -> u64
     requires { pos + 8 ≤ length buf.now }
     ensures { result ≡ from_le (bytes_at buf.now pos 8) }
 {

@@ -2,7 +2,7 @@
 ghost use Rattle.std.specs.Prelude.{◌≡◌, length, IsTrue};
 ghost use Rattle.std.specs.Range.Bound.{bound_map};
 ghost use Rattle.std.specs.declared.ops.Bound.TheVariants.{Unbounded};
-ghost use Rattle.rkyv_btree_base.specs.Views.{stands};
+ghost use Rattle.rkyv_btree_portable.specs.Views.{stands};
 ghost use Rattle.rkyv_btree_view.specs.Ranges.{IsBetween, IsRange};
 ghost use Rattle.rkyv_btree_view.specs.View.{view_value, view_entry, entries_of};
 ghost use Rattle.rkyv_btree_walk.specs.Bounds.{ByBounds, IsWithin};
@@ -14,7 +14,7 @@ use crate::compare_native::CompareWith;
 use crate::iter::entry;
 use crate::map_view::ShowsEntries;
 use crate::view::View;
-use rkyv_btree_base::check::Portable;
+use rkyv_btree_portable::check::Portable;
 use rkyv_btree_walk::archived_map::ArchivedMap;
 use rkyv_btree_walk::range_walk::{RangeWalk, start_between, step_before};
 use rkyv_btree_walk::shows::Shows;

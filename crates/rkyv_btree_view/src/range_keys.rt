@@ -4,7 +4,7 @@ ghost use Rattle.rkyv_btree_view.specs.View.{view_value};
 
 use crate::range::Range;
 use crate::view::View;
-use rkyv_btree_base::check::Portable;
+use rkyv_btree_portable::check::Portable;
 use rkyv_btree_walk::archived_map::ArchivedMap;
 use std::iter::FusedIterator;
 

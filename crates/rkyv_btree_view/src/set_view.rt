@@ -1,13 +1,13 @@
 //! Archived sets, read in place: maps of which the keys alone are shown.
 ghost use Rattle.std.specs.Prelude.{◌≡◌, ◌↔◌, ◌≤◌, [], length, Err, IsTrue, IsOk, IfOk};
-ghost use Rattle.std.specs.Iterator.{IsFinite};
+ghost use Rattle.std.specs.Iterator.{IsFinite, size};
 ghost use Rattle.std.specs.Option.{option_map};
 ghost use Rattle.std.specs.Range.Bound.{bound_map};
 ghost use Rattle.std.specs.declared.ops.Bound.TheVariants.{Unbounded};
-ghost use Rattle.rkyv_btree_base.specs.Layout.{are_fitting};
-ghost use Rattle.rkyv_btree_base.specs.Refusal.{Refusal};
-ghost use Rattle.rkyv_btree_base.specs.Refusals.{RefusesMap};
-ghost use Rattle.rkyv_btree_base.specs.Scalars.{unit_kind};
+ghost use Rattle.rkyv_btree_format.specs.Layout.{are_fitting};
+ghost use Rattle.rkyv_btree_portable.specs.declared.refusal.Refusal.{Refusal};
+ghost use Rattle.rkyv_btree_verify.specs.Refusals.{RefusesMap};
+ghost use Rattle.rkyv_btree_portable.specs.Scalars.{unit_kind};
 ghost use Rattle.rkyv_btree_view.specs.Items.{ShowsAll};
 ghost use Rattle.rkyv_btree_view.specs.Lookup.{ByNative};
 ghost use Rattle.rkyv_btree_view.specs.Lookups.{IsKeyLookup, IsWhetherKeyFound};
@@ -23,10 +23,10 @@ use crate::keys::Keys;
 use crate::map_view::access_valid as map_valid;
 use crate::range_keys::RangeKeys;
 use crate::view::View;
-use rkyv_btree_base::check::{CheckBytes, Portable};
-use rkyv_btree_base::map::ArchivedBTreeMap;
-use rkyv_btree_base::refusal::Refusal;
-use rkyv_btree_base::set::ArchivedBTreeSet;
+use rkyv_btree_portable::check::{CheckBytes, Portable};
+use rkyv_btree_portable::refusal::Refusal;
+use rkyv_btree_types::map::ArchivedBTreeMap;
+use rkyv_btree_types::set::ArchivedBTreeSet;
 use std::marker::PhantomData;
 use std::ops::{Bound, RangeBounds};
 
@@ -113,6 +113,9 @@ impl<'a, K: Portable, const E: usize> View<'a, ArchivedBTreeSet<K, E>> {
         ensures yields { ShowsAll ⟦<Iter<'a, K, E> as Iterator>⟧.next_gives view_value result
             (keys_of K.kind E self.entry) }
         ensures ends { IsFinite (⟦<Iter<'a, K, E> as Iterator>⟧.remaining result) }
+        // It is what `len` returns.
+        ensures count { size (⟦<Iter<'a, K, E> as Iterator>⟧.remaining result)
+            ≡ length (keys_of K.kind E self.entry) }
     {
         self.as_map().keys()
     }

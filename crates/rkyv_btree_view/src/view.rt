@@ -1,12 +1,12 @@
 //! Values in a buffer.
 ghost use Rattle.std.specs.Prelude.{◌≡◌, ◌↔◌, IsTrue, IsOk, IfOk, Err, ⊤};
-ghost use Rattle.rkyv_btree_base.specs.Views.{stands, MeansAt};
-ghost use Rattle.rkyv_btree_base.specs.Refusal.{Refusal};
+ghost use Rattle.rkyv_btree_portable.specs.Views.{stands, MeansAt};
+ghost use Rattle.rkyv_btree_portable.specs.declared.refusal.Refusal.{Refusal};
 
-use rkyv_btree_base::check::{CheckBytes, Portable, Window};
-use rkyv_btree_base::refusal::Refusal;
-use rkyv_btree_base::text::ArchivedText;
 use rkyv_btree_portable::bytes::{num32, pointed_at};
+use rkyv_btree_portable::check::{CheckBytes, Portable, Window};
+use rkyv_btree_portable::refusal::Refusal;
+use rkyv_btree_portable::text::ArchivedText;
 use rkyv_btree_walk::shows::Shows;
 use std::alloc::AllocError;
 use std::convert::AsStr;

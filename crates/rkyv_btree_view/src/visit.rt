@@ -1,5 +1,5 @@
 //! Visits of all entries of a map.
-ghost use Rattle.rkyv_btree_base.specs.Scalars.{unit_kind};
+ghost use Rattle.rkyv_btree_portable.specs.Scalars.{unit_kind};
 ghost use Rattle.rkyv_btree_walk.specs.Search.{shown_value};
 ghost use Rattle.rkyv_btree_walk.specs.Visit.{Visited, shown_both};
 ghost use Rattle.rkyv_btree_view.specs.Set.{VisitedKeys};
@@ -9,7 +9,7 @@ ghost use Rattle.std.specs.Prelude.{map};
 use crate::map_view::ShowsEntries;
 use crate::view::View;
 use arrayvec::ArrayVec;
-use rkyv_btree_base::check::Portable;
+use rkyv_btree_portable::check::Portable;
 use rkyv_btree_walk::archived_map::ArchivedMap;
 use rkyv_btree_walk::path::begin;
 use rkyv_btree_walk::shows::Shows;

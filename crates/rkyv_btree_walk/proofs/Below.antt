@@ -1,13 +1,13 @@
 -- Paths below a root, as nodes are put on them and taken from them; and what stands below a root that stands.
 use Rattle.std.proofs.Common.{◌≡◌, ℕ, zero, suc, ◌+◌, ◌≤◌, ◌<◌, List, [], ◌∷◌, ◌++◌, length, refl, arith, Option, Some, false, IsTrue, inl, inr}
 use Rattle.std.proofs.lemmas.Bool.{cases_lt, eq-eqb, ne_eqb}
-use Rattle.rkyv_btree_base.specs.Bytes.{number_at, place_at}
-use Rattle.rkyv_btree_base.specs.Kind.{Kind, IsLawful}
-use Rattle.rkyv_btree_base.specs.Layout.{NodeLayout, layout_of}
-use Rattle.rkyv_btree_base.specs.Map.{map_kind}
-use Rattle.rkyv_btree_base.specs.Read.{read_map}
-use Rattle.rkyv_btree_base.specs.Views.{stands}
-use Rattle.rkyv_btree_base.proofs.MapLaws.{map_length}
+use Rattle.rkyv_btree_portable.specs.Bytes.{number_at, place_at}
+use Rattle.rkyv_btree_portable.specs.Kind.{Kind, IsLawful}
+use Rattle.rkyv_btree_format.specs.Layout.{NodeLayout, layout_of}
+use Rattle.rkyv_btree_verify.specs.Map.{map_kind}
+use Rattle.rkyv_btree_format.specs.Read.{read_map}
+use Rattle.rkyv_btree_portable.specs.Views.{stands}
+use Rattle.rkyv_btree_verify.proofs.MapLaws.{map_length}
 use Rattle.rkyv_btree_walk.specs.Below.{root_place, IsBelow, PathBelow, RunBelow, WalkBelow}
 use Rattle.rkyv_btree_walk.specs.Nodes.{natural, is_leaf, child_place}
 use Rattle.rkyv_btree_walk.specs.mirror.Node.{TreeStands, RunStands}

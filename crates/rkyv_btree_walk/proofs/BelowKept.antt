@@ -3,15 +3,15 @@
 use Rattle.std.proofs.Common.{◌≡◌, ℕ, zero, suc, ◌+◌, ◌-◌, ◌≤◌, ◌<◌, List, [], ◌∷◌, ◌++◌, length, refl, sym, ap, ◌∙◌, arith, Bool, true, false, Option, Some, None, inl, inr, IsTrue}
 use Rattle.std.specs.Prelude.{ℤ, pos, negsuc, nat_eq}
 use Rattle.std.proofs.lemmas.Bool.{cases_Bool, cases_lt, eq-eqb}
-use Rattle.rkyv_btree_base.specs.Bytes.{number_at, target_at, place_at}
-use Rattle.rkyv_btree_base.specs.Kind.{Kind, IsLawful}
-use Rattle.rkyv_btree_base.specs.Layout.{NodeLayout, layout_of, len_at, pointer_at}
-use Rattle.rkyv_btree_base.specs.Map.{map_kind}
-use Rattle.rkyv_btree_base.specs.Read.{run, child_of, row_at, tree_at, tree_of, map_tree}
-use Rattle.rkyv_btree_base.specs.Tree.{Tree, leaf, inner, Row, last, step, Child, absent, child, row_entries, list, row_list}
-use Rattle.rkyv_btree_base.specs.Views.{stands}
-use Rattle.rkyv_btree_base.specs.laws.Views.{fitting_of}
-use Rattle.rkyv_btree_base.proofs.Sizes.{sound_of}
+use Rattle.rkyv_btree_portable.specs.Bytes.{number_at, target_at, place_at}
+use Rattle.rkyv_btree_portable.specs.Kind.{Kind, IsLawful}
+use Rattle.rkyv_btree_format.specs.Layout.{NodeLayout, layout_of, len_at, pointer_at}
+use Rattle.rkyv_btree_verify.specs.Map.{map_kind}
+use Rattle.rkyv_btree_format.specs.Read.{run, child_of, row_at, tree_at, tree_of, map_tree}
+use Rattle.rkyv_btree_shape.specs.Tree.{Tree, leaf, inner, Row, last, step, Child, absent, child, row_entries, list, row_list}
+use Rattle.rkyv_btree_portable.specs.Views.{stands}
+use Rattle.rkyv_btree_portable.specs.laws.Views.{fitting_of}
+use Rattle.rkyv_btree_format.proofs.Sizes.{sound_of}
 use Rattle.rkyv_btree_walk.specs.Below.{root_place, IsBelow, PathBelow, RunBelow, WalkBelow}
 use Rattle.rkyv_btree_walk.specs.Nodes.{natural, is_leaf, entry_count, child_place}
 use Rattle.rkyv_btree_walk.specs.Paths.{row_rest, node_rest, path_rest, walk_rest}

@@ -6,7 +6,7 @@ use Rattle.std.specs.List.{All, HoldsAt}
 use Rattle.std.specs.Option.{option_map}
 use Rattle.std.specs.declared.cmp.Ordering.{Ordering}
 use Rattle.std.specs.declared.cmp.Ordering.TheVariants.{Less, Equal, Greater}
-use Rattle.rkyv_btree_base.specs.Tree.{Tree, leaf, inner, Row, last, step, Child, absent, child, list, row_list, child_list}
+use Rattle.rkyv_btree_shape.specs.Tree.{Tree, leaf, inner, Row, last, step, Child, absent, child, list, row_list, child_list}
 use Rattle.std.specs.Ordering.{match_ordering}
 use Rattle.rkyv_btree_walk.specs.Search.{IsSearch, compared_in_leaf, compared_entries, compared_in_row, compared_in_child, first_equal, probe, OrderedBy, AnyHit, IsHit}
 

@@ -3,6 +3,7 @@ pub mod AtOnce
 pub mod Below
 pub mod BelowKept
 pub mod Hits
+pub mod Lasts
 pub mod Listed
 pub mod Nodes
 pub mod NodesApart

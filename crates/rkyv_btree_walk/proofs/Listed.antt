@@ -1,9 +1,9 @@
 -- The entries of a node and of its children are those of its tree. These speak of what is left from its
 -- first child on: the list of a tree of 32 levels would unfold, level by level, in each goal that names it.
 use Rattle.std.proofs.Common.{◌≡◌, ℕ, zero, suc, ◌+◌, ◌≤◌, ◌<◌, List, [], ◌∷◌, ◌++◌, refl, sym, subst, arith, Some}
-use Rattle.rkyv_btree_base.specs.Layout.{NodeLayout}
-use Rattle.rkyv_btree_base.specs.Read.{tree_at}
-use Rattle.rkyv_btree_base.specs.Tree.{list}
+use Rattle.rkyv_btree_format.specs.Layout.{NodeLayout}
+use Rattle.rkyv_btree_format.specs.Read.{tree_at}
+use Rattle.rkyv_btree_shape.specs.Tree.{list}
 use Rattle.rkyv_btree_walk.specs.Nodes.{entry_count, child_place}
 use Rattle.rkyv_btree_walk.specs.Paths.{node_rest, child_list}
 use Rattle.rkyv_btree_walk.specs.mirror.Path.{tree_rest}

@@ -2,13 +2,13 @@
 use Rattle.std.proofs.Common.{◌≡◌, ℕ, zero, suc, ◌+◌, ◌≤◌, ◌<◌, IsTrue, List, [], ◌∷◌, length, refl, arith, true, false, Option, Some, None, slice_index, inl, inr}
 use Rattle.std.proofs.lemmas.Bool.{eq-eqb, ne_eqb, cases_lt, cases_Bool}
 use Rattle.std.specs.Prelude.{ℤ, pos, negsuc}
-use Rattle.rkyv_btree_base.specs.Bytes.{target_at}
-use Rattle.rkyv_btree_base.specs.Kind.{Kind, IsLawful}
-use Rattle.rkyv_btree_base.specs.Layout.{layout_of, are_fitting, pointer_at}
-use Rattle.rkyv_btree_base.specs.Spells.{Entries, Spells, SpellsRow, SpellsChild}
-use Rattle.rkyv_btree_base.specs.Tree.{Tree, leaf, inner, Row, last, step, Child, absent, child, row_entries, height, row_height, child_height}
-use Rattle.rkyv_btree_base.specs.laws.Views.{stands_of}
-use Rattle.rkyv_btree_base.proofs.Sizes.{room_of}
+use Rattle.rkyv_btree_portable.specs.Bytes.{target_at}
+use Rattle.rkyv_btree_portable.specs.Kind.{Kind, IsLawful}
+use Rattle.rkyv_btree_format.specs.Layout.{layout_of, are_fitting, pointer_at}
+use Rattle.rkyv_btree_format.specs.Spells.{Entries, Spells, SpellsRow, SpellsChild}
+use Rattle.rkyv_btree_shape.specs.Tree.{Tree, leaf, inner, Row, last, step, Child, absent, child, row_entries, height, row_height, child_height}
+use Rattle.rkyv_btree_portable.specs.laws.Views.{stands_of}
+use Rattle.rkyv_btree_format.proofs.Sizes.{room_of}
 use Rattle.rkyv_btree_walk.specs.mirror.Node.{EntryStands, LeadsBefore, NodeStands, TreeStands}
 use Rattle.rkyv_btree_walk.specs.Nodes.{natural, is_leaf, child_place}
 

@@ -1,18 +1,18 @@
 -- The entries of a map are in nodes that share no byte, or at different numbers of one node: so no two have one place.
 use Rattle.std.proofs.Common.{◌≡◌, ℕ, zero, suc, ◌+◌, ◌≤◌, ◌<◌, ◌⊎◌, inl, inr, IsTrue, List, ◌∷◌, ◌++◌, length, refl, sym, ap, subst, ◌∙◌, arith, slice_index, nat_eq, false}
 use Rattle.std.proofs.lemmas.Bool.{eq-eqb, ne_eqb, and_left, and_right, cases_Bool}
-use Rattle.rkyv_btree_base.specs.Bytes.{target_at, number_at}
-use Rattle.rkyv_btree_base.specs.Kind.{Kind, IsLawful}
-use Rattle.rkyv_btree_base.specs.Layout.{layout_of, len_at, leaf_size, inner_size, pointer_at}
-use Rattle.rkyv_btree_base.specs.Map.{map_kind}
-use Rattle.rkyv_btree_base.specs.Read.{run, child_of, row_at, tree_at, tree_of}
-use Rattle.rkyv_btree_base.specs.Spells.{Accepted, Spells, SpellsRow, SpellsChild, root_size}
-use Rattle.rkyv_btree_base.specs.Tree.{Tree, leaf, inner, Row, last, step, Child, absent, child, list, row_list, child_list, row_entries, height, row_height, child_height}
-use Rattle.rkyv_btree_base.specs.Views.{stands}
-use Rattle.rkyv_btree_base.specs.laws.Views.{means_read, fitting_of}
-use Rattle.rkyv_btree_base.proofs.Local.{child_from, row_from}
-use Rattle.rkyv_btree_base.proofs.MapLaws.{map_laws}
-use Rattle.rkyv_btree_base.proofs.Sizes.{follow, sound_of}
+use Rattle.rkyv_btree_portable.specs.Bytes.{target_at, number_at}
+use Rattle.rkyv_btree_portable.specs.Kind.{Kind, IsLawful}
+use Rattle.rkyv_btree_format.specs.Layout.{layout_of, len_at, leaf_size, inner_size, pointer_at}
+use Rattle.rkyv_btree_verify.specs.Map.{map_kind}
+use Rattle.rkyv_btree_format.specs.Read.{run, child_of, row_at, tree_at, tree_of}
+use Rattle.rkyv_btree_format.specs.Spells.{Accepted, Spells, SpellsRow, SpellsChild, root_size}
+use Rattle.rkyv_btree_shape.specs.Tree.{Tree, leaf, inner, Row, last, step, Child, absent, child, list, row_list, child_list, row_entries, height, row_height, child_height}
+use Rattle.rkyv_btree_portable.specs.Views.{stands}
+use Rattle.rkyv_btree_portable.specs.laws.Views.{means_read, fitting_of}
+use Rattle.rkyv_btree_format.proofs.Local.{child_from, row_from}
+use Rattle.rkyv_btree_verify.proofs.MapLaws.{map_laws}
+use Rattle.rkyv_btree_format.proofs.Sizes.{follow, sound_of}
 use Rattle.rkyv_btree_walk.specs.EntryPlaces.{entry_places, size_at}
 use Rattle.rkyv_btree_walk.specs.Remaining.{is_place}
 use Rattle.rkyv_btree_walk.proofs.Pairs.{Each, Pairs, each_more, each_append, pairs_append, pairs_more}

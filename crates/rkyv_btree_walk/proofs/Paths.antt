@@ -3,11 +3,11 @@ use Rattle.std.proofs.Common.{◌≡◌, ℕ, zero, suc, ◌+◌, ◌-◌, ◌�
 use Rattle.std.proofs.lemmas.Bool.{cases_Bool}
 use Rattle.std.proofs.lemmas.List.{append-nil}
 use Rattle.std.specs.Prelude.{ℤ, pos, negsuc}
-use Rattle.rkyv_btree_base.specs.Bytes.{number_at, target_at}
-use Rattle.rkyv_btree_base.specs.Kind.{Kind}
-use Rattle.rkyv_btree_base.specs.Layout.{NodeLayout, layout_of, len_at, pointer_at}
-use Rattle.rkyv_btree_base.specs.Read.{run, child_of, row_at, tree_at}
-use Rattle.rkyv_btree_base.specs.Tree.{list, row_list, child_list as tree_child_list}
+use Rattle.rkyv_btree_portable.specs.Bytes.{number_at, target_at}
+use Rattle.rkyv_btree_portable.specs.Kind.{Kind}
+use Rattle.rkyv_btree_format.specs.Layout.{NodeLayout, layout_of, len_at, pointer_at}
+use Rattle.rkyv_btree_format.specs.Read.{run, child_of, row_at, tree_at}
+use Rattle.rkyv_btree_shape.specs.Tree.{list, row_list, child_list as tree_child_list}
 use Rattle.rkyv_btree_walk.specs.Bounds.{IsLastOf}
 use Rattle.rkyv_btree_walk.specs.Nodes.{natural, is_leaf, entry_count, child_place}
 use Rattle.rkyv_btree_walk.specs.mirror.Node.{NodeStands, TreeStands, RunStands}

@@ -4,7 +4,7 @@ use Rattle.std.proofs.Math.Bool.{Bool-set}
 use Rattle.std.specs.Coded.{le_prop, Coded-set, coded_list, coded×, coded_ℕ}
 use Rattle.std.specs.Prelude.{ℤ, pos, negsuc}
 use mathlib.Core.Logic.{∥∥₁_elim}
-use Rattle.rkyv_btree_base.specs.Kind.{Kind}
+use Rattle.rkyv_btree_portable.specs.Kind.{Kind}
 use Rattle.rkyv_btree_walk.specs.mirror.Node.{EntryStands, LeadsBefore, NodeStands, TreeStands, RunStands}
 use Rattle.rkyv_btree_walk.specs.mirror.Path.{IsPath}
 

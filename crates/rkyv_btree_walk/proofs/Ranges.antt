@@ -8,8 +8,8 @@ use Rattle.std.specs.declared.cmp.Ordering.{Ordering}
 use Rattle.std.specs.declared.cmp.Ordering.TheVariants.{Less, Equal, Greater}
 use Rattle.std.specs.declared.ops.Bound.{Bound}
 use Rattle.std.specs.declared.ops.Bound.TheVariants.{Included, Excluded, Unbounded}
-use Rattle.rkyv_btree_base.specs.Layout.{NodeLayout}
-use Rattle.rkyv_btree_base.specs.Read.{run}
+use Rattle.rkyv_btree_format.specs.Layout.{NodeLayout}
+use Rattle.rkyv_btree_format.specs.Read.{run}
 use Rattle.rkyv_btree_walk.specs.Bounds.{IsRun, is_from, is_to, OrderedFor}
 use Rattle.rkyv_btree_walk.specs.mirror.Range.{is_reached, AllPass, Rises, is_past, first_of, first_passes}
 use Rattle.rkyv_btree_walk.specs.Paths.{range_rest}

@@ -3,16 +3,16 @@ use Rattle.std.proofs.Common.{◌≡◌, ℕ, ◌+◌, ◌*◌, ◌≤◌, ◌<�
 use Rattle.std.proofs.lemmas.Bool.{cases_lt, eq-eqb, ne_eqb}
 use Rattle.std.specs.Prelude.{ℤ, pos, negsuc}
 use Rattle.std.specs.declared.cmp.Ordering.{Ordering}
-use Rattle.rkyv_btree_base.specs.Bytes.{number_at, place_at}
-use Rattle.rkyv_btree_base.specs.Kind.{Kind, IsLawful}
-use Rattle.rkyv_btree_base.specs.Layout.{NodeLayout, layout_of}
-use Rattle.rkyv_btree_base.specs.Map.{map_kind}
-use Rattle.rkyv_btree_base.specs.Read.{tree_of, map_tree, read_map}
-use Rattle.rkyv_btree_base.specs.Spells.{SpellsRoot}
-use Rattle.rkyv_btree_base.specs.Tree.{list, height}
-use Rattle.rkyv_btree_base.specs.Views.{stands}
-use Rattle.rkyv_btree_base.specs.laws.Views.{means_read, fitting_of}
-use Rattle.rkyv_btree_base.proofs.MapLaws.{map_laws, map_length, map_short}
+use Rattle.rkyv_btree_portable.specs.Bytes.{number_at, place_at}
+use Rattle.rkyv_btree_portable.specs.Kind.{Kind, IsLawful}
+use Rattle.rkyv_btree_format.specs.Layout.{NodeLayout, layout_of}
+use Rattle.rkyv_btree_verify.specs.Map.{map_kind}
+use Rattle.rkyv_btree_format.specs.Read.{tree_of, map_tree, read_map}
+use Rattle.rkyv_btree_format.specs.Spells.{SpellsRoot}
+use Rattle.rkyv_btree_shape.specs.Tree.{list, height}
+use Rattle.rkyv_btree_portable.specs.Views.{stands}
+use Rattle.rkyv_btree_portable.specs.laws.Views.{means_read, fitting_of}
+use Rattle.rkyv_btree_verify.proofs.MapLaws.{map_laws, map_length, map_short}
 use Rattle.rkyv_btree_walk.specs.Search.{compared_entries, probe}
 use Rattle.rkyv_btree_walk.specs.mirror.Search.{searched, searched_map}
 use Rattle.rkyv_btree_walk.specs.Nodes.{natural}

@@ -5,11 +5,11 @@ use Rattle.std.proofs.lemmas.Bool.{cases_lt, cases_Bool}
 use Rattle.std.specs.Prelude.{ℤ, pos, negsuc}
 use Rattle.std.specs.declared.cmp.Ordering.{Ordering}
 use Rattle.std.specs.declared.cmp.Ordering.TheVariants.{Less, Equal, Greater}
-use Rattle.rkyv_btree_base.specs.Bytes.{number_at, target_at}
-use Rattle.rkyv_btree_base.specs.Kind.{Kind}
-use Rattle.rkyv_btree_base.specs.Layout.{NodeLayout, layout_of, len_at, pointer_at}
-use Rattle.rkyv_btree_base.specs.Read.{run, child_of, row_at, tree_at}
-use Rattle.rkyv_btree_base.specs.Tree.{Tree, Row, last, step, Child, absent, child, height, row_height, child_height}
+use Rattle.rkyv_btree_portable.specs.Bytes.{number_at, target_at}
+use Rattle.rkyv_btree_portable.specs.Kind.{Kind}
+use Rattle.rkyv_btree_format.specs.Layout.{NodeLayout, layout_of, len_at, pointer_at}
+use Rattle.rkyv_btree_format.specs.Read.{run, child_of, row_at, tree_at}
+use Rattle.rkyv_btree_shape.specs.Tree.{Tree, Row, last, step, Child, absent, child, height, row_height, child_height}
 use Rattle.std.specs.Ordering.{match_ordering}
 use Rattle.rkyv_btree_walk.specs.Search.{compared_in_leaf, compared_entries, compared_in_row, compared_in_child, first_equal, compared_of}
 use Rattle.rkyv_btree_walk.specs.declared.search.Stop.TheVariants.{At, Before}

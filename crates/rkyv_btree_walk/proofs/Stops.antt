@@ -4,9 +4,9 @@ use Rattle.std.specs.Prelude.{filter}
 use Rattle.std.proofs.lemmas.Bool.{cases_Bool, cases_lt}
 use Rattle.std.proofs.lemmas.List.{append-nil, take_all}
 use Rattle.std.proofs.Math.Seq.{split_at, take-suc}
-use Rattle.rkyv_btree_base.specs.Kind.{Kind}
-use Rattle.rkyv_btree_base.specs.Layout.{NodeLayout, layout_of}
-use Rattle.rkyv_btree_base.specs.Read.{run}
+use Rattle.rkyv_btree_portable.specs.Kind.{Kind}
+use Rattle.rkyv_btree_format.specs.Layout.{NodeLayout, layout_of}
+use Rattle.rkyv_btree_format.specs.Read.{run}
 use Rattle.rkyv_btree_walk.specs.Visit.{or_else}
 use Rattle.rkyv_btree_walk.specs.Nodes.{is_leaf, entry_count, child_place}
 use Rattle.rkyv_btree_walk.specs.mirror.Node.{TreeStands}

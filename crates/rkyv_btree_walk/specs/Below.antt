@@ -1,8 +1,8 @@
 -- How the nodes of a walk hang together with a root: all are reached from it by pointers. This names no kinds and no
 -- meanings: it stays true while values are overwritten, since the tree that is read stays the same.
 use Rattle.std.specs.Prelude.{◌≡◌, ℕ, zero, suc, ◌+◌, ◌≤◌, ◌<◌, List, [], ◌∷◌, Option, Some, None, false, nat_eq, if◌then◌else◌}
-use Rattle.rkyv_btree_base.specs.Bytes.{number_at, place_at}
-use Rattle.rkyv_btree_base.specs.Layout.{NodeLayout}
+use Rattle.rkyv_btree_portable.specs.Bytes.{number_at, place_at}
+use Rattle.rkyv_btree_format.specs.Layout.{NodeLayout}
 use Rattle.rkyv_btree_walk.specs.Nodes.{natural, is_leaf, entry_count, child_place}
 
 -- the root node of the map at a position, if it has entries

@@ -1,9 +1,9 @@
 -- The entries of a map by their places: the node of an entry, and its number there.
 use Rattle.std.specs.Prelude.{ℕ, List, slice_index, nat_eq, if◌then◌else◌}
-use Rattle.rkyv_btree_base.specs.Kind.{Kind}
-use Rattle.rkyv_btree_base.specs.Layout.{NodeLayout, layout_of, leaf_size, inner_size}
-use Rattle.rkyv_btree_base.specs.Read.{map_tree}
-use Rattle.rkyv_btree_base.specs.Tree.{list}
+use Rattle.rkyv_btree_portable.specs.Kind.{Kind}
+use Rattle.rkyv_btree_format.specs.Layout.{NodeLayout, layout_of, leaf_size, inner_size}
+use Rattle.rkyv_btree_format.specs.Read.{map_tree}
+use Rattle.rkyv_btree_shape.specs.Tree.{list}
 use Rattle.rkyv_btree_walk.specs.declared.entry_place.EntryPlace.{EntryPlace}
 
 -- the node of an entry, and its number there

@@ -1,7 +1,7 @@
 -- How a node is read: its kind, its entries, and where its pointers lead.
 use Rattle.std.specs.Prelude.{ℕ, ◌+◌, List, Option, Some, None, Bool, ℤ, pos, negsuc, slice_index, nat_eq, if◌then◌else◌}
-use Rattle.rkyv_btree_base.specs.Bytes.{number_at, target_at}
-use Rattle.rkyv_btree_base.specs.Layout.{NodeLayout, len_at, pointer_at}
+use Rattle.rkyv_btree_portable.specs.Bytes.{number_at, target_at}
+use Rattle.rkyv_btree_format.specs.Layout.{NodeLayout, len_at, pointer_at}
 
 -- a place in a buffer, where it isn't before its start
 abbrev pub natural : Option ℤ → Option ℕ

@@ -1,9 +1,9 @@
 -- What is left of a path of nodes from the root on, each with the number of its next entry, and of a leaf below it.
 use Rattle.std.specs.Prelude.{ℕ, zero, suc, ◌+◌, ◌-◌, List, [], ◌∷◌, ◌++◌, Option, Some, None, if◌then◌else◌}
-use Rattle.rkyv_btree_base.specs.Bytes.{number_at}
-use Rattle.rkyv_btree_base.specs.Layout.{NodeLayout, len_at}
-use Rattle.rkyv_btree_base.specs.Read.{run, row_at, tree_at}
-use Rattle.rkyv_btree_base.specs.Tree.{Tree, list, row_list}
+use Rattle.rkyv_btree_portable.specs.Bytes.{number_at}
+use Rattle.rkyv_btree_format.specs.Layout.{NodeLayout, len_at}
+use Rattle.rkyv_btree_format.specs.Read.{run, row_at, tree_at}
+use Rattle.rkyv_btree_shape.specs.Tree.{Tree, list, row_list}
 use Rattle.rkyv_btree_walk.specs.Nodes.{is_leaf}
 use Rattle.rkyv_btree_walk.specs.Remaining.{take_before}
 

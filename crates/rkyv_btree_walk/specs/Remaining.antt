@@ -1,7 +1,7 @@
 -- Which entries remain of a walk between bounds: those of the map's list from the first that the walk notes on, up to its stop. Entries are
 -- given by their places.
 use Rattle.std.specs.Prelude.{ℕ, List, [], ◌∷◌, Option, Some, None, Bool, false, ◌&&◌, ◌||◌, nat_eq, nat_lt, if◌then◌else◌}
-use Rattle.rkyv_btree_base.specs.Kind.{Kind}
+use Rattle.rkyv_btree_portable.specs.Kind.{Kind}
 use Rattle.rkyv_btree_walk.specs.EntryPlaces.{entry_places}
 use Rattle.rkyv_btree_walk.specs.declared.range_walk.RangeWalk.{RangeWalk}
 

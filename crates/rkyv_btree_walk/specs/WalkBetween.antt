@@ -1,8 +1,8 @@
 -- Walks between bounds of a map: which places they note, and what is left of them. Entries are given by their places.
 use Rattle.std.specs.Prelude.{◌≡◌, ℕ, ◌-◌, ◌≤◌, ◌<◌, ◌⊎◌, List, [], ◌∷◌, ◌++◌, Option, Some, false}
-use Rattle.rkyv_btree_base.specs.Kind.{Kind}
-use Rattle.rkyv_btree_base.specs.Layout.{NodeLayout, layout_of}
-use Rattle.rkyv_btree_base.specs.Read.{run}
+use Rattle.rkyv_btree_portable.specs.Kind.{Kind}
+use Rattle.rkyv_btree_format.specs.Layout.{NodeLayout, layout_of}
+use Rattle.rkyv_btree_format.specs.Read.{run}
 use Rattle.rkyv_btree_walk.specs.Below.{root_place, WalkBelow}
 use Rattle.rkyv_btree_walk.specs.Bounds.{IsEnd}
 use Rattle.rkyv_btree_walk.specs.EntryPlaces.{entry_places}

@@ -1,15 +1,15 @@
 //! Types of archived maps, and how many entries a map has.
 ghost use Rattle.std.specs.Prelude.{◌≡◌, ◌≤◌, ◌+◌, ℕ, IsTrue, length};
-ghost use Rattle.rkyv_btree_base.specs.Layout.{layout_of, are_fitting, key_at, value_at, len_at, leaf_size, pointer_at, inner_size};
-ghost use Rattle.rkyv_btree_base.specs.Map.{map_kind};
-ghost use Rattle.rkyv_btree_base.specs.Read.{read_map};
-ghost use Rattle.rkyv_btree_base.specs.Views.{stands};
+ghost use Rattle.rkyv_btree_format.specs.Layout.{layout_of, are_fitting, key_at, value_at, len_at, leaf_size, pointer_at, inner_size};
+ghost use Rattle.rkyv_btree_verify.specs.Map.{map_kind};
+ghost use Rattle.rkyv_btree_format.specs.Read.{read_map};
+ghost use Rattle.rkyv_btree_portable.specs.Views.{stands};
 
-use rkyv_btree_base::bytes::num32;
-use rkyv_btree_base::check::Portable;
-use rkyv_btree_base::layout;
-use rkyv_btree_base::map::ArchivedBTreeMap;
-use rkyv_btree_base::set::ArchivedBTreeSet;
+use rkyv_btree_format::layout;
+use rkyv_btree_portable::bytes::num32;
+use rkyv_btree_portable::check::Portable;
+use rkyv_btree_types::map::ArchivedBTreeMap;
+use rkyv_btree_types::set::ArchivedBTreeSet;
 
 /// A type of archived maps: what its keys and values are, and their positions in a node. A walk is over such a type.
 /// Positions in a node count from its first byte, which is its kind.

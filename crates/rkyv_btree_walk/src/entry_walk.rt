@@ -1,7 +1,7 @@
 //! A walk along all entries of a map, by their places. Iterators and cursors are made of it.
 ghost use Rattle.std.specs.Prelude.{◌≡◌, ℕ, ◌+◌, ◌-◌, ◌≤◌, List, ◌∷◌, IfNone, IfSome, IsTrue};
-ghost use Rattle.rkyv_btree_base.specs.Layout.{layout_of};
-ghost use Rattle.rkyv_btree_base.specs.Views.{stands};
+ghost use Rattle.rkyv_btree_format.specs.Layout.{layout_of};
+ghost use Rattle.rkyv_btree_portable.specs.Views.{stands};
 ghost use Rattle.rkyv_btree_walk.specs.Bounds.{IsEnd, IsLastOf};
 ghost use Rattle.rkyv_btree_walk.specs.EntryPlaces.{entry_places, place_of};
 ghost use Rattle.rkyv_btree_walk.specs.mirror.Along.{walk_left, IsWalk, Takes};
@@ -11,7 +11,7 @@ use crate::archived_map::{ArchivedMap, map_len};
 use crate::entry_place::EntryPlace;
 use crate::path::{Path, advance, begin};
 use arrayvec::ArrayVec;
-use rkyv_btree_base::check::Portable;
+use rkyv_btree_portable::check::Portable;
 
 /// The state of a walk: the entries that remain of a leaf, and the path above it.
 #[derive(Drop)]

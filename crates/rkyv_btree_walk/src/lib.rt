@@ -4,6 +4,7 @@
 pub mod archived_map;
 pub mod entry_place;
 pub mod entry_walk;
+pub mod last_entry;
 pub mod many;
 pub mod node;
 pub mod path;

@@ -1,8 +1,8 @@
 //! Searches of a map for many keys side by side, level by level, so that a processor waits for the nodes of several at once.
 ghost use Rattle.std.specs.Prelude.{◌≡◌, IfSome, IsTrue, ◌+◌, ℕ, true, false};
 ghost use Rattle.std.specs.declared.cmp.Ordering.{Ordering as Comparison};
-ghost use Rattle.rkyv_btree_base.specs.Layout.{layout_of};
-ghost use Rattle.rkyv_btree_base.specs.Views.{stands};
+ghost use Rattle.rkyv_btree_format.specs.Layout.{layout_of};
+ghost use Rattle.rkyv_btree_portable.specs.Views.{stands};
 ghost use Rattle.rkyv_btree_walk.specs.Ends.{end_of};
 ghost use Rattle.rkyv_btree_walk.specs.Nodes.{is_leaf as is_leaf_at};
 ghost use Rattle.rkyv_btree_walk.specs.Search.{shown_value};
@@ -15,7 +15,7 @@ use crate::archived_map::{ArchivedMap, map_len};
 use crate::node::{child, is_leaf, leaf_count, root};
 use crate::search::{Compared, Stop, search_node};
 use crate::shows::Shows;
-use rkyv_btree_base::check::Portable;
+use rkyv_btree_portable::check::Portable;
 
 /// So many searches go on side by side.
 pub const SIDE_BY_SIDE: usize = 16;

@@ -1,13 +1,13 @@
 //! The nodes of an archived map: where their entries and their children stand.
 ghost use Rattle.std.specs.Prelude.{◌≡◌, ◌+◌, ◌≤◌, ◌<◌, length, IsTrue, Some, true, false};
-ghost use Rattle.rkyv_btree_base.specs.Bytes.{place_at, number_at};
-ghost use Rattle.rkyv_btree_base.specs.Layout.{layout_of, are_fitting, key_at, value_at, leaf_size, len_at};
+ghost use Rattle.rkyv_btree_portable.specs.Bytes.{place_at, number_at};
+ghost use Rattle.rkyv_btree_format.specs.Layout.{layout_of, are_fitting, key_at, value_at, leaf_size, len_at};
 ghost use Rattle.rkyv_btree_walk.specs.Nodes.{natural, is_leaf as is_leaf_at, child_place};
 ghost use Rattle.rkyv_btree_walk.specs.mirror.Node.{LeadsBefore, NodeStands};
 
 use crate::archived_map::ArchivedMap;
-use rkyv_btree_base::bytes::{num32, target};
-use rkyv_btree_base::check::Portable;
+use rkyv_btree_portable::bytes::{num32, target};
+use rkyv_btree_portable::check::Portable;
 
 /// Returns the position of a node, which is before `end`.
 fn node_at(place: i64, end: u32) -> u32

@@ -1,10 +1,10 @@
 //! Steps along the entries of a tree, over the path of nodes from its root.
 ghost use Rattle.std.specs.Prelude.{◌≡◌, ℕ, ◌+◌, ◌-◌, ◌≤◌, ◌<◌, [], ◌++◌, length, Option, Some, None, IfSome, IsSome, IsTrue, true, false};
-ghost use Rattle.rkyv_btree_base.specs.Bytes.{number_at};
-ghost use Rattle.rkyv_btree_base.specs.Layout.{layout_of, len_at, are_fitting};
-ghost use Rattle.rkyv_btree_base.specs.Read.{map_tree};
-ghost use Rattle.rkyv_btree_base.specs.Tree.{list};
-ghost use Rattle.rkyv_btree_base.specs.Views.{stands};
+ghost use Rattle.rkyv_btree_portable.specs.Bytes.{number_at};
+ghost use Rattle.rkyv_btree_format.specs.Layout.{layout_of, len_at, are_fitting};
+ghost use Rattle.rkyv_btree_format.specs.Read.{map_tree};
+ghost use Rattle.rkyv_btree_shape.specs.Tree.{list};
+ghost use Rattle.rkyv_btree_portable.specs.Views.{stands};
 ghost use Rattle.rkyv_btree_walk.specs.Below.{root_place, IsBelow, PathBelow};
 ghost use Rattle.rkyv_btree_walk.specs.mirror.Below.{LeafBelow, StepStaysBelow};
 ghost use Rattle.rkyv_btree_walk.specs.Nodes.{is_leaf as is_leaf_at, child_place};
@@ -15,7 +15,7 @@ ghost use Rattle.rkyv_btree_walk.specs.Paths.{path_rest};
 use crate::archived_map::{ArchivedMap, map_len};
 use crate::node::{child, is_leaf, leaf_count, root};
 use arrayvec::ArrayVec;
-use rkyv_btree_base::check::Portable;
+use rkyv_btree_portable::check::Portable;
 
 /// The inner nodes from the root on, one a level, each with the number of its next entry. A tree has at most 32 levels.
 pub type Path = ArrayVec<(u32, u32), 32>;

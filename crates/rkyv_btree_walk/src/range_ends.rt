@@ -3,12 +3,12 @@ ghost use Rattle.std.specs.Prelude.{◌≡◌, ℕ, ◌+◌, ◌≤◌, ◌<◌,
 ghost use Rattle.std.specs.Range.Bound.{bound_map};
 ghost use Rattle.std.specs.declared.cmp.Ordering.{Ordering as Comparison};
 ghost use Rattle.std.specs.declared.ops.Bound.TheVariants.{Unbounded};
-ghost use Rattle.rkyv_btree_base.specs.Bytes.{place_at};
-ghost use Rattle.rkyv_btree_base.specs.Layout.{layout_of, are_fitting};
-ghost use Rattle.rkyv_btree_base.specs.Map.{map_kind};
-ghost use Rattle.rkyv_btree_base.specs.Read.{map_tree, read_map};
-ghost use Rattle.rkyv_btree_base.specs.Tree.{list};
-ghost use Rattle.rkyv_btree_base.specs.Views.{stands};
+ghost use Rattle.rkyv_btree_portable.specs.Bytes.{place_at};
+ghost use Rattle.rkyv_btree_format.specs.Layout.{layout_of, are_fitting};
+ghost use Rattle.rkyv_btree_verify.specs.Map.{map_kind};
+ghost use Rattle.rkyv_btree_format.specs.Read.{map_tree, read_map};
+ghost use Rattle.rkyv_btree_shape.specs.Tree.{list};
+ghost use Rattle.rkyv_btree_portable.specs.Views.{stands};
 ghost use Rattle.rkyv_btree_walk.specs.Bounds.{IsRun, IsWithin, ByBounds, IsEnd};
 ghost use Rattle.rkyv_btree_walk.specs.EntryPlaces.{entry_places};
 ghost use Rattle.rkyv_btree_walk.specs.Remaining.{is_stop as stops_at, take_before};
@@ -29,7 +29,7 @@ use crate::node::{key_pos, root};
 use crate::path::{Leaf, Path, Step, climb, descend, next_leaf};
 use crate::seek::{Part, first_reaching, reaches, seek};
 use crate::shows::Shows;
-use rkyv_btree_base::check::Portable;
+use rkyv_btree_portable::check::Portable;
 use std::cmp::Ordering;
 use std::ops::Bound;
 

@@ -1,9 +1,9 @@
 //! A walk along the entries of a map between two bounds, by their places. Ranges and cursors of ranges are made of it.
 ghost use Rattle.std.specs.Prelude.{◌≡◌, ℕ, ◌+◌, List, IfSome, IsTrue, map};
 ghost use Rattle.std.specs.declared.ops.Bound.TheVariants.{Unbounded};
-ghost use Rattle.rkyv_btree_base.specs.Layout.{layout_of};
-ghost use Rattle.rkyv_btree_base.specs.Read.{entry_at, read_map};
-ghost use Rattle.rkyv_btree_base.specs.Views.{stands};
+ghost use Rattle.rkyv_btree_format.specs.Layout.{layout_of};
+ghost use Rattle.rkyv_btree_format.specs.Read.{entry_at, read_map};
+ghost use Rattle.rkyv_btree_portable.specs.Views.{stands};
 ghost use Rattle.rkyv_btree_walk.specs.Bounds.{IsRun, IsWithin, ByBounds};
 ghost use Rattle.rkyv_btree_walk.specs.EntryPlaces.{entry_places};
 ghost use Rattle.rkyv_btree_walk.specs.Remaining.{places_between};
@@ -19,7 +19,7 @@ use crate::range_ends::{advance_before, between};
 use crate::seek::Part;
 use crate::shows::Shows;
 use arrayvec::ArrayVec;
-use rkyv_btree_base::check::Portable;
+use rkyv_btree_portable::check::Portable;
 use std::cmp::Ordering;
 use std::ops::Bound;
 

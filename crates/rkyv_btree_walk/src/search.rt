@@ -1,10 +1,10 @@
 //! Searches of a map for an entry, by a comparison with its key.
 ghost use Rattle.std.specs.Prelude.{◌≡◌, ◌+◌, ◌*◌, ◌≤◌, length, IfSome, IsTrue};
 ghost use Rattle.std.specs.declared.cmp.Ordering.{Ordering as Comparison};
-ghost use Rattle.rkyv_btree_base.specs.Layout.{layout_of};
-ghost use Rattle.rkyv_btree_base.specs.Read.{read_map, map_tree};
-ghost use Rattle.rkyv_btree_base.specs.Tree.{list};
-ghost use Rattle.rkyv_btree_base.specs.Views.{stands};
+ghost use Rattle.rkyv_btree_format.specs.Layout.{layout_of};
+ghost use Rattle.rkyv_btree_format.specs.Read.{read_map, map_tree};
+ghost use Rattle.rkyv_btree_shape.specs.Tree.{list};
+ghost use Rattle.rkyv_btree_portable.specs.Views.{stands};
 ghost use Rattle.rkyv_btree_walk.specs.Search.{compared_of, shown_value};
 ghost use Rattle.rkyv_btree_walk.specs.mirror.Node.{RunStands, CanBeSearched, TreeCanBeRead};
 ghost use Rattle.rkyv_btree_walk.specs.mirror.Path.{tree_rest};
@@ -14,7 +14,7 @@ use crate::archived_map::{ArchivedMap, map_len};
 use crate::node::{child, is_leaf, key_pos, leaf_count, root};
 use crate::seek::is_one_number;
 use crate::shows::Shows;
-use rkyv_btree_base::check::Portable;
+use rkyv_btree_portable::check::Portable;
 use std::cmp::Ordering;
 
 /// What a search needs of a comparison: two results, so that it compiles to a test of each.

@@ -1,9 +1,9 @@
 //! Ways down to the first entry of a tree that reaches a query, beside which a range begins or stops.
 ghost use Rattle.std.specs.Prelude.{◌≡◌, ℕ, ◌+◌, ◌≤◌, ◌<◌, [], length, IsTrue, Some, true, false};
 ghost use Rattle.std.specs.declared.cmp.Ordering.{Ordering as Comparison};
-ghost use Rattle.rkyv_btree_base.specs.Bytes.{number_at};
-ghost use Rattle.rkyv_btree_base.specs.Layout.{layout_of, len_at, are_fitting};
-ghost use Rattle.rkyv_btree_base.specs.Views.{stands};
+ghost use Rattle.rkyv_btree_portable.specs.Bytes.{number_at};
+ghost use Rattle.rkyv_btree_format.specs.Layout.{layout_of, len_at, are_fitting};
+ghost use Rattle.rkyv_btree_portable.specs.Views.{stands};
 ghost use Rattle.rkyv_btree_walk.specs.Search.{ComparesBy, shown_value};
 ghost use Rattle.rkyv_btree_walk.specs.mirror.Below.{PartBelow};
 ghost use Rattle.rkyv_btree_walk.specs.Nodes.{is_leaf as is_leaf_at};
@@ -17,7 +17,7 @@ use crate::archived_map::ArchivedMap;
 use crate::node::{child, is_leaf, key_pos, leaf_count};
 use crate::path::Path;
 use crate::shows::Shows;
-use rkyv_btree_base::check::Portable;
+use rkyv_btree_portable::check::Portable;
 use std::cmp::Ordering;
 
 /// What is left of a leaf: its entries from number `next` to before number `end`.

@@ -1,8 +1,8 @@
 //! What shows the value at a place: a walk hands such views out, and needs no more of them.
 ghost use Rattle.std.specs.Prelude.{◌≡◌, ℕ, IsTrue, List};
-ghost use Rattle.rkyv_btree_base.specs.Views.{stands};
+ghost use Rattle.rkyv_btree_portable.specs.Views.{stands};
 
-use rkyv_btree_base::check::Portable;
+use rkyv_btree_portable::check::Portable;
 
 /// A type of views of `T`. `View<'a, T>` is the one: a call that takes a closure over views has a type parameter for
 /// each, which the closure's own types determine.

@@ -1,7 +1,7 @@
 //! The loop of a visit, along a leaf and the path above it.
 ghost use Rattle.std.specs.Prelude.{◌≡◌, ◌≤◌, ◌+◌, length, IsTrue};
-ghost use Rattle.rkyv_btree_base.specs.Layout.{are_fitting};
-ghost use Rattle.rkyv_btree_base.specs.Read.{entry_at};
+ghost use Rattle.rkyv_btree_format.specs.Layout.{are_fitting};
+ghost use Rattle.rkyv_btree_format.specs.Read.{entry_at};
 ghost use Rattle.rkyv_btree_walk.specs.mirror.Node.{RunStands};
 ghost use Rattle.rkyv_btree_walk.specs.mirror.Path.{IsPath, LeafStands, read_leaf_rest};
 ghost use Rattle.rkyv_btree_walk.specs.Visit.{Visited, shown_both};
@@ -10,7 +10,7 @@ use crate::archived_map::ArchivedMap;
 use crate::node::{key_pos, value_pos};
 use crate::path::{Leaf, Path, climb};
 use crate::shows::Shows;
-use rkyv_btree_base::check::Portable;
+use rkyv_btree_portable::check::Portable;
 use std::ops::ControlFlow;
 
 /// The views of entry `index` of the node at `node`.

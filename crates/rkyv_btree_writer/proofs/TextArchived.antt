@@ -14,15 +14,15 @@ use Rattle.rkyv_btree_writer.specs.Writing.{Write, appended}
 use Rattle.rkyv_btree_portable.specs.laws.Holding.{Holds-front, Holds-back}
 use Rattle.rkyv_btree_writer.proofs.HeldNumbers.{held_number, held_pointer}
 
-appended_text : (text : List ℕ) → appended (text_writes text) ≡ text
+pub appended_text : (text : List ℕ) → appended (text_writes text) ≡ text
 appended_text text = append-nil text
 
 -- own bytes that a buffer holds lead to the text's start, and give its length
 module _ (b : List ℕ) (at start len : ℕ) (fits : FitsText at start len) (short : length b ≤ 4294967295) (inside : at + 8 ≤ length b) (there : Holds b at (text_own at start len)) where
-  text_leads : start ≤ at → place_at b at ≡ pos start
+  pub text_leads : start ≤ at → place_at b at ≡ pos start
   text_leads before = held_pointer b at start fits.0 (omega arith) (omega arith) (Holds-front b at (pointer at start) (to_le_bytes w32 len) there)
 
-  text_count : text_len b at ≡ len
+  pub text_count : text_len b at ≡ len
   text_count = held_number b (at + 4) len (omega (arith, fits.1)) (Holds-back b at (pointer at start) (to_le_bytes w32 len) there)
 
 pub text_archived : {X : Type 0} (text : X → List ℕ) → IsArchived (text_archival text)
@@ -49,7 +49,7 @@ text_archived text x from at writes start own utf8 wrote is = (
       ),
 )
 
-not_long : (len : ℕ) → len ≤ 4294967295 → HasLong (len ∷ []) → ⊥
+pub not_long : (len : ℕ) → len ≤ 4294967295 → HasLong (len ∷ []) → ⊥
 not_long len few (inl long) = absurd (omega (arith, few, long))
 not_long len few (inr none) = none
 

@@ -6,4 +6,5 @@ pub mod Fields
 pub mod Archiving
 pub mod Causes
 pub mod TextArchival
+pub mod BytesArchival
 pub mod StdWriters

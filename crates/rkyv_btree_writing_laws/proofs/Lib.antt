@@ -29,8 +29,8 @@ pub mod ImagesDetermined
 pub mod TreeSerialised
 pub mod SmallestMaps
 pub mod OneTree
-pub mod Increasing
 pub mod Within
 pub mod Sets
 pub mod Built
 pub mod Whole
+pub mod MapsWritten

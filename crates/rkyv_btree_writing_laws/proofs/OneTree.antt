@@ -15,7 +15,8 @@ use Rattle.rkyv_btree_writer.specs.declared.fault.Fault.{Fault}
 use Rattle.rkyv_btree_writing_laws.specs.Imaged.{TreeImage}
 use Rattle.rkyv_btree_writing_laws.specs.OneTree.{IsOneTree, OneTreeWritten, BuildsOneTree, BuildsOneTreeSet}
 use Rattle.rkyv_btree_writing_laws.specs.Serialising.{Built, BuildsTree}
-use Rattle.rkyv_btree_writing_laws.specs.Sets.{unit_archival, unit_entries, with_units, BuildsSet}
+use Rattle.rkyv_btree_writing_laws.specs.Sets.{unit_archival, unit_entries, BuildsSet}
+use Rattle.rkyv_btree_format.specs.Units.{with_units}
 use Rattle.rkyv_btree_writing_laws.proofs.TreeSerialised.{keys_shown}
 use Rattle.rkyv_btree_writing_laws.proofs.TreesImaged.{child_imaged}
 use Rattle.rkyv_btree_writing_laws.specs.Entries.{now_of_key}

@@ -30,7 +30,8 @@ use Rattle.rkyv_btree_writer.specs.declared.fault.Fault.{Fault}
 use Rattle.rkyv_btree_writer.specs.Writing.{Writing, position, last_end}
 use Rattle.rkyv_btree_writing_laws.specs.Archives.{HoldsArchive}
 use Rattle.rkyv_btree_writing_laws.specs.Serialising.{Built, BuildsTree, Spelled}
-use Rattle.rkyv_btree_writing_laws.specs.Sets.{unit_archival, unit_entries, with_units, BuildsSet}
+use Rattle.rkyv_btree_writing_laws.specs.Sets.{unit_archival, unit_entries, BuildsSet}
+use Rattle.rkyv_btree_format.specs.Units.{with_units}
 use Rattle.rkyv_btree_writing_laws.specs.SmallestMaps.{AcceptedMap, of_tree, IsSmallestMap, map_at, entry_value, IsSmallestArchive, BuildsSmallest, BuildsSmallestSet, ArchivesItems, ArchivesKeys}
 use Rattle.rkyv_btree_writing_laws.proofs.Accepting.{root_held, accepted_empty, spelled_inside}
 use Rattle.rkyv_btree_writing_laws.proofs.Building.{spelled_of}

@@ -21,7 +21,8 @@ use Rattle.rkyv_btree_writing_laws.specs.Entries.{now_of, now_of_key}
 use Rattle.rkyv_btree_writing_laws.specs.Imaged.{EntryIn, ChildImage}
 use Rattle.rkyv_btree_writing_laws.specs.Miscounts.{IsMiscount}
 use Rattle.rkyv_btree_writing_laws.specs.Serialising.{Built, Serialised, StoppedBuilding, BuildFault}
-use Rattle.rkyv_btree_writing_laws.specs.Sets.{BuildsSet, entries_by, entry_borrowed, unit_archival, unit_entries, with_units}
+use Rattle.rkyv_btree_writing_laws.specs.Sets.{BuildsSet, entries_by, entry_borrowed, unit_archival, unit_entries}
+use Rattle.rkyv_btree_format.specs.Units.{with_units}
 use Rattle.rkyv_btree_writing_laws.specs.TreeArchival.{nodes, tree_archival, entry_lengths}
 use Rattle.rkyv_btree_writing_laws.specs.Written.{ChildStopped}
 use Rattle.rkyv_btree_portable.specs.Kind.{Kind, IsLawful}

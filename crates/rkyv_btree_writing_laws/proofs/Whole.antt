@@ -3,7 +3,8 @@ use Rattle.std.proofs.Common.{◌≡◌, ℕ, ◌+◌, ◌-◌, ◌<◌, ◌≤�
 use Rattle.std.proofs.lemmas.List.{append_assoc, length-append}
 use Rattle.rkyv_btree_writing_laws.proofs.Accepting.{held_between}
 use Rattle.rkyv_btree_writing_laws.proofs.Leaves.{length-padding}
-use Rattle.rkyv_btree_writing_laws.specs.Whole.{IsArchiveOf, IsPlaced, IsUnplaced, IsUnwritten, own_at, fresh}
+use Rattle.rkyv_btree_writing_laws.specs.Whole.{IsPlaced, IsUnplaced, IsUnwritten, fresh}
+use Rattle.rkyv_btree_format.specs.OwnBytes.{IsArchiveOf, own_at}
 use Rattle.rkyv_btree_portable.specs.Bytes.{Holds}
 use Rattle.rkyv_btree_portable.specs.Kind.{Kind, IsLawful}
 use Rattle.rkyv_btree_portable.specs.Rounding.{round_up}

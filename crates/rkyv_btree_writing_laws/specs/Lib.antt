@@ -14,6 +14,5 @@ pub mod Sets
 pub mod Whole
 pub mod SmallestMaps
 pub mod OneTree
-pub mod Increasing
 pub mod StrictBuilding
 pub mod Building

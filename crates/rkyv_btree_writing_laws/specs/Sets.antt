@@ -16,11 +16,7 @@ use Rattle.rkyv_btree_writer.specs.declared.fault.Fault.{Fault}
 abbrev pub unit_archival : Archival (Unit {0}) (Unit {0})
 unit_archival = native_archival unit_form
 
--- the entries of keys: each with a ()
-abbrev pub with_units : {M : Type 0} → List M → List (M × Unit {0})
-with_units keys = map (λ k. (k, tt)) keys
-
--- and of the keys that items lend
+-- the entries of the keys that items lend: each with a ()
 abbrev pub unit_entries : {I M : Type 0} → (I → M) → List I → List (M × Unit {0})
 unit_entries borrowed keys = map (λ k. (borrowed k, tt)) keys
 

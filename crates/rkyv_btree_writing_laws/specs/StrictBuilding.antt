@@ -12,7 +12,7 @@ use Rattle.rkyv_btree_writer.specs.Writing.{Writing, last_end}
 use Rattle.rkyv_btree_writer.specs.declared.fault.Fault.{Fault}
 use Rattle.rkyv_btree_writer.specs.declared.fault.Fault.TheVariants.{Length, LengthOverflow, PositionOverflow, OffsetOverflow, Writer, Memory, Entry, OutOfOrder}
 use Rattle.rkyv_btree_writing_laws.specs.Begun.{ChildBegun}
-use Rattle.rkyv_btree_writing_laws.specs.Increasing.{Increasing, IsOutOfOrder}
+use Rattle.rkyv_btree_format.specs.Increasing.{Increasing, IsOutOfOrder}
 use Rattle.rkyv_btree_writing_laws.specs.Sets.{unit_archival, entry_borrowed, entries_by, BuildsSet}
 use Rattle.rkyv_btree_writing_laws.specs.Serialising.{BeginClaimed, Serialised, StoppedBuilding, Miscounted}
 

@@ -1,5 +1,5 @@
--- Whole archives: the bytes of one value from position 0 on, its own at their end.
-use Rattle.std.specs.Prelude.{◌≡◌, ℕ, ◌+◌, ◌-◌, ◌≤◌, ◌<◌, ◌⊎◌, true, List, [], ◌∷◌, ◌++◌, length}
+-- Writing a whole archive: the bytes of one value from position 0 on, its own at their end.
+use Rattle.std.specs.Prelude.{◌≡◌, ℕ, ◌+◌, ◌≤◌, ◌<◌, ◌⊎◌, true, List, [], ◌∷◌, ◌++◌, length}
 use Rattle.rkyv_btree_portable.specs.Kind.{Kind}
 use Rattle.rkyv_btree_portable.specs.Rounding.{round_up}
 use Rattle.rkyv_btree_writer.specs.Archiving.{Archival, IsUnresolved, Serialises, IsUnserialised}
@@ -8,16 +8,6 @@ use Rattle.rkyv_btree_writer.specs.Writing.{Writing, position, Failed, Wrote, St
 use Rattle.rkyv_btree_writer.specs.declared.fault.Fault.{Fault}
 use Rattle.rkyv_btree_writer.specs.declared.fault.Fault.TheVariants.{Length, LengthOverflow, PositionOverflow, OffsetOverflow, Writer, Memory, Entry, OutOfOrder}
 use Rattle.rkyv_btree_writer.specs.declared.fault.ResolveFault.TheVariants as resolving
-
--- where the own bytes stand
-abbrev pub own_at : Kind → List ℕ → ℕ
-own_at kind bytes = length bytes - kind.size
-
--- the bytes are an archive of a value
-pub record IsArchiveOf (kind : Kind) (bytes : List ℕ) (v : kind.Value) : Type 0 where
-  pub room : kind.size ≤ length bytes
-  pub left : ℕ
-  pub means : kind.Means bytes 0 (own_at kind bytes) (own_at kind bytes) left v
 
 -- a writer in memory that holds nothing
 abbrev pub fresh : Writing

@@ -4,6 +4,7 @@ use crate::faults::mismatch;
 use crate::numbers::{archive, tens};
 use crate::same::same;
 use linked_list_allocator::LocalHeap;
+use rkyv_btree_base::build::BuildMap;
 use rkyv_btree_base::layout;
 use rkyv_btree_base::map::ArchivedBTreeMap;
 use rkyv_btree_base::numbers::ArchivedU32;

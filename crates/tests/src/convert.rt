@@ -3,6 +3,7 @@
 use rkyv_btree::map::access;
 use rkyv_btree::view::View;
 use rkyv_btree_base::archive::{Archive, Serialize};
+use rkyv_btree_base::build::BuildMap;
 use rkyv_btree_base::check::{CheckBytes, Portable};
 use rkyv_btree_base::fault::Fault;
 use rkyv_btree_base::layout;

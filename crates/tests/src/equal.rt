@@ -5,7 +5,7 @@ ghost use Rattle.rkyv_btree_base.specs.Alike.{AppendAlike};
 ghost use Rattle.rkyv_btree_base.specs.Writing.{position};
 
 use crate::same::same;
-use rkyv_btree_base::build::BTreeMapResolver;
+use rkyv_btree_base::build::{BTreeMapResolver, BuildMap};
 use rkyv_btree_base::fault::Fault;
 use rkyv_btree_base::laws::{natives_are_determined, texts_are_determined, trees_are_determined};
 use rkyv_btree_base::layout;

@@ -4,6 +4,7 @@ use crate::faults::tree;
 use crate::numbers::Numbers;
 use crate::same::same;
 use crate::texts::with_texts;
+use rkyv_btree_base::build::BuildMap;
 use rkyv_btree_base::fault::Fault;
 use rkyv_btree_base::layout;
 use rkyv_btree_base::map::ArchivedBTreeMap;

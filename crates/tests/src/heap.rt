@@ -5,6 +5,7 @@ use crate::numbers::Numbers;
 use crate::same::same;
 use crate::texts::with_texts;
 use linked_list_allocator::LocalHeap;
+use rkyv_btree_base::build::BuildMap;
 use rkyv_btree_base::fault::Fault;
 use rkyv_btree_base::layout;
 use rkyv_btree_base::map::ArchivedBTreeMap;

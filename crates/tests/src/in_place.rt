@@ -17,7 +17,7 @@ use std::process::Abort;
 use std::test::Fail;
 
 /// The value of key 1 is set in the map with the first entry: its archive is that of the map with the second entry then.
-fn is_replaced<VU, N, V>(
+pub(crate) fn is_replaced<VU, N, V>(
     rt: &impl Abort,
     alloc: Global,
     old: &[(u32, VU)],

@@ -2,6 +2,8 @@
 #![tactic(auto)]
 
 #[cfg(test)]
+mod byte_strings;
+#[cfg(test)]
 mod claims;
 #[cfg(test)]
 mod coded;
@@ -41,6 +43,8 @@ mod native_maps;
 mod natives;
 #[cfg(test)]
 mod numbers;
+#[cfg(test)]
+mod other_than_0;
 #[cfg(test)]
 mod pairs;
 #[cfg(test)]

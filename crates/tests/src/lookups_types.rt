@@ -38,7 +38,7 @@ where
 }
 
 /// In the map of some keys to numbers each key is found, by its view and by its query.
-fn are_found<KU, N, K>(
+pub(crate) fn are_found<KU, N, K>(
     rt: &impl Abort,
     alloc: Global,
     entries: &[(KU, u32)],

@@ -8,6 +8,7 @@ use rkyv_btree::strict::{access_strict, open_strict};
 use rkyv_btree::unverified::Unverified;
 use rkyv_btree::view::View;
 use rkyv_btree_base::archive::{Archive, Serialize};
+use rkyv_btree_base::build::BuildSet;
 use rkyv_btree_base::check::{CheckBytes, Portable};
 use rkyv_btree_base::fault::Fault;
 use rkyv_btree_base::layout;

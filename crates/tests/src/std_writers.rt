@@ -4,6 +4,7 @@ ghost use Rattle.std.specs.Prelude.{◌≡◌, [], ◌∷◌, IfOk, Some};
 use crate::faults::tree;
 use crate::numbers::Numbers;
 use crate::same::same;
+use rkyv_btree_base::build::BuildMap;
 use rkyv_btree_base::fault::Fault;
 use rkyv_btree_base::io_writer::IoWriter;
 use rkyv_btree_base::place::{VecWriter, Writer};

@@ -3,12 +3,12 @@ use Rattle.std.specs.Prelude.{◌≡◌, ℕ, ◌+◌, Bool, true, ◌&&◌, Lis
 use Rattle.std.specs.Cmp.Lexicographic.{pointwise}
 use Rattle.std.specs.declared.cmp.Ordering.{Ordering}
 use Rattle.std.proofs.Common.{refl, ap}
-use Rattle.rkyv_btree_base.specs.EntryFault.{EntryFault}
-use Rattle.rkyv_btree_base.specs.Kind.{Kind}
-use Rattle.rkyv_btree_base.specs.Layout.{layout_of, key_at, value_at}
-use Rattle.rkyv_btree_base.specs.Map.{map_kind}
-use Rattle.rkyv_btree_base.specs.Read.{map_tree, entry_at}
-use Rattle.rkyv_btree_base.specs.Tree.{list}
+use Rattle.rkyv_btree_writer.specs.declared.fault.EntryFault.{EntryFault}
+use Rattle.rkyv_btree_portable.specs.Kind.{Kind}
+use Rattle.rkyv_btree_format.specs.Layout.{layout_of, key_at, value_at}
+use Rattle.rkyv_btree_verify.specs.Map.{map_kind}
+use Rattle.rkyv_btree_format.specs.Read.{map_tree, entry_at}
+use Rattle.rkyv_btree_shape.specs.Tree.{list}
 use Rattle.rkyv_btree_convert.specs.Deserializing.{IsByMeaning, both}
 use Rattle.rkyv_btree_convert.specs.laws.Pairs.{pair_model_whole}
 use Rattle.rkyv_btree_convert.specs.Maps.{given_at, map_given, native_map, model_both}

@@ -4,19 +4,19 @@ use Rattle.std.specs.Option.{option_map}
 use Rattle.std.specs.Prelude.{◌≡◌, ◌+◌, ◌≤◌, ◌<◌, ℕ, IsTrue, List, Option, min}
 use Rattle.std.specs.declared.cmp.Ordering.{Ordering}
 use Rattle.std.specs.declared.cmp.Ordering.TheVariants.{Equal}
-use Rattle.rkyv_btree_base.specs.Kind.{Kind}
-use Rattle.rkyv_btree_base.specs.Views.{stands}
+use Rattle.rkyv_btree_portable.specs.Kind.{Kind}
+use Rattle.rkyv_btree_portable.specs.Views.{stands}
 use Rattle.rkyv_btree_source.specs.Reads.{Lengths, Part, NodeBytes, NodeReads, NodeTakes, keys_len, part_len, part_room}
-use Rattle.rkyv_btree_source.specs.declared.source_search.Hit.{Hit}
-use Rattle.rkyv_btree_source.specs.declared.source_search.Stop.{Stop}
-use Rattle.rkyv_btree_source.specs.declared.source_search.Stop.TheVariants.{At, Before}
-use Rattle.rkyv_btree_source.specs.declared.source_search.Step.{Step}
-use Rattle.rkyv_btree_source.specs.declared.source_search.Step.TheVariants.{Ends, Nothing, Below}
+use Rattle.rkyv_btree_source.specs.declared.search.Hit.{Hit}
+use Rattle.rkyv_btree_source.specs.declared.search.Stop.{Stop}
+use Rattle.rkyv_btree_source.specs.declared.search.Stop.TheVariants.{At, Before}
+use Rattle.rkyv_btree_source.specs.declared.search.Step.{Step}
+use Rattle.rkyv_btree_source.specs.declared.search.Step.TheVariants.{Ends, Nothing, Below}
 use Rattle.rkyv_btree_unverified.specs.Steps.{key_place, value_place, Asks, Gives, HasRoom, StopsBefore}
-use Rattle.rkyv_btree_unverified.specs.declared.unverified_search.Halt.{Halt}
-use Rattle.rkyv_btree_unverified.specs.declared.unverified_search.Halt.TheVariants.{Found, Below as HaltBelow}
-use Rattle.rkyv_btree_unverified.specs.declared.unverified_search.Next.{Next}
-use Rattle.rkyv_btree_unverified.specs.declared.unverified_search.Next.TheVariants.{Hit as NextHit, Miss, Down}
+use Rattle.rkyv_btree_unverified.specs.declared.search.Halt.{Halt}
+use Rattle.rkyv_btree_unverified.specs.declared.search.Halt.TheVariants.{Found, Below as HaltBelow}
+use Rattle.rkyv_btree_unverified.specs.declared.search.Next.{Next}
+use Rattle.rkyv_btree_unverified.specs.declared.search.Next.TheVariants.{Hit as NextHit, Miss, Down}
 
 abbrev pub halt_of : Stop → Halt
 halt_of (At i place) = Found i

@@ -2,14 +2,14 @@
 use Rattle.std.proofs.Common.{◌≡◌, ℕ, List, [], ◌∷◌, Option}
 use Rattle.std.proofs.Math.Bool.{Bool-set}
 use Rattle.std.specs.Coded.{le_prop, Coded-set, coded_ℕ, coded_option, coded_list, coded×}
-use Rattle.rkyv_btree_base.specs.Kind.{Kind}
-use Rattle.rkyv_btree_base.specs.Layout.{NodeLayout, layout_of}
-use Rattle.rkyv_btree_base.specs.Spells.{IsNodeAt}
+use Rattle.rkyv_btree_portable.specs.Kind.{Kind}
+use Rattle.rkyv_btree_format.specs.Layout.{NodeLayout, layout_of}
+use Rattle.rkyv_btree_format.specs.Spells.{IsNodeAt}
 use Rattle.rkyv_btree_unverified.specs.Left.{left_of}
 use Rattle.rkyv_btree_unverified.specs.mirror.Walked.{unverified_left, IsChain, IsWay, IsLeafRun, HasPhase, IsUnverifiedWalk, IsCounted, HasLeft}
-use Rattle.rkyv_btree_unverified.specs.declared.unverified_walk.Phase.{Phase}
-use Rattle.rkyv_btree_unverified.specs.declared.unverified_walk.Phase.TheVariants.{Descend, Advance, Over}
-use Rattle.rkyv_btree_unverified.specs.declared.unverified_walk.UnverifiedWalk.{UnverifiedWalk}
+use Rattle.rkyv_btree_unverified.specs.declared.walk.Phase.{Phase}
+use Rattle.rkyv_btree_unverified.specs.declared.walk.Phase.TheVariants.{Descend, Advance, Over}
+use Rattle.rkyv_btree_unverified.specs.declared.walk.UnverifiedWalk.{UnverifiedWalk}
 use Rattle.rkyv_btree_unverified.specs.Walks.{IsFaultless}
 use Rattle.rkyv_btree_unverified.specs.mirror.Faultless.{FaultlessLeft}
 use Rattle.rkyv_btree_walk.specs.Nodes.{child_place}

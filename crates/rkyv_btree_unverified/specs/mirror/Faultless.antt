@@ -1,12 +1,12 @@
 -- What is left of a walk in bytes that nobody has validated, where it is good: no step along it gives an error, and its keys and values are
 -- valid. This mirrors the code.
 use Rattle.std.specs.Prelude.{ℕ, zero, suc, ◌≤◌, ◌<◌, List, [], ◌∷◌, Some, Ok}
-use Rattle.rkyv_btree_base.specs.Kind.{Kind}
+use Rattle.rkyv_btree_portable.specs.Kind.{Kind}
 use Rattle.rkyv_btree_unverified.specs.Steps.{NodeGives, ChildGives, HeadGives}
 use Rattle.rkyv_btree_unverified.specs.Walks.{GivesNoError}
-use Rattle.rkyv_btree_unverified.specs.declared.unverified_walk.Phase.{Phase}
-use Rattle.rkyv_btree_unverified.specs.declared.unverified_walk.Phase.TheVariants.{Descend, Advance, Over}
-use Rattle.rkyv_btree_unverified.specs.declared.unverified_walk.UnverifiedWalk.{UnverifiedWalk}
+use Rattle.rkyv_btree_unverified.specs.declared.walk.Phase.{Phase}
+use Rattle.rkyv_btree_unverified.specs.declared.walk.Phase.TheVariants.{Descend, Advance, Over}
+use Rattle.rkyv_btree_unverified.specs.declared.walk.UnverifiedWalk.{UnverifiedWalk}
 use Rattle.rkyv_btree_walk.specs.mirror.Node.{EntryStands}
 
 module _ (K V : Kind) (E : ℕ) (b : List ℕ) where

@@ -4,13 +4,13 @@ use Rattle.std.specs.Prelude.{◌≡◌, ℕ, suc, ◌+◌, ◌≤◌, ◌<◌, 
 use Rattle.std.specs.Option.{ForSome}
 use Rattle.std.specs.Result.{ForOk}
 use Rattle.std.specs.declared.cmp.Ordering.{Ordering}
-use Rattle.rkyv_btree_base.specs.Kind.{Kind}
-use Rattle.rkyv_btree_base.specs.Refusal.{Refusal}
+use Rattle.rkyv_btree_portable.specs.Kind.{Kind}
+use Rattle.rkyv_btree_portable.specs.declared.refusal.Refusal.{Refusal}
 use Rattle.rkyv_btree_unverified.specs.Ends.{result_of, way_at}
 use Rattle.rkyv_btree_unverified.specs.Lookups.{LookupGives, TreeGives}
 use Rattle.rkyv_btree_unverified.specs.Steps.{HasRoom}
-use Rattle.rkyv_btree_unverified.specs.declared.unverified_many.UnverifiedWay.{UnverifiedWay}
-use Rattle.rkyv_btree_unverified.specs.declared.unverified_many.UnverifiedWay.TheVariants.{On, Ended}
+use Rattle.rkyv_btree_unverified.specs.declared.many.UnverifiedWay.{UnverifiedWay}
+use Rattle.rkyv_btree_unverified.specs.declared.many.UnverifiedWay.TheVariants.{On, Ended}
 use Rattle.rkyv_btree_view.specs.Lookup.{ByNative}
 use Rattle.rkyv_btree_walk.specs.mirror.Node.{RunStands}
 

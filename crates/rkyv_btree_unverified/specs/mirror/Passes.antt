@@ -2,18 +2,18 @@
 use Rattle.std.specs.Prelude.{◌≡◌, ℕ, zero, suc, ◌+◌, ◌≤◌, ◌<◌, ◌%◌, List, Option, Some, None, Result, Ok, Err, false, min, slice_index}
 use Rattle.std.specs.declared.cmp.Ordering.{Ordering}
 use Rattle.std.specs.declared.cmp.Ordering.TheVariants.{Equal}
-use Rattle.rkyv_btree_base.specs.Kind.{Kind}
-use Rattle.rkyv_btree_base.specs.Layout.{NodeLayout, layout_of, leaf_size, inner_size, align}
-use Rattle.rkyv_btree_base.specs.Refusal.{Refusal}
+use Rattle.rkyv_btree_portable.specs.Kind.{Kind}
+use Rattle.rkyv_btree_format.specs.Layout.{NodeLayout, layout_of, leaf_size, inner_size, align}
+use Rattle.rkyv_btree_portable.specs.declared.refusal.Refusal.{Refusal}
 use Rattle.rkyv_btree_unverified.specs.Lookups.{TreeGives}
 use Rattle.rkyv_btree_unverified.specs.Steps.{HasRoom}
 use Rattle.rkyv_btree_walk.specs.Nodes.{is_leaf, entry_count, child_place}
 use Rattle.rkyv_btree_walk.specs.mirror.Node.{EntryStands, TreeStands, RunStands}
 use Rattle.rkyv_btree_walk.specs.mirror.Search.{searched}
-use Rattle.rkyv_btree_unverified.specs.declared.unverified_search.Halt.{Halt}
-use Rattle.rkyv_btree_unverified.specs.declared.unverified_search.Next.{Next}
-use Rattle.rkyv_btree_unverified.specs.declared.unverified_search.Next.TheVariants.{Hit, Miss, Down}
-use Rattle.rkyv_btree_unverified.specs.declared.unverified_search.Halt.TheVariants.{Found, Below}
+use Rattle.rkyv_btree_unverified.specs.declared.search.Halt.{Halt}
+use Rattle.rkyv_btree_unverified.specs.declared.search.Next.{Next}
+use Rattle.rkyv_btree_unverified.specs.declared.search.Next.TheVariants.{Hit, Miss, Down}
+use Rattle.rkyv_btree_unverified.specs.declared.search.Halt.TheVariants.{Found, Below}
 
 module _ (s : NodeLayout) (b : List ℕ) where
   -- the node at p passes the checks of a node in front of hi

@@ -1,15 +1,15 @@
 -- Where a walk in bytes that nobody has validated begins at a low bound, and where it stops at a high one. This mirrors the code.
 use Rattle.std.specs.Prelude.{◌≡◌, ◌≢◌, ℕ, ◌+◌, ◌-◌, ◌*◌, ◌≤◌, ◌<◌, List, Result, Ok, Err, Bool}
 use Rattle.std.specs.declared.cmp.Ordering.{Ordering}
-use Rattle.rkyv_btree_base.specs.Kind.{Kind}
-use Rattle.rkyv_btree_base.specs.Layout.{layout_of}
-use Rattle.rkyv_btree_base.specs.Read.{map_tree}
-use Rattle.rkyv_btree_base.specs.Refusal.{Refusal}
+use Rattle.rkyv_btree_portable.specs.Kind.{Kind}
+use Rattle.rkyv_btree_format.specs.Layout.{layout_of}
+use Rattle.rkyv_btree_format.specs.Read.{map_tree}
+use Rattle.rkyv_btree_portable.specs.declared.refusal.Refusal.{Refusal}
 use Rattle.rkyv_btree_unverified.specs.EntriesFrom.{entries_from}
 use Rattle.rkyv_btree_unverified.specs.Steps.{key_place}
 use Rattle.rkyv_btree_unverified.specs.Walks.{Fails}
-use Rattle.rkyv_btree_unverified.specs.declared.unverified_walk.Phase.TheVariants.{Over}
-use Rattle.rkyv_btree_unverified.specs.declared.unverified_walk.UnverifiedWalk.{UnverifiedWalk}
+use Rattle.rkyv_btree_unverified.specs.declared.walk.Phase.TheVariants.{Over}
+use Rattle.rkyv_btree_unverified.specs.declared.walk.UnverifiedWalk.{UnverifiedWalk}
 use Rattle.rkyv_btree_unverified.specs.mirror.Walked.{IsWay, IsLeafRun, OnMaps, IsUnverifiedWalk, path_entries, path_nodes, walk_most, unverified_left}
 use Rattle.rkyv_btree_walk.specs.declared.seek.Part.{Part}
 use Rattle.rkyv_btree_walk.specs.Paths.{walk_rest}

@@ -1,19 +1,19 @@
 -- Where a walk in bytes that nobody has validated is, and how many entries and nodes it has left. This mirrors the code.
 use Rattle.std.specs.Prelude.{◌≡◌, ◌≢◌, ℕ, zero, suc, ◌+◌, ◌-◌, ◌*◌, ◌≤◌, ◌<◌, List, [], ◌∷◌, ◌++◌, length, Option, Some, None, Result, Ok, Err}
-use Rattle.rkyv_btree_base.specs.Bytes.{number_at}
-use Rattle.rkyv_btree_base.specs.Kind.{Kind}
-use Rattle.rkyv_btree_base.specs.Layout.{NodeLayout, layout_of, leaf_size, inner_size, len_at}
-use Rattle.rkyv_btree_base.specs.Read.{map_tree}
-use Rattle.rkyv_btree_base.specs.Refusal.{Refusal}
-use Rattle.rkyv_btree_base.specs.Refusing.{HasPlace}
-use Rattle.rkyv_btree_base.specs.Spells.{IsNodeAt}
-use Rattle.rkyv_btree_base.specs.Tree.{list}
+use Rattle.rkyv_btree_portable.specs.Bytes.{number_at}
+use Rattle.rkyv_btree_portable.specs.Kind.{Kind}
+use Rattle.rkyv_btree_format.specs.Layout.{NodeLayout, layout_of, leaf_size, inner_size, len_at}
+use Rattle.rkyv_btree_format.specs.Read.{map_tree}
+use Rattle.rkyv_btree_portable.specs.declared.refusal.Refusal.{Refusal}
+use Rattle.rkyv_btree_portable.specs.Refusing.{HasPlace}
+use Rattle.rkyv_btree_format.specs.Spells.{IsNodeAt}
+use Rattle.rkyv_btree_shape.specs.Tree.{list}
 use Rattle.rkyv_btree_unverified.specs.Left.{left_of, most_of}
 use Rattle.rkyv_btree_unverified.specs.Steps.{HasRoom}
 use Rattle.rkyv_btree_unverified.specs.Walks.{IsReachedEntry, Fails}
-use Rattle.rkyv_btree_unverified.specs.declared.unverified_walk.Phase.{Phase}
-use Rattle.rkyv_btree_unverified.specs.declared.unverified_walk.Phase.TheVariants.{Descend, Advance, Over}
-use Rattle.rkyv_btree_unverified.specs.declared.unverified_walk.UnverifiedWalk.{UnverifiedWalk}
+use Rattle.rkyv_btree_unverified.specs.declared.walk.Phase.{Phase}
+use Rattle.rkyv_btree_unverified.specs.declared.walk.Phase.TheVariants.{Descend, Advance, Over}
+use Rattle.rkyv_btree_unverified.specs.declared.walk.UnverifiedWalk.{UnverifiedWalk}
 use Rattle.rkyv_btree_unverified.specs.mirror.Faultless.{FaultlessTree, FaultlessPending, FaultlessPath, FaultlessDown, FaultlessAt, FaultlessLeft}
 use Rattle.rkyv_btree_view.specs.Map.{IsMap}
 use Rattle.rkyv_btree_walk.specs.declared.path.Leaf.{Leaf}

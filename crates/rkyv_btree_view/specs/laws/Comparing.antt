@@ -7,9 +7,9 @@ use Rattle.std.specs.List.{flat_map}
 use Rattle.std.specs.Ordering.{is_eq}
 use Rattle.std.specs.declared.cmp.Ordering.{Ordering}
 use Rattle.std.proofs.Common.{refl, sym, ap, subst, ◌∙◌}
-use Rattle.rkyv_btree_base.specs.Entry.{entry_kind}
-use Rattle.rkyv_btree_base.specs.Kind.{Kind}
-use Rattle.rkyv_btree_base.specs.Scalars.{unit_kind}
+use Rattle.rkyv_btree_portable.specs.Entry.{entry_kind}
+use Rattle.rkyv_btree_portable.specs.Kind.{Kind}
+use Rattle.rkyv_btree_portable.specs.Scalars.{unit_kind}
 use Rattle.rkyv_btree_view.specs.Native.{ReadAs}
 
 module _ {N : Type 0} {kind : Kind} {read_native : List ℕ → ℕ → N} {native_same : N → N → Bool} {native_order : N → N → Ordering} {native_input : N → List (List ℕ)} (r : ReadAs kind read_native native_same native_order native_input) where

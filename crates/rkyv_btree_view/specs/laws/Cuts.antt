@@ -5,8 +5,8 @@ use Rattle.std.specs.Ordering.{ordering_then, ordering_reverse}
 use Rattle.std.specs.declared.cmp.Ordering.{Ordering}
 use Rattle.std.specs.declared.cmp.Ordering.TheVariants.{Less, Equal, Greater}
 use Rattle.std.proofs.Common.{refl, sym, ap, ◌∙◌, inl, inr}
-use Rattle.rkyv_btree_base.specs.Entry.{entry_kind, value_offset}
-use Rattle.rkyv_btree_base.specs.Kind.{Kind}
+use Rattle.rkyv_btree_portable.specs.Entry.{entry_kind, value_offset}
+use Rattle.rkyv_btree_portable.specs.Kind.{Kind}
 use Rattle.rkyv_btree_view.specs.Native.{ReadAs}
 use Rattle.rkyv_btree_view.specs.Query.{IsCut, ComparesAs}
 

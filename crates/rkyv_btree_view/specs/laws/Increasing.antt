@@ -5,7 +5,7 @@ use Rattle.std.specs.List.Sorted.{IsStrictlySortedBy}
 use Rattle.std.specs.declared.cmp.Ordering.{Ordering}
 use Rattle.std.specs.declared.cmp.Ordering.TheVariants.{Less, Equal, Greater}
 use Rattle.std.proofs.Common.{refl, sym, ap, ◌∙◌, inl, inr, arith}
-use Rattle.rkyv_btree_base.specs.Tree.{Tree, list}
+use Rattle.rkyv_btree_shape.specs.Tree.{Tree, list}
 use Rattle.rkyv_btree_walk.specs.Search.{IsSearch, OrderedBy, AnyHit, IsHit}
 use Rattle.rkyv_btree_view.specs.Lookup.{Only}
 use Rattle.rkyv_btree_view.specs.Query.{IsCut}

@@ -4,14 +4,14 @@ use Rattle.std.specs.Cmp.{IsEquivalence, first_so, second_so}
 use Rattle.std.specs.Cmp.Lexicographic.{pointwise}
 use Rattle.std.specs.declared.cmp.Ordering.{Ordering}
 use Rattle.std.proofs.Common.{refl, sym, ap, ◌∙◌}
-use Rattle.rkyv_btree_base.specs.Entry.{entry_kind, value_offset}
-use Rattle.rkyv_btree_base.specs.Kind.{Kind}
-use Rattle.rkyv_btree_base.specs.Layout.{layout_of, key_at, value_at}
-use Rattle.rkyv_btree_base.specs.Map.{map_kind}
-use Rattle.rkyv_btree_base.specs.Read.{entry_at, map_tree}
-use Rattle.rkyv_btree_base.specs.Scalars.{unit_kind}
-use Rattle.rkyv_btree_base.specs.Sets.{with_units}
-use Rattle.rkyv_btree_base.specs.Tree.{list}
+use Rattle.rkyv_btree_portable.specs.Entry.{entry_kind, value_offset}
+use Rattle.rkyv_btree_portable.specs.Kind.{Kind}
+use Rattle.rkyv_btree_format.specs.Layout.{layout_of, key_at, value_at}
+use Rattle.rkyv_btree_verify.specs.Map.{map_kind}
+use Rattle.rkyv_btree_format.specs.Read.{entry_at, map_tree}
+use Rattle.rkyv_btree_portable.specs.Scalars.{unit_kind}
+use Rattle.rkyv_btree_format.specs.Units.{with_units}
+use Rattle.rkyv_btree_shape.specs.Tree.{list}
 use Rattle.rkyv_btree_view.specs.Native.{ReadAs}
 use Rattle.rkyv_btree_view.specs.SameAs.{TestsSame, map_same_at, set_same_at}
 

@@ -1,6 +1,6 @@
 -- What remains of walks along the entries of a map.
 use Rattle.std.specs.Prelude.{◌≡◌, ℕ, ◌+◌, ◌-◌, List, [], ◌∷◌, length, Option, MatchOption}
-use Rattle.rkyv_btree_base.specs.Layout.{NodeLayout}
+use Rattle.rkyv_btree_format.specs.Layout.{NodeLayout}
 use Rattle.rkyv_btree_walk.specs.EntryPlaces.{place_of}
 use Rattle.rkyv_btree_walk.specs.declared.entry_walk.Walk.{Walk}
 use Rattle.rkyv_btree_walk.specs.declared.entry_place.EntryPlace.{EntryPlace}

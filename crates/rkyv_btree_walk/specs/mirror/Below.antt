@@ -1,6 +1,6 @@
 -- What is below a root of what a walk takes and leaves. This mirrors the code.
 use Rattle.std.specs.Prelude.{ℕ, ◌+◌, List, Option, Some, None}
-use Rattle.rkyv_btree_base.specs.Layout.{NodeLayout}
+use Rattle.rkyv_btree_format.specs.Layout.{NodeLayout}
 use Rattle.rkyv_btree_walk.specs.Below.{PathBelow, RunBelow, WalkBelow}
 use Rattle.rkyv_btree_walk.specs.declared.path.Leaf.{Leaf}
 use Rattle.rkyv_btree_walk.specs.declared.path.Step.{Step}

@@ -1,8 +1,8 @@
 -- Searches for many keys side by side. This mirrors the code, which takes each of them down level by level.
 use Rattle.std.specs.Prelude.{◌≡◌, ℕ, suc, ◌+◌, ◌<◌, List, Option, Some, None, slice_get, slice_index_or, Bool, false, ◌≤◌}
 use Rattle.std.specs.declared.cmp.Ordering.{Ordering}
-use Rattle.rkyv_btree_base.specs.Kind.{Kind}
-use Rattle.rkyv_btree_base.specs.Layout.{layout_of}
+use Rattle.rkyv_btree_portable.specs.Kind.{Kind}
+use Rattle.rkyv_btree_format.specs.Layout.{layout_of}
 use Rattle.rkyv_btree_walk.specs.declared.many.Way.{Way}
 use Rattle.rkyv_btree_walk.specs.declared.many.Way.TheVariants.{On, Found, Absent}
 use Rattle.rkyv_btree_walk.specs.mirror.Node.{TreeStands, RunStands}

@@ -2,10 +2,10 @@
 -- cites them.
 use Rattle.std.specs.Prelude.{◌≡◌, ℕ, zero, suc, ◌+◌, ◌≤◌, ◌<◌, IsTrue, List, length, Option, Some, None, false, ℤ, pos}
 use Rattle.std.specs.Prelude.{negsuc}
-use Rattle.rkyv_btree_base.specs.Bytes.{target_at}
-use Rattle.rkyv_btree_base.specs.Kind.{Kind}
-use Rattle.rkyv_btree_base.specs.Layout.{are_fitting, layout_of, key_at, value_at, leaf_size, inner_size, pointer_at}
-use Rattle.rkyv_btree_base.specs.Views.{stands}
+use Rattle.rkyv_btree_portable.specs.Bytes.{target_at}
+use Rattle.rkyv_btree_portable.specs.Kind.{Kind}
+use Rattle.rkyv_btree_format.specs.Layout.{are_fitting, layout_of, key_at, value_at, leaf_size, inner_size, pointer_at}
+use Rattle.rkyv_btree_portable.specs.Views.{stands}
 use Rattle.rkyv_btree_walk.specs.Nodes.{is_leaf, entry_count, child_place}
 
 -- a pointer leads nowhere, or to a place before p

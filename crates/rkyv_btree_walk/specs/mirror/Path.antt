@@ -1,8 +1,8 @@
 -- Where a walk along the entries of a tree is. These mirror the code, which keeps a path of nodes from the root on.
 use Rattle.std.specs.Prelude.{◌≡◌, ℕ, zero, suc, ◌+◌, ◌≤◌, List, [], ◌∷◌, ◌++◌, map, Option, Some, None, false}
-use Rattle.rkyv_btree_base.specs.Kind.{Kind}
-use Rattle.rkyv_btree_base.specs.Layout.{NodeLayout, layout_of}
-use Rattle.rkyv_btree_base.specs.Read.{entry_at}
+use Rattle.rkyv_btree_portable.specs.Kind.{Kind}
+use Rattle.rkyv_btree_format.specs.Layout.{NodeLayout, layout_of}
+use Rattle.rkyv_btree_format.specs.Read.{entry_at}
 use Rattle.rkyv_btree_walk.specs.declared.path.Leaf.{Leaf}
 use Rattle.rkyv_btree_walk.specs.declared.path.Step.{Step}
 use Rattle.rkyv_btree_walk.specs.Nodes.{is_leaf, child_place}

@@ -4,9 +4,9 @@ use Rattle.std.specs.Ordering.{is_le, is_lt}
 use Rattle.std.specs.declared.cmp.Ordering.{Ordering}
 use Rattle.std.specs.declared.ops.Bound.{Bound}
 use Rattle.std.specs.declared.ops.Bound.TheVariants.{Included, Excluded, Unbounded}
-use Rattle.rkyv_btree_base.specs.Kind.{Kind}
-use Rattle.rkyv_btree_base.specs.Layout.{NodeLayout, layout_of}
-use Rattle.rkyv_btree_base.specs.Read.{entry_at}
+use Rattle.rkyv_btree_portable.specs.Kind.{Kind}
+use Rattle.rkyv_btree_format.specs.Layout.{NodeLayout, layout_of}
+use Rattle.rkyv_btree_format.specs.Read.{entry_at}
 use Rattle.rkyv_btree_walk.specs.Bounds.{is_from}
 use Rattle.rkyv_btree_walk.specs.Remaining.{take_before}
 use Rattle.rkyv_btree_walk.specs.Visit.{or_else}

@@ -3,9 +3,9 @@ use Rattle.std.specs.Prelude.{◌≡◌, ℕ, ◌+◌, ◌<◌, ◌≤◌, min, 
 use Rattle.std.specs.Borrow.{Bor}
 use Rattle.std.specs.declared.cmp.Ordering.{Ordering}
 use Rattle.std.specs.declared.cmp.Ordering.TheVariants.{Less, Equal, Greater}
-use Rattle.rkyv_btree_base.specs.Kind.{Kind}
-use Rattle.rkyv_btree_base.specs.Layout.{NodeLayout, layout_of, key_at}
-use Rattle.rkyv_btree_base.specs.Read.{tree_at, map_tree}
+use Rattle.rkyv_btree_portable.specs.Kind.{Kind}
+use Rattle.rkyv_btree_format.specs.Layout.{NodeLayout, layout_of, key_at}
+use Rattle.rkyv_btree_format.specs.Read.{tree_at, map_tree}
 use Rattle.rkyv_btree_walk.specs.Search.{compared_entries, probe, compared_of}
 use Rattle.rkyv_btree_walk.specs.declared.search.Compared.{Compared}
 use Rattle.rkyv_btree_walk.specs.declared.search.Stop.{Stop}

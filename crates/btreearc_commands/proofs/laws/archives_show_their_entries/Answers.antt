@@ -1,9 +1,9 @@
 -- An archive has one list of entries, no refusal, and what a search of it finds.
 use Rattle.std.proofs.Common.{◌≡◌, ℕ, List, IfSome, sym, subst}
 use Rattle.std.specs.Ordering.{nat_cmp}
-use Rattle.rkyv_btree_base.specs.Scalars.{u32_kind}
-use Rattle.rkyv_btree_base.specs.laws.Scalars.{u32_laws}
-use Rattle.rkyv_btree_base.proofs.Readings.{map_is_read}
+use Rattle.rkyv_btree_portable.specs.Scalars.{u32_kind}
+use Rattle.rkyv_btree_portable.specs.laws.Scalars.{u32_laws}
+use Rattle.rkyv_btree_format.proofs.Readings.{map_is_read}
 use Rattle.rkyv_btree_walk.specs.Search.{IsHit}
 use Rattle.btreearc_commands.specs.Opening.{root_of, found_in_archive, entries_read, IsArchive}
 use Rattle.btreearc_commands.specs.Sessions.{KeysIncrease}

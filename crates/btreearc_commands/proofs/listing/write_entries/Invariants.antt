@@ -1,6 +1,6 @@
 use Rattle.std.proofs.Common.{◌≡◌, ◌++◌, map, string_bytes}
 use Rattle.std.specs.Iterator.{Yields, IsFinite, size}
-use Rattle.rkyv_btree_base.specs.Scalars.{u32_kind}
+use Rattle.rkyv_btree_portable.specs.Scalars.{u32_kind}
 use Rattle.btreearc_lines.specs.Grammar.{text_of}
 use Rattle.btreearc_commands.proofs.listing.write_entries.Given as goal
 

@@ -2,9 +2,9 @@
 use Rattle.std.proofs.Common.{◌≡◌, ℕ, List, sym, subst}
 use Rattle.std.proofs.lemmas.Result.{err_from_is_err_and}
 use Rattle.std.specs.Ordering.{nat_cmp}
-use Rattle.rkyv_btree_base.specs.Increasing.{IsOutOfOrder}
-use Rattle.rkyv_btree_base.specs.Refusal.{Refusal}
-use Rattle.rkyv_btree_base.specs.Refusal.TheVariants.{OutOfOrder}
+use Rattle.rkyv_btree_format.specs.Increasing.{IsOutOfOrder}
+use Rattle.rkyv_btree_portable.specs.declared.refusal.Refusal.{Refusal}
+use Rattle.rkyv_btree_portable.specs.declared.refusal.Refusal.TheVariants.{OutOfOrder}
 use Rattle.rkyv_btree_strict.specs.Strict.{no_map, out_of_order}
 use Rattle.btreearc_lines.specs.declared.fault.ProgramFault.{ProgramFault}
 use Rattle.btreearc_lines.specs.declared.fault.ProgramFault.TheVariants.{Usage, Line, Refused, NotBuilt, InputFailed, OutputFailed, Memory}

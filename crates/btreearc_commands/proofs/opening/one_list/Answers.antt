@@ -1,6 +1,6 @@
-use Rattle.rkyv_btree_base.specs.Scalars.{u32_kind}
-use Rattle.rkyv_btree_base.specs.laws.Scalars.{u32_laws}
-use Rattle.rkyv_btree_base.proofs.Unique.{map_unique}
+use Rattle.rkyv_btree_portable.specs.Scalars.{u32_kind}
+use Rattle.rkyv_btree_portable.specs.laws.Scalars.{u32_laws}
+use Rattle.rkyv_btree_format.proofs.Unique.{map_unique}
 use Rattle.btreearc_commands.specs.Opening.{root_of}
 use Rattle.btreearc_commands.proofs.opening.one_list.Goals as goal
 

@@ -1,7 +1,7 @@
 use Rattle.std.proofs.Common.{◌≡◌, subst, arith}
-use Rattle.rkyv_btree_base.specs.Refusals.{misplaced}
-use Rattle.rkyv_btree_base.specs.Scalars.{u32_kind}
-use Rattle.rkyv_btree_base.specs.Refusing.{too_long}
+use Rattle.rkyv_btree_verify.specs.Refusals.{misplaced}
+use Rattle.rkyv_btree_portable.specs.Scalars.{u32_kind}
+use Rattle.rkyv_btree_portable.specs.Refusing.{too_long}
 use Rattle.rkyv_btree_view.specs.Map.{IsMap}
 use Rattle.btreearc_commands.specs.Opening.{root_of, IsArchive, entries_read}
 use Rattle.btreearc_commands.proofs.opening.open.Goals as goal

@@ -1,7 +1,7 @@
 -- The value found is written, or nothing is.
 use Rattle.std.proofs.Common.{◌≡◌, [], ◌∷◌, ◌++◌, decimal, rules, ◌∙◌, refl, subst}
 use Rattle.std.specs.Ordering.{nat_cmp}
-use Rattle.rkyv_btree_base.specs.Scalars.{u32_kind}
+use Rattle.rkyv_btree_portable.specs.Scalars.{u32_kind}
 use Rattle.btreearc_commands.specs.Opening.{IsArchive, entries_read}
 use Rattle.btreearc_commands.proofs.Found.{prints_none, prints_some, output_ended, found_there}
 use Rattle.btreearc_commands.proofs.program.get.Goals as goal

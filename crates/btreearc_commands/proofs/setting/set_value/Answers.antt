@@ -1,12 +1,12 @@
 -- What the library ensures at the root is what is promised of the archive.
 use Rattle.std.proofs.Common.{ℕ, List, ◌∙◌, subst, refl, rules}
 use Rattle.std.specs.Ordering.{nat_cmp}
-use Rattle.rkyv_btree_base.specs.Scalars.{u32_kind}
-use Rattle.rkyv_btree_base.specs.laws.InPlace.{scalar_in_place}
-use Rattle.rkyv_btree_base.specs.laws.Natives.{u32_faithful}
-use Rattle.rkyv_btree_base.specs.laws.Scalars.{u32_laws}
-use Rattle.rkyv_btree_base.specs.laws.Views.{stands_of}
-use Rattle.rkyv_btree_base.proofs.MapLaws.{map_laws}
+use Rattle.rkyv_btree_portable.specs.Scalars.{u32_kind}
+use Rattle.rkyv_btree_portable.specs.laws.InPlace.{scalar_in_place}
+use Rattle.rkyv_btree_portable.specs.laws.Natives.{u32_faithful}
+use Rattle.rkyv_btree_portable.specs.laws.Scalars.{u32_laws}
+use Rattle.rkyv_btree_portable.specs.laws.Views.{stands_of}
+use Rattle.rkyv_btree_verify.proofs.MapLaws.{map_laws}
 use Rattle.btreearc_commands.specs.Opening.{root_of}
 use Rattle.btreearc_commands.specs.Setting.{SetsValue}
 use Rattle.btreearc_commands.proofs.Built.{numbers_fit}
@@ -22,6 +22,6 @@ pub returns : goal.returns
 returns c entries opened =
     let writes = c.writes_put_values.ensures (scalar_in_place u32_faithful).alone in
     let root = c.at-map.ensures.position ∙ c.requires.root in
-    let sets = rw (c.at-map.ensures.buffer, root) at (c.set_by.ensures.sets nat_cmp (λ n b at. refl)) in
+    let sets = rw (c.at-map.ensures.buffer, root) at ((c.set_by.ensures.set nat_cmp (λ n b at. refl)).sets) in
     subst (λ (made : List ℕ). SetsValue c.args.key c.args.value entries c.args.archive.now made c.set_by.result) (search rules)
     (sets_value c.args.key c.args.value c.ranges.value.fits writes c.args.archive.now _ entries opened c.set_by.result sets)

@@ -1,7 +1,7 @@
 -- What was tested was written.
 use Rattle.std.proofs.Common.{[], Some, None}
 use Rattle.std.specs.Io.KnownBytes.{Appends}
-use Rattle.rkyv_btree_base.specs.StdWriters.{HoldsAll}
+use Rattle.rkyv_btree_writer.specs.StdWriters.{HoldsAll}
 use Rattle.btreearc_commands.specs.Archive.{HasArchive, archive_of}
 use Rattle.btreearc_commands.specs.Opening.{IsArchive}
 use Rattle.btreearc_commands.proofs.Causes.{appends_all, built_so, of_lines_so}

@@ -1,6 +1,6 @@
 -- What was written is what the writer holds, and a flush keeps it.
 use Rattle.std.proofs.Common.{◌≡◌, ℕ, List, Some, subst}
-use Rattle.rkyv_btree_base.specs.StdWriters.{HoldsAll}
+use Rattle.rkyv_btree_writer.specs.StdWriters.{HoldsAll}
 use Rattle.btreearc_commands.specs.Archive.{HasArchive, IsArchived, archive_of}
 use Rattle.btreearc_commands.specs.Opening.{IsArchive}
 use Rattle.btreearc_commands.proofs.Causes.{keeps_known, of_lines_so}

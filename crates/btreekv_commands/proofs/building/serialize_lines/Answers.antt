@@ -1,17 +1,17 @@
 -- The tree and the map after it are accepted, or the cause is named.
 use Rattle.std.proofs.Common.{◌≡◌, ℕ, ◌-◌, List, length, map, sym, ap, subst, ◌∙◌, arith}
-use Rattle.rkyv_btree_base.specs.Archiving.{itself}
-use Rattle.rkyv_btree_base.specs.Entries.{both_borrowed}
-use Rattle.rkyv_btree_base.specs.Rounding.{round_up}
-use Rattle.rkyv_btree_base.specs.Spells.{Accepted}
-use Rattle.rkyv_btree_base.specs.Text.{text_kind}
-use Rattle.rkyv_btree_base.specs.Writing.{position}
-use Rattle.rkyv_btree_base.proofs.Accepting.{archive_length}
+use Rattle.rkyv_btree_writer.specs.Archiving.{itself}
+use Rattle.rkyv_btree_writing_laws.specs.Entries.{both_borrowed}
+use Rattle.rkyv_btree_portable.specs.Rounding.{round_up}
+use Rattle.rkyv_btree_format.specs.Spells.{Accepted}
+use Rattle.rkyv_btree_portable.specs.Text.{text_kind}
+use Rattle.rkyv_btree_writer.specs.Writing.{position}
+use Rattle.rkyv_btree_writing_laws.proofs.Accepting.{archive_length}
 use Rattle.btreekv_commands.specs.Building.{IsTried, IsUnbuilt}
 use Rattle.btreekv_commands.specs.Lines.{Entry}
 use Rattle.btreekv_commands.specs.Opening.{IsArchive}
 use Rattle.btreekv_commands.proofs.Taken.{by_entries, drained, map_same}
-use Rattle.rkyv_btree_base.specs.Archives.{HoldsArchive}
+use Rattle.rkyv_btree_writing_laws.specs.Archives.{HoldsArchive}
 use Rattle.btreekv_commands.proofs.Unbuilt.{not_past, ok_or_err, rootless, tried}
 use Rattle.btreekv_commands.proofs.building.serialize_lines.Goals as goal
 

@@ -1,6 +1,6 @@
 -- The archive of the map is that of its entries.
 use Rattle.std.proofs.Common.{List, inr, subst}
-use Rattle.rkyv_btree_base.specs.Archiving.{itself}
+use Rattle.rkyv_btree_writer.specs.Archiving.{itself}
 use Rattle.btreekv_commands.specs.Lines.{Entry}
 use Rattle.btreekv_commands.specs.Opening.{IsArchive, texts}
 use Rattle.btreekv_commands.proofs.Unbuilt.{same_unarchived}

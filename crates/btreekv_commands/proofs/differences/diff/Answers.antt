@@ -1,6 +1,6 @@
 -- The lines are those of the changes that the library gives.
 use Rattle.std.proofs.Common.{[], ◌∷◌, ◌++◌, map, ap, refl, ◌∙◌}
-use Rattle.rkyv_btree_base.specs.Text.{text_kind}
+use Rattle.rkyv_btree_portable.specs.Text.{text_kind}
 use Rattle.rkyv_btree_view.specs.View.{entries_of}
 use Rattle.btreekv_commands.specs.Changing.{changes_text, lent_change}
 use Rattle.btreekv_commands.proofs.Updates.{first_refused}

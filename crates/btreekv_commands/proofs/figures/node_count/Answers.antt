@@ -1,7 +1,7 @@
 -- The map is at the position where the archive has it.
 use Rattle.std.proofs.Common.{◌≡◌, ℕ, subst, arith}
-use Rattle.rkyv_btree_base.specs.Spells.{Accepted, accepted_nodes}
-use Rattle.rkyv_btree_base.specs.Text.{text_kind}
+use Rattle.rkyv_btree_format.specs.Spells.{Accepted, accepted_nodes}
+use Rattle.rkyv_btree_portable.specs.Text.{text_kind}
 use Rattle.btreekv_commands.proofs.figures.node_count.Goals as goal
 
 pub returns : goal.returns

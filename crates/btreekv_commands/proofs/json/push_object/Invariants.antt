@@ -1,6 +1,6 @@
 use Rattle.std.proofs.Common.{◌≡◌, ◌∷◌, ◌++◌, map}
 use Rattle.std.specs.Iterator.{Yields, IsFinite, size}
-use Rattle.rkyv_btree_base.specs.Text.{text_kind}
+use Rattle.rkyv_btree_portable.specs.Text.{text_kind}
 use Rattle.btreekv_commands.specs.Json.{members}
 use Rattle.btreekv_commands.proofs.JsonTexts.{separator}
 use Rattle.btreekv_commands.proofs.json.push_object.Given as goal

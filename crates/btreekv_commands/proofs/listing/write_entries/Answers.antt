@@ -14,6 +14,6 @@ loop-key-preserved g c =
       (
         items ++ (c.in-Some.key, c.in-Some.value) ∷ [],
         Yields-more steps c.args.entries items c.loop-key.entries (c.in-Some.key, c.in-Some.value) c.next.new.self before.2.1 c.in-Some.ensures.steps,
-        text_more _ items (c.in-Some.key, c.in-Some.value) _ _ _ _ _ before.2.2 c.in_ok-write_entry.ensures c.as_str.ensures c.as_str-in-Some.ensures,
+        text_more c.args.form _ items (c.in-Some.key, c.in-Some.value) _ _ _ _ _ before.2.2 c.in_ok-push_entry.ensures c.as_str.ensures c.as_str-in-Some.ensures,
       ),
     )

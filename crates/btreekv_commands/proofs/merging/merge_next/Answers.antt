@@ -1,5 +1,5 @@
 -- The archive so far has one list alone.
-use Rattle.rkyv_btree_base.specs.Text.{text_kind}
+use Rattle.rkyv_btree_portable.specs.Text.{text_kind}
 use Rattle.rkyv_btree_view.specs.View.{entries_of}
 use Rattle.btreekv_commands.proofs.Merges.{next_fails, next_put}
 use Rattle.btreekv_commands.proofs.merging.merge_next.Goals as goal

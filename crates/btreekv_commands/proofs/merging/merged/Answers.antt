@@ -1,6 +1,6 @@
 -- What the library writes is the archive, and its fault the cause.
 use Rattle.std.proofs.Common.{List, ℕ, sym, subst}
-use Rattle.rkyv_btree_base.specs.Text.{text_kind}
+use Rattle.rkyv_btree_portable.specs.Text.{text_kind}
 use Rattle.rkyv_btree_view.specs.View.{entries_of}
 use Rattle.btreekv_commands.specs.Updating.{IsStrictArchive, put_over}
 use Rattle.btreekv_commands.proofs.Updates.{bytes_lent, strict_archive, unwritten}

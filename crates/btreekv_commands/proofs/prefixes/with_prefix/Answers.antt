@@ -1,7 +1,7 @@
 -- Where keys increase, they are ordered for the prefix.
 use Rattle.std.proofs.Common.{◌∙◌, rules}
 use Rattle.std.proofs.lemmas.List.Elements.{filter_agree}
-use Rattle.rkyv_btree_base.specs.Text.{text_kind}
+use Rattle.rkyv_btree_portable.specs.Text.{text_kind}
 use Rattle.rkyv_btree_view.specs.View.{entries_of}
 use Rattle.rkyv_btree_strict.proofs.PrefixOrder.{equal_begins, ordered}
 use Rattle.rkyv_btree_strict.specs.Prefix.{prefix_cmp}

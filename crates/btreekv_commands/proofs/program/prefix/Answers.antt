@@ -1,9 +1,9 @@
 -- The entries with the prefix are the output.
 use Rattle.std.proofs.Common.{refl, ap, ◌∙◌}
-use Rattle.rkyv_btree_base.specs.Text.{text_kind}
+use Rattle.rkyv_btree_portable.specs.Text.{text_kind}
 use Rattle.rkyv_btree_view.specs.Range.{range_left}
 use Rattle.rkyv_btree_view.specs.View.{entries_of}
-use Rattle.btreekv_commands.specs.Lines.{text_of}
+use Rattle.btreekv_commands.specs.Forms.{text_in}
 use Rattle.btreekv_commands.proofs.Listed.{from_nothing}
 use Rattle.btreekv_commands.proofs.program.prefix.Goals as goal
 
@@ -18,6 +18,6 @@ returns-in-Ok-clause-ok c =
         range_left r.result,
         c.in_ok-map.ensures.accepted,
         rw c.as_str.ensures.value at r.ensures.has_prefix,
-        from_nothing _ _ _ c.new-text.ensures.bytes given.2 ∙ ap text_of (r.ensures.yields given.0 given.1),
+        from_nothing _ _ _ c.new-text.ensures.items given.2 ∙ ap (text_in c.args.form) (r.ensures.yields given.0 given.1),
       ),
     )

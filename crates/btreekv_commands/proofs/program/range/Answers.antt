@@ -2,10 +2,10 @@
 use Rattle.std.proofs.Common.{refl, ap, ◌∙◌}
 use Rattle.std.specs.Cmp.Lexicographic.{slice_cmp}
 use Rattle.std.specs.Ordering.{nat_cmp}
-use Rattle.rkyv_btree_base.specs.Text.{text_kind}
+use Rattle.rkyv_btree_portable.specs.Text.{text_kind}
 use Rattle.rkyv_btree_view.specs.Range.{range_left}
 use Rattle.rkyv_btree_view.specs.View.{entries_of}
-use Rattle.btreekv_commands.specs.Lines.{text_of}
+use Rattle.btreekv_commands.specs.Forms.{text_in}
 use Rattle.btreekv_commands.proofs.Listed.{from_nothing}
 use Rattle.btreekv_commands.proofs.program.range.Goals as goal
 
@@ -21,6 +21,6 @@ returns-in-Ok-clause-ok c =
         range_left r.result,
         c.in_ok-map.ensures.accepted,
         record { run = r.ensures.range.run; all = rw (c.as_str.ensures.value, c.as_str-2.ensures.value) at within },
-        from_nothing _ _ _ c.new-text.ensures.bytes given.2 ∙ ap text_of (r.ensures.range.yields given.0 given.1),
+        from_nothing _ _ _ c.new-text.ensures.items given.2 ∙ ap (text_in c.args.form) (r.ensures.range.yields given.0 given.1),
       ),
     )

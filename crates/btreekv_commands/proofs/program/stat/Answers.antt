@@ -1,7 +1,7 @@
 -- The figures are those of the archive that was opened.
 use Rattle.std.proofs.Common.{ℕ, length, refl, ap, ◌∙◌}
 use Rattle.std.proofs.lemmas.Result.{IfOk-weaker}
-use Rattle.rkyv_btree_base.specs.Text.{text_kind}
+use Rattle.rkyv_btree_portable.specs.Text.{text_kind}
 use Rattle.rkyv_btree_view.specs.View.{entries_of}
 use Rattle.btreekv_commands.specs.Figures.{archive_nodes, figures}
 use Rattle.btreekv_commands.proofs.program.stat.Goals as goal

@@ -1,6 +1,6 @@
 -- What was written is what the writer holds, and a flush keeps it.
 use Rattle.std.proofs.Common.{ℕ, List}
-use Rattle.rkyv_btree_base.specs.StdWriters.{HoldsAll}
+use Rattle.rkyv_btree_writer.specs.StdWriters.{HoldsAll}
 use Rattle.btreekv_commands.specs.Opening.{IsArchive}
 use Rattle.btreekv_commands.proofs.Causes.{because_so, keeps_known}
 use Rattle.btreekv_commands.proofs.streaming.write_archive.Goals as goal

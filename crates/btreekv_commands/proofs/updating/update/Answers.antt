@@ -1,6 +1,6 @@
 -- The update of what was read, or its fault.
 use Rattle.std.proofs.Common.{◌∙◌, ap, []}
-use Rattle.rkyv_btree_base.specs.Text.{text_kind}
+use Rattle.rkyv_btree_portable.specs.Text.{text_kind}
 use Rattle.rkyv_btree_update.specs.Updated.{changes_meant}
 use Rattle.rkyv_btree_view.specs.View.{entries_of}
 use Rattle.btreekv_commands.proofs.Updates.{fails_so, first_refused, updated_so}

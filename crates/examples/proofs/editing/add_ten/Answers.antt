@@ -13,7 +13,7 @@ at-cursor-requires c = numbers_stand c.args.buf.now c.args.pos c.requires.0 c.re
 
 pub along-init : goal.along-init
 along-init c =
-    let all : entry_places u32_kind u32_kind 5 c.at-cursor.result.buf.now c.at-cursor.result.pos ≡ remaining_places c.at-cursor.result = ap (λ b. entry_places u32_kind u32_kind 5 b c.at-cursor.result.pos) c.at-cursor.ensures.buffer ∙ ap (entry_places u32_kind u32_kind 5 c.args.buf.now) c.at-cursor.ensures.position ∙ sym c.at-cursor.ensures.remaining in
+    let all : entry_places u32_kind u32_kind 5 c.at-cursor.result.buf.now c.at-cursor.result.pos ≡ remaining_places c.at-cursor.result = ap (λ b. entry_places u32_kind u32_kind 5 b c.at-cursor.result.pos) c.at-cursor.ensures.starts.buffer ∙ ap (entry_places u32_kind u32_kind 5 c.args.buf.now) c.at-cursor.ensures.starts.position ∙ sym c.at-cursor.ensures.starts.remaining in
     record {
       reference = refl;
       position = refl;
@@ -36,9 +36,9 @@ along-preserved c =
 
 pub returns : goal.returns
 returns c m is =
-    let position = c.along.invariant.position ∙ c.at-cursor.ensures.position in
+    let position = c.along.invariant.position ∙ c.at-cursor.ensures.starts.position in
     let so_far : Adding c.args.buf.now c.args.pos [] [] c.along.cursor.buf.now (remaining_places c.along.cursor) =
     subst (λ (pos : ℕ). Adding c.args.buf.now pos [] [] c.along.cursor.buf.now (remaining_places c.along.cursor)) position
-    (subst (λ (b : List ℕ). Adding b c.along.cursor.pos [] [] c.along.cursor.buf.now (remaining_places c.along.cursor)) c.at-cursor.ensures.buffer c.along.invariant.adding) in
+    (subst (λ (b : List ℕ). Adding b c.along.cursor.pos [] [] c.along.cursor.buf.now (remaining_places c.along.cursor)) c.at-cursor.ensures.starts.buffer c.along.invariant.adding) in
     let all = added_all c.args.buf.now c.along.cursor.buf.now c.args.pos (remaining_places c.along.cursor) m c.along-test.ensures.advances.0 so_far is in
     subst (λ (x : List ℕ). IsNumbers x c.args.pos (map plus_ten m)) (search rules) all

@@ -34,18 +34,18 @@ pub returns : goal.returns
 returns c m is =
     let b = c.args.buf.now in
     let by = c.by-cursor.result in
-    let run = c.by-cursor.ensures.run in
+    let run = c.by-cursor.ensures.starts.run in
     let means = entry_at u32_kind u32_kind 5 b in
     let read = numbers_read b c.args.pos m is in
-    let places : entry_places u32_kind u32_kind 5 by.buf.now by.pos ≡ entry_places u32_kind u32_kind 5 b c.args.pos = ap (λ x. entry_places u32_kind u32_kind 5 x by.pos) c.by-cursor.ensures.buffer ∙ ap (entry_places u32_kind u32_kind 5 b) c.by-cursor.ensures.position in
+    let places : entry_places u32_kind u32_kind 5 by.buf.now by.pos ≡ entry_places u32_kind u32_kind 5 b c.args.pos = ap (λ x. entry_places u32_kind u32_kind 5 x by.pos) c.by-cursor.ensures.starts.buffer ∙ ap (entry_places u32_kind u32_kind 5 b) c.by-cursor.ensures.starts.position in
     let start : Adding by.buf.now by.pos run.0 run.1 by.buf.now (range_remaining_places by) = adding_start by.buf.now by.pos run.0 run.1 (range_remaining_places by) (places ∙ run.2) in
     let reached : Adding by.buf.now by.pos run.0 run.1 c.along.cursor.buf.now (range_remaining_places c.along.cursor) =
     subst (λ (pos : ℕ). Adding by.buf.now pos run.0 run.1 c.along.cursor.buf.now (range_remaining_places c.along.cursor)) c.along.invariant.position (c.along.invariant.adding run.0 run.1 (rw c.along.invariant.position start)) in
-    let so_far : Adding b c.args.pos run.0 run.1 c.along.cursor.buf.now (range_remaining_places c.along.cursor) = rw (c.by-cursor.ensures.buffer, c.by-cursor.ensures.position) at reached in
+    let so_far : Adding b c.args.pos run.0 run.1 c.along.cursor.buf.now (range_remaining_places c.along.cursor) = rw (c.by-cursor.ensures.starts.buffer, c.by-cursor.ensures.starts.position) at reached in
     let within = map means (range_remaining_places by) in
     let all : m ≡ map means run.0 ++ (within ++ map means run.1) = read ∙ ap (map means) run.2 ∙ map-append means run.0 (range_remaining_places by ++ run.1) ∙ ap (λ xs. map means run.0 ++ xs) (map-append means (range_remaining_places by) run.1) in
     let end = adding_end b c.args.pos run.0 run.1 c.along.cursor.buf.now (range_remaining_places c.along.cursor) m c.along-test.ensures.advances.0 so_far is (map means run.0) within (map means run.1) refl refl all in
-    let entries = ap (λ x. map (entry_at u32_kind u32_kind 5 x) (range_remaining_places by)) c.by-cursor.ensures.buffer in (
+    let entries = ap (λ x. map (entry_at u32_kind u32_kind 5 x) (range_remaining_places by)) c.by-cursor.ensures.starts.buffer in (
       map means run.0 ++ (map plus_ten within ++ map means run.1),
       subst (λ (x : List ℕ). IsNumbers x c.args.pos (map means run.0 ++ (map plus_ten within ++ map means run.1))) (search rules) end,
       record {

@@ -10,5 +10,5 @@ at-map-requires c = numbers_stand c.args.buf.now c.args.pos c.requires.0 c.requi
 
 pub returns : goal.returns
 returns c m is =
-    let changed = sets_changed c.args.buf.now _ c.args.pos c.args.key c.args.value c.set_by.result m c.ranges.value.fits is (rw (c.at-map.ensures.buffer, c.at-map.ensures.position) at (c.set_by.ensures.sets nat_cmp (λ n b at. refl))) in
+    let changed = sets_changed c.args.buf.now _ c.args.pos c.args.key c.args.value c.set_by.result m c.ranges.value.fits is (rw (c.at-map.ensures.buffer, c.at-map.ensures.position) at (c.set_by.ensures.set nat_cmp (λ n b at. refl)).sets) in
     subst (λ (x : List ℕ). Changed c.args.buf.now x c.args.pos m c.args.key c.args.value c.set_by.result) (search rules) changed

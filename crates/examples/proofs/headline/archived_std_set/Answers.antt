@@ -2,7 +2,8 @@ use Rattle.std.proofs.Common.{inl, inr, sym, ◌∙◌}
 use Rattle.std.proofs.lemmas.List.{length-map}
 use Rattle.std.proofs.lemmas.Result.{err_from_is_err_and}
 use Rattle.rkyv_btree_base.specs.Scalars.{unit_kind}
-use Rattle.rkyv_btree_base.specs.Sets.{unit_archival, with_units}
+use Rattle.rkyv_btree_base.specs.Sets.{unit_archival}
+use Rattle.rkyv_btree_base.specs.Units.{with_units}
 use Rattle.examples.proofs.Concluded.{smallest_written}
 use Rattle.examples.proofs.headline.archived_std_set.Goals as goal
 

@@ -1,5 +1,6 @@
 use Rattle.rkyv_btree_writing_laws.proofs.Determined.{tree_determined}
-use Rattle.rkyv_btree_writing_laws.specs.Sets.{unit_archival, with_units}
+use Rattle.rkyv_btree_writing_laws.specs.Sets.{unit_archival}
+use Rattle.rkyv_btree_format.specs.Units.{with_units}
 use Rattle.rkyv_btree_archive.proofs.OneArchival.{own_determined}
 use Rattle.rkyv_btree_portable.specs.laws.Natives.{unit_faithful}
 use Rattle.rkyv_btree_archive.proofs.std_types.std_types_are_determined.Goals as goal

@@ -1,6 +1,6 @@
 use Rattle.std.proofs.Common.{List, ℕ, subst, sym}
 use Rattle.rkyv_btree_writing_laws.proofs.Whole.{archive_of_placed}
-use Rattle.rkyv_btree_writing_laws.specs.Whole.{IsArchiveOf}
+use Rattle.rkyv_btree_format.specs.OwnBytes.{IsArchiveOf}
 use Rattle.rkyv_btree_writer.specs.Archiving.{Serialises}
 use Rattle.rkyv_btree_writer.specs.Writing.{Writing}
 use Rattle.rkyv_btree_archive.proofs.to_archive.to_archive.Goals as goal

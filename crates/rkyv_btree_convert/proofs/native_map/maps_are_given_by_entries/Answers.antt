@@ -1,8 +1,8 @@
 -- What entries give is what their keys and values give.
 use Rattle.std.proofs.Common.{ap}
-use Rattle.rkyv_btree_base.specs.Layout.{layout_of}
-use Rattle.rkyv_btree_base.specs.Read.{map_tree}
-use Rattle.rkyv_btree_base.specs.Tree.{list}
+use Rattle.rkyv_btree_format.specs.Layout.{layout_of}
+use Rattle.rkyv_btree_format.specs.Read.{map_tree}
+use Rattle.rkyv_btree_shape.specs.Tree.{list}
 use Rattle.rkyv_btree_convert.specs.Maps.{map_given}
 use Rattle.rkyv_btree_convert.specs.laws.Maps.{given_by_meaning}
 use Rattle.rkyv_btree_convert.proofs.native_map.maps_are_given_by_entries.Goals as goal

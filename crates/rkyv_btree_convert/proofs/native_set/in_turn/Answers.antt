@@ -3,7 +3,7 @@ use Rattle.std.proofs.Common.{[], ap, rules, ◌∙◌}
 use Rattle.std.specs.Map.{keys_of}
 use Rattle.std.specs.Prelude.{Ok}
 use Rattle.std.specs.Result.{result_map_both}
-use Rattle.rkyv_btree_base.specs.Scalars.{unit_kind}
+use Rattle.rkyv_btree_portable.specs.Scalars.{unit_kind}
 use Rattle.rkyv_btree_convert.specs.laws.Sets.{unit_by_meaning}
 use Rattle.rkyv_btree_convert.proofs.Made.{all_made, next_refused}
 use Rattle.rkyv_btree_convert.proofs.Puts.{put}

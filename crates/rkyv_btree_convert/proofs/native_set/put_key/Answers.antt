@@ -1,6 +1,6 @@
 -- The model of the set takes the model of the key.
 use Rattle.std.proofs.Common.{refl}
-use Rattle.rkyv_btree_base.specs.Sets.{with_units}
+use Rattle.rkyv_btree_format.specs.Units.{with_units}
 use Rattle.rkyv_btree_convert.proofs.Puts.{model_put}
 use Rattle.rkyv_btree_convert.proofs.Units.{put_unit}
 use Rattle.rkyv_btree_convert.proofs.native_set.put_key.Goals as goal

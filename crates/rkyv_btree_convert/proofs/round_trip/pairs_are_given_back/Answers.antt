@@ -1,6 +1,6 @@
 -- Both parts give themselves.
 use Rattle.std.proofs.Common.{◌+◌, ap, refl}
-use Rattle.rkyv_btree_base.specs.Entry.{value_offset}
+use Rattle.rkyv_btree_portable.specs.Entry.{value_offset}
 use Rattle.rkyv_btree_convert.proofs.round_trip.pairs_are_given_back.Goals as goal
 
 pub returns : goal.returns

@@ -1,8 +1,8 @@
 -- The keys of the archive increase, so what is found is the only entry that is equal.
 use Rattle.std.proofs.Common.{◌≡◌, ◌∙◌, List, map, refl, sym, subst}
 use Rattle.std.specs.List.Sorted.{IsStrictlySortedBy}
-use Rattle.rkyv_btree_base.specs.Layout.{layout_of}
-use Rattle.rkyv_btree_base.specs.Read.{entry_at, map_tree, read_map}
+use Rattle.rkyv_btree_format.specs.Layout.{layout_of}
+use Rattle.rkyv_btree_format.specs.Read.{entry_at, map_tree, read_map}
 use Rattle.rkyv_btree_convert.proofs.StdMaps.{ascending_meant, lookup_meant, only_looked_up}
 use Rattle.rkyv_btree_view.specs.Lookup.{found_at}
 use Rattle.rkyv_btree_view.specs.laws.Cuts.{order_cuts}

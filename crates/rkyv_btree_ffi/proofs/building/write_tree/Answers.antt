@@ -1,8 +1,8 @@
 -- Both calls write the tree of all entries, or stop for a cause.
 use Rattle.std.proofs.Common.{length, refl}
 use Rattle.std.proofs.lemmas.Result.{IfOk-weaker, IfErr-weaker}
-use Rattle.rkyv_btree_base.specs.Entries.{now_of}
-use Rattle.rkyv_btree_base.proofs.TreeSerialised.{list_serialised}
+use Rattle.rkyv_btree_writing_laws.specs.Entries.{now_of}
+use Rattle.rkyv_btree_writing_laws.proofs.TreeSerialised.{list_serialised}
 use Rattle.rkyv_btree_ffi.proofs.Built.{drained, any_fault, strict_fault, archived_all, increasing_all, if_err}
 use Rattle.rkyv_btree_ffi.proofs.building.write_tree.Goals as goal
 

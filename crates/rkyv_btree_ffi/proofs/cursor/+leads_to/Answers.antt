@@ -1,7 +1,7 @@
 -- Pointers lead to a node through one of the children.
 use Rattle.std.proofs.Common.{◌≡◌, ℕ, suc, ◌-◌, ◌<◌, ◌≤◌, ◌∙◌, Some, sym, arith, rules}
 use Rattle.std.proofs.lemmas.Grind.{common_steps}
-use Rattle.rkyv_btree_base.specs.Layout.{layout_of}
+use Rattle.rkyv_btree_format.specs.Layout.{layout_of}
 use Rattle.rkyv_btree_walk.specs.Below.{root_place, IsBelow}
 use Rattle.rkyv_btree_walk.specs.Nodes.{child_place}
 use Rattle.rkyv_btree_ffi.proofs.Places.{leads_step, leads_none}

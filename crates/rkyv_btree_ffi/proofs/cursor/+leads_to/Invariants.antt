@@ -1,5 +1,5 @@
 use Rattle.std.proofs.Common.{◌≡◌, ℕ, ◌-◌, ◌<◌, Some}
-use Rattle.rkyv_btree_base.specs.Layout.{layout_of}
+use Rattle.rkyv_btree_format.specs.Layout.{layout_of}
 use Rattle.rkyv_btree_walk.specs.Nodes.{child_place}
 use Rattle.rkyv_btree_ffi.specs.CursorPlaces.{Leads}
 use Rattle.rkyv_btree_ffi.proofs.cursor.+leads_to.Given as goal

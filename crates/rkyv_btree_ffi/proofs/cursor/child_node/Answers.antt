@@ -1,6 +1,6 @@
 -- A node of the map stands.
-use Rattle.rkyv_btree_base.specs.Map.{map_kind}
-use Rattle.rkyv_btree_base.specs.laws.Views.{fitting_of}
+use Rattle.rkyv_btree_verify.specs.Map.{map_kind}
+use Rattle.rkyv_btree_portable.specs.laws.Views.{fitting_of}
 use Rattle.rkyv_btree_ffi.proofs.Cursors.{node_below, node_inside}
 use Rattle.rkyv_btree_ffi.proofs.cursor.child_node.Goals as goal
 

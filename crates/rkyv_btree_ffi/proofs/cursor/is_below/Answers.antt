@@ -1,6 +1,6 @@
 -- Pointers lead from the root, if there is one.
 use Rattle.std.proofs.Common.{◌≡◌, ℕ, ◌∙◌, sym, subst, arith}
-use Rattle.rkyv_btree_base.specs.Layout.{layout_of}
+use Rattle.rkyv_btree_format.specs.Layout.{layout_of}
 use Rattle.rkyv_btree_walk.specs.Below.{root_place}
 use Rattle.rkyv_btree_ffi.specs.CursorPlaces.{Leads}
 use Rattle.rkyv_btree_ffi.proofs.Places.{below_leads, leads_below}

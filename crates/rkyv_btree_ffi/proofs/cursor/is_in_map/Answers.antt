@@ -1,7 +1,7 @@
 -- A map has no more than 32 levels.
 use Rattle.std.proofs.Common.{ℕ, ◌≡◌, inl, inr, arith, subst}
 use Rattle.std.proofs.lemmas.Bool.{cases_lt}
-use Rattle.rkyv_btree_base.specs.Layout.{layout_of}
+use Rattle.rkyv_btree_format.specs.Layout.{layout_of}
 use Rattle.rkyv_btree_walk.specs.Below.{root_place, IsBelow}
 use Rattle.rkyv_btree_walk.proofs.Below.{below_stands, place_stands}
 use Rattle.rkyv_btree_ffi.proofs.cursor.is_in_map.Goals as goal

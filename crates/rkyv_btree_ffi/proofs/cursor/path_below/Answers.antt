@@ -2,7 +2,7 @@
 use Rattle.std.proofs.Common.{◌≡◌, ℕ, ◌<◌, length, arith, rules, subst, true, false, take, length-take}
 use Rattle.std.proofs.lemmas.Grind.{common_steps}
 use Rattle.std.proofs.lemmas.List.{length-map}
-use Rattle.rkyv_btree_base.specs.Layout.{layout_of}
+use Rattle.rkyv_btree_format.specs.Layout.{layout_of}
 use Rattle.rkyv_btree_walk.specs.Below.{root_place}
 use Rattle.rkyv_btree_walk.proofs.Below.{put_below}
 use Rattle.rkyv_btree_ffi.specs.Cursors.{step_of, path_of}

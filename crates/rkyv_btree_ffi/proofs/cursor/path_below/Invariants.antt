@@ -1,5 +1,5 @@
 use Rattle.std.proofs.Common.{◌≡◌, map, take, length, IfSome}
-use Rattle.rkyv_btree_base.specs.Layout.{layout_of}
+use Rattle.rkyv_btree_format.specs.Layout.{layout_of}
 use Rattle.rkyv_btree_walk.specs.Below.{root_place, IsBelow, PathBelow}
 use Rattle.rkyv_btree_ffi.specs.Cursors.{step_of}
 use Rattle.rkyv_btree_ffi.proofs.cursor.path_below.Given as goal

@@ -1,6 +1,6 @@
 -- A map has eight bytes, and its root is where the first four lead.
 use Rattle.std.proofs.Common.{arith}
-use Rattle.rkyv_btree_base.proofs.MapLaws.{map_room, map_short, map_length}
+use Rattle.rkyv_btree_verify.proofs.MapLaws.{map_room, map_short, map_length}
 use Rattle.rkyv_btree_walk.proofs.Roots.{root_leads}
 use Rattle.rkyv_btree_ffi.proofs.cursor.root_node.Goals as goal
 

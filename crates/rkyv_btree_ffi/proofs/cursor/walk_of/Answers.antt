@@ -1,6 +1,6 @@
 -- What the tests find.
 use Rattle.std.proofs.Common.{rules}
-use Rattle.rkyv_btree_base.specs.Layout.{layout_of}
+use Rattle.rkyv_btree_format.specs.Layout.{layout_of}
 use Rattle.rkyv_btree_walk.specs.Below.{root_place, RunBelow}
 use Rattle.rkyv_btree_ffi.proofs.Places.{no_place}
 use Rattle.rkyv_btree_ffi.proofs.cursor.walk_of.Goals as goal

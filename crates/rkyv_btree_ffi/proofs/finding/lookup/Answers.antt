@@ -1,7 +1,7 @@
 -- What the lookup finds is shown, and its error is passed on.
 use Rattle.std.proofs.Common.{Err, Ok, rules}
-use Rattle.rkyv_btree_base.specs.Map.{map_kind}
-use Rattle.rkyv_btree_base.specs.Whole.{own_at}
+use Rattle.rkyv_btree_verify.specs.Map.{map_kind}
+use Rattle.rkyv_btree_format.specs.OwnBytes.{own_at}
 use Rattle.rkyv_btree_ffi.proofs.LookedUp.{moved, found_shown, error_shown, long_shown}
 use Rattle.rkyv_btree_ffi.proofs.finding.lookup.Goals as goal
 

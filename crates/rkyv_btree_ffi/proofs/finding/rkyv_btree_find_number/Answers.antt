@@ -1,6 +1,6 @@
 -- The map has one type.
 use Rattle.std.proofs.Common.{None, Ok, subst}
-use Rattle.rkyv_btree_base.specs.Whole.{own_at}
+use Rattle.rkyv_btree_format.specs.OwnBytes.{own_at}
 use Rattle.rkyv_btree_ffi.specs.Entries.{LooksUp}
 use Rattle.rkyv_btree_ffi.specs.Finding.{LookupReturns, IsFoundEntry, IsRefusal}
 use Rattle.rkyv_btree_ffi.specs.MapTypes.{kind_of}

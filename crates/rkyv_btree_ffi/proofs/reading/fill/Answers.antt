@@ -3,7 +3,7 @@ use Rattle.std.proofs.Common.{List, take, subst, sym, arith}
 use Rattle.std.proofs.lemmas.List.{take_more_set, length-set}
 use Rattle.rkyv_btree_ffi.specs.Batches.{AreShown}
 use Rattle.rkyv_btree_ffi.specs.declared.item.BtreeEntry.{BtreeEntry}
-use Rattle.rkyv_btree_base.specs.Layout.{layout_of}
+use Rattle.rkyv_btree_format.specs.Layout.{layout_of}
 use Rattle.rkyv_btree_walk.specs.EntryPlaces.{place_of}
 use Rattle.rkyv_btree_walk.specs.WalkBetween.{range_left}
 use Rattle.rkyv_btree_ffi.proofs.Shown.{shown_more}

@@ -1,6 +1,6 @@
 use Rattle.std.proofs.Common.{◌≡◌, ◌≤◌, ◌-◌, length, take}
 use Rattle.rkyv_btree_ffi.specs.Batches.{AreShown}
-use Rattle.rkyv_btree_base.specs.Layout.{layout_of}
+use Rattle.rkyv_btree_format.specs.Layout.{layout_of}
 use Rattle.rkyv_btree_walk.specs.WalkBetween.{range_left, IsRangeWalk}
 use Rattle.rkyv_btree_ffi.proofs.reading.fill.Given as goal
 

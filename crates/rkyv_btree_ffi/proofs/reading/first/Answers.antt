@@ -1,6 +1,6 @@
 -- A cursor keeps the walk.
 use Rattle.std.proofs.Common.{map, refl, sym, ap, ◌∙◌}
-use Rattle.rkyv_btree_base.specs.Read.{entry_at}
+use Rattle.rkyv_btree_format.specs.Read.{entry_at}
 use Rattle.rkyv_btree_ffi.proofs.Places.{good_of, between_kept}
 use Rattle.rkyv_btree_ffi.proofs.reading.first.Goals as goal
 

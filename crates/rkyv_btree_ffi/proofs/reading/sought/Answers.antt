@@ -1,6 +1,6 @@
 -- A cursor keeps the walk.
 use Rattle.std.proofs.Common.{map, sym, ap, ◌∙◌, rules}
-use Rattle.rkyv_btree_base.specs.Read.{entry_at}
+use Rattle.rkyv_btree_format.specs.Read.{entry_at}
 use Rattle.rkyv_btree_walk.proofs.Ranges.{run_means}
 use Rattle.rkyv_btree_walk.specs.EntryPlaces.{entry_places}
 use Rattle.rkyv_btree_ffi.proofs.Places.{good_of, between_kept}

@@ -1,6 +1,6 @@
 -- The closure is lent the key and the value that stand there.
 use Rattle.std.proofs.Common.{◌≡◌, rules, arith, sym, ◌∙◌, drop, MutBor}
-use Rattle.rkyv_btree_base.specs.Bytes.{bytes_at}
+use Rattle.rkyv_btree_portable.specs.Bytes.{bytes_at}
 use Rattle.rkyv_btree_seal.proofs.Lending.{shows_front, holds_own, joined}
 use Rattle.rkyv_btree_seal.specs.declared.seal.Seal.{Seal}
 use Rattle.rkyv_btree_seal.proofs.closures.step_at.Goals as goal

@@ -1,6 +1,6 @@
 -- The key and the value of an entry stand at its places.
 use Rattle.std.proofs.Common.{arith, sym, subst, IsTrue}
-use Rattle.rkyv_btree_base.specs.Views.{stands}
+use Rattle.rkyv_btree_portable.specs.Views.{stands}
 use Rattle.rkyv_btree_seal.specs.Alone.{StandsAlone}
 use Rattle.rkyv_btree_seal.proofs.Entered.{entry_is}
 use Rattle.rkyv_btree_seal.proofs.value_place.positions.Goals as goal

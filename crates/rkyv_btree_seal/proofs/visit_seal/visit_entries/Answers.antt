@@ -1,6 +1,6 @@
 -- One call more, at the entry that the walk takes.
 use Rattle.std.proofs.Common.{◌≡◌, ◌∷◌, length, ap, arith}
-use Rattle.rkyv_btree_base.specs.Layout.{layout_of}
+use Rattle.rkyv_btree_format.specs.Layout.{layout_of}
 use Rattle.rkyv_btree_seal.proofs.Cursors.{walk_left_kept, is_walk_kept}
 use Rattle.rkyv_btree_seal.proofs.Visiting.{SoFar, so_far_end, next_number, next_may, so_far_more, so_far_break}
 use Rattle.rkyv_btree_seal.proofs.visit_seal.visit_entries.Goals as goal

@@ -1,7 +1,7 @@
 -- The calls so far, and those to come.
 use Rattle.std.proofs.Common.{length, IsTrue}
-use Rattle.rkyv_btree_base.specs.Layout.{layout_of}
-use Rattle.rkyv_btree_base.specs.Views.{stands}
+use Rattle.rkyv_btree_format.specs.Layout.{layout_of}
+use Rattle.rkyv_btree_portable.specs.Views.{stands}
 use Rattle.rkyv_btree_seal.proofs.Visiting.{SoFar}
 use Rattle.rkyv_btree_seal.proofs.visit_seal.visit_entries.Given as goal
 use Rattle.rkyv_btree_walk.specs.mirror.Along.{walk_left, IsWalk}

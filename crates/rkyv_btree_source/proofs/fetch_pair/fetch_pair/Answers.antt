@@ -1,10 +1,10 @@
 -- A pair is brought by its own bytes.
 use Rattle.std.proofs.Common.{◌≡◌, ◌∙◌, ◌+◌, ◌%◌, ◌≤◌, ◌++◌, ℕ, ap, arith, drop, length, subst}
 use Rattle.std.proofs.lemmas.List.{length-append, length-drop}
-use Rattle.rkyv_btree_base.specs.Bytes.{bytes_at}
-use Rattle.rkyv_btree_base.specs.Entry.{entry_align, entry_size, value_offset, RefusesEntry}
-use Rattle.rkyv_btree_base.specs.Refusal.TheVariants.{BadEntry}
-use Rattle.rkyv_btree_base.specs.laws.EntryLaws.{value_inside}
+use Rattle.rkyv_btree_portable.specs.Bytes.{bytes_at}
+use Rattle.rkyv_btree_portable.specs.Entry.{entry_align, entry_size, value_offset, RefusesEntry}
+use Rattle.rkyv_btree_portable.specs.declared.refusal.Refusal.TheVariants.{BadEntry}
+use Rattle.rkyv_btree_portable.specs.laws.EntryLaws.{value_inside}
 use Rattle.rkyv_btree_source.proofs.Brought.{held_front}
 use Rattle.rkyv_btree_source.proofs.Pairs.{means_there, reads_here, refuses_key, refuses_odd, refuses_value, valid_here, valid_there}
 use Rattle.rkyv_btree_source.proofs.fetch_pair.fetch_pair.Goals as goal

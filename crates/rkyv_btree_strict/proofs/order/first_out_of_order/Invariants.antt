@@ -1,7 +1,7 @@
 -- The search among the entries that are left decides the order of all.
 use Rattle.std.proofs.Common.{◌≡◌, ◌+◌, length}
 use Rattle.std.specs.Prelude.{MatchOption}
-use Rattle.rkyv_btree_base.specs.Increasing.{Increasing, IsOutOfOrder}
+use Rattle.rkyv_btree_format.specs.Increasing.{Increasing, IsOutOfOrder}
 use Rattle.rkyv_btree_strict.specs.mirror.Order.{unordered_after}
 use Rattle.rkyv_btree_view.specs.Iter.{entries_left}
 use Rattle.rkyv_btree_view.specs.View.{entries_of, view_value}

@@ -1,7 +1,7 @@
 -- If positions reach all bytes, the last of them are the own bytes.
 use Rattle.std.proofs.Common.{◌≡◌, rules}
-use Rattle.rkyv_btree_base.specs.Map.{map_kind}
-use Rattle.rkyv_btree_base.specs.Whole.{own_at}
+use Rattle.rkyv_btree_verify.specs.Map.{map_kind}
+use Rattle.rkyv_btree_format.specs.OwnBytes.{own_at}
 use Rattle.rkyv_btree_strict.proofs.Opened.{opening, opening_long, listed, placed}
 use Rattle.rkyv_btree_strict.proofs.strict.open_strict.Goals as goal
 use Rattle.rkyv_btree_view.specs.View.{entries_of}

@@ -1,6 +1,6 @@
 -- A map that is accepted stands, and what is accepted is what is read.
-use Rattle.rkyv_btree_base.proofs.MapLaws.{map_laws}
-use Rattle.rkyv_btree_base.specs.laws.Views.{stands_of}
+use Rattle.rkyv_btree_verify.proofs.MapLaws.{map_laws}
+use Rattle.rkyv_btree_portable.specs.laws.Views.{stands_of}
 use Rattle.rkyv_btree_strict.proofs.Opened.{strict_there}
 use Rattle.rkyv_btree_strict.proofs.strict.strict_at.Goals as goal
 

@@ -1,13 +1,13 @@
 -- What `verify` refuses, and after that the order.
 use Rattle.std.proofs.Common.{IsTrue, List, ap, refl, rules, sym, subst}
 use Rattle.std.specs.Prelude.{Ok, Err}
-use Rattle.rkyv_btree_base.specs.Refusal.TheVariants.{OutOfOrder}
+use Rattle.rkyv_btree_portable.specs.declared.refusal.Refusal.TheVariants.{OutOfOrder}
 use Rattle.rkyv_btree_portable.proofs.Exactly.{ok_exactly, err_exactly}
 use Rattle.rkyv_btree_strict.proofs.Checked.{increasing_there, only_for_order, only_of_map, out_there, read_there, widest}
 use Rattle.rkyv_btree_strict.proofs.Ordered.{not_both, one_index}
-use Rattle.rkyv_btree_base.specs.Increasing.{Increasing, IsOutOfOrder}
+use Rattle.rkyv_btree_format.specs.Increasing.{Increasing, IsOutOfOrder}
 use Rattle.rkyv_btree_strict.specs.Strict.{no_map, out_of_order}
-use Rattle.rkyv_btree_base.specs.Layout.{are_fitting}
+use Rattle.rkyv_btree_format.specs.Layout.{are_fitting}
 use Rattle.rkyv_btree_view.specs.Map.{IsMap}
 use Rattle.rkyv_btree_strict.proofs.strict.verify_strict.Goals as goal
 

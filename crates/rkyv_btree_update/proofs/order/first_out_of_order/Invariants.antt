@@ -1,7 +1,7 @@
 -- The search among the changes that are left decides the order of all.
 use Rattle.std.proofs.Common.{◌≡◌, ◌+◌, length}
 use Rattle.std.specs.Prelude.{MatchOption}
-use Rattle.rkyv_btree_base.specs.Increasing.{Increasing, IsOutOfOrder}
+use Rattle.rkyv_btree_format.specs.Increasing.{Increasing, IsOutOfOrder}
 use Rattle.rkyv_btree_strict.specs.mirror.Order.{unordered_after}
 use Rattle.rkyv_btree_update.proofs.order.first_out_of_order.Given as goal
 

@@ -1,6 +1,6 @@
 -- The changes are in order, or the error has the index of the first one that isn't.
 use Rattle.std.proofs.Common.{Err, refl, ap}
-use Rattle.rkyv_btree_base.specs.Fault.TheVariants.{OutOfOrder}
+use Rattle.rkyv_btree_writer.specs.declared.fault.Fault.TheVariants.{OutOfOrder}
 use Rattle.rkyv_btree_strict.proofs.Ordered.{not_both, one_index}
 use Rattle.rkyv_btree_writing_laws.proofs.Kept.{same_begins}
 use Rattle.rkyv_btree_update.proofs.Writes.{fails}

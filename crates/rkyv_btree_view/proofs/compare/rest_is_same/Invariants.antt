@@ -1,7 +1,7 @@
 -- What is left of both agrees exactly where both lists did.
 use Rattle.std.proofs.Common.{◌≡◌, length}
 use Rattle.std.specs.Cmp.Lexicographic.{pointwise}
-use Rattle.rkyv_btree_base.specs.Entry.{entry_kind}
+use Rattle.rkyv_btree_portable.specs.Entry.{entry_kind}
 use Rattle.rkyv_btree_view.specs.Iter.{entries_left}
 use Rattle.rkyv_btree_view.proofs.compare.rest_is_same.Given as goal
 

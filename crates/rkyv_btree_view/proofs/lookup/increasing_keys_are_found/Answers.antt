@@ -1,6 +1,6 @@
 -- Keys that increase are ordered for each cut.
-use Rattle.rkyv_btree_base.specs.Layout.{layout_of}
-use Rattle.rkyv_btree_base.specs.Read.{entry_at, map_tree}
+use Rattle.rkyv_btree_format.specs.Layout.{layout_of}
+use Rattle.rkyv_btree_format.specs.Read.{entry_at, map_tree}
 use Rattle.rkyv_btree_view.specs.laws.Cuts.{order_cuts}
 use Rattle.rkyv_btree_view.specs.laws.Increasing.{increasing_finds}
 use Rattle.rkyv_btree_view.proofs.lookup.increasing_keys_are_found.Goals as goal

@@ -1,12 +1,12 @@
 -- The tree that is read is the one that is spelled.
 use Rattle.std.proofs.Common.{◌≡◌, ℕ, ◌≤◌, ◌∙◌, List, [], ap, sym, subst, arith, inl, inr}
-use Rattle.rkyv_btree_base.proofs.Mapped.{height_mapped}
-use Rattle.rkyv_btree_base.proofs.Readings.{tree_is_read}
-use Rattle.rkyv_btree_base.specs.Kind.{Kind}
-use Rattle.rkyv_btree_base.specs.Layout.{layout_of}
-use Rattle.rkyv_btree_base.specs.Read.{entry_at, map_tree}
-use Rattle.rkyv_btree_base.specs.Spells.{Accepted, accepted_tree}
-use Rattle.rkyv_btree_base.specs.Tree.{leaf, height}
+use Rattle.rkyv_btree_shape.proofs.Mapped.{height_mapped}
+use Rattle.rkyv_btree_format.proofs.Readings.{tree_is_read}
+use Rattle.rkyv_btree_portable.specs.Kind.{Kind}
+use Rattle.rkyv_btree_format.specs.Layout.{layout_of}
+use Rattle.rkyv_btree_format.specs.Read.{entry_at, map_tree}
+use Rattle.rkyv_btree_format.specs.Spells.{Accepted, accepted_tree}
+use Rattle.rkyv_btree_shape.specs.Tree.{leaf, height}
 use Rattle.rkyv_btree_view.proofs.lookup.searched_trees_are_spelled.Goals as goal
 
 low : (K V : Kind) (E : ℕ) (b : List ℕ) (lo hi at left : ℕ) (m : List (K.Value × V.Value)) (a : Accepted K V E b lo hi at left m) → height (accepted_tree K V E b lo hi at left m a) ≤ 32

@@ -1,7 +1,7 @@
 -- The probe has all that a lookup promises.
 use Rattle.std.proofs.Common.{refl}
-use Rattle.rkyv_btree_base.specs.Layout.{layout_of}
-use Rattle.rkyv_btree_base.specs.Read.{entry_at, map_tree}
+use Rattle.rkyv_btree_format.specs.Layout.{layout_of}
+use Rattle.rkyv_btree_format.specs.Read.{entry_at, map_tree}
 use Rattle.rkyv_btree_walk.proofs.Hits.{probe_finds}
 use Rattle.rkyv_btree_view.proofs.lookup.what_is_found_is_equal.Goals as goal
 

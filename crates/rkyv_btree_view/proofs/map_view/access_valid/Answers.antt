@@ -1,7 +1,7 @@
 -- A map that is accepted stands, and what is accepted is what is read.
 use Rattle.std.proofs.Common.{sym}
-use Rattle.rkyv_btree_base.proofs.MapLaws.{map_laws}
-use Rattle.rkyv_btree_base.specs.laws.Views.{stands_of}
+use Rattle.rkyv_btree_verify.proofs.MapLaws.{map_laws}
+use Rattle.rkyv_btree_portable.specs.laws.Views.{stands_of}
 use Rattle.rkyv_btree_view.proofs.map_view.access_valid.Goals as goal
 
 pub invariant_of-result : goal.invariant_of-result

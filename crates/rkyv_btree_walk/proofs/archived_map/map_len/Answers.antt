@@ -1,6 +1,6 @@
 -- A map stands with its eight bytes, and says how many entries are read.
 use Rattle.std.proofs.Common.{arith, sym, ◌∙◌}
-use Rattle.rkyv_btree_base.proofs.MapLaws.{map_length, map_room, map_short}
+use Rattle.rkyv_btree_verify.proofs.MapLaws.{map_length, map_room, map_short}
 use Rattle.rkyv_btree_walk.proofs.archived_map.map_len.Goals as goal
 
 pub overflow_add-pos : goal.overflow_add-pos

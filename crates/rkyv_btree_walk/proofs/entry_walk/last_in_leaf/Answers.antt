@@ -1,7 +1,7 @@
 -- The last entry of the leaf stands, and comes after the others of it.
 use Rattle.std.proofs.Common.{arith}
 use mathlib.Core.Logic.{∥∥₁_map}
-use Rattle.rkyv_btree_base.specs.Layout.{layout_of}
+use Rattle.rkyv_btree_format.specs.Layout.{layout_of}
 use Rattle.rkyv_btree_walk.proofs.Below.{walk_run}
 use Rattle.rkyv_btree_walk.proofs.Paths.{walk_last}
 use Rattle.rkyv_btree_walk.proofs.Props.{run_had}

@@ -1,7 +1,7 @@
 -- The next entry of the leaf: what is left is one shorter.
 use Rattle.std.proofs.Common.{◌+◌, ◌++◌, ◌∷◌, [], arith, sym, append_assoc, ◌∙◌, ap}
 use mathlib.Core.Logic.{∥∥₁_map}
-use Rattle.rkyv_btree_base.specs.Layout.{layout_of}
+use Rattle.rkyv_btree_format.specs.Layout.{layout_of}
 use Rattle.rkyv_btree_walk.specs.Below.{root_place}
 use Rattle.rkyv_btree_walk.specs.Paths.{walk_rest}
 use Rattle.rkyv_btree_walk.proofs.Below.{walk_run, run_within}

@@ -1,5 +1,5 @@
 -- The way ends where the search of the leaf stops.
-use Rattle.rkyv_btree_base.specs.Layout.{layout_of}
+use Rattle.rkyv_btree_format.specs.Layout.{layout_of}
 use Rattle.rkyv_btree_walk.proofs.Searches.{leaf_counted, leaf_alone}
 use Rattle.rkyv_btree_walk.proofs.Ways.{step_finds, step_ends}
 use Rattle.rkyv_btree_walk.proofs.many.end_in_leaf.Goals as goal

@@ -1,8 +1,8 @@
 -- A map with entries has a root, which is searched.
 use Rattle.std.proofs.Common.{◌≡◌, length, ap, arith, sym}
-use Rattle.rkyv_btree_base.specs.Map.{map_kind}
-use Rattle.rkyv_btree_base.specs.laws.Views.{fitting_of}
-use Rattle.rkyv_btree_base.proofs.MapLaws.{map_room, map_short}
+use Rattle.rkyv_btree_verify.specs.Map.{map_kind}
+use Rattle.rkyv_btree_portable.specs.laws.Views.{fitting_of}
+use Rattle.rkyv_btree_verify.proofs.MapLaws.{map_room, map_short}
 use Rattle.rkyv_btree_walk.proofs.Roots.{root_leads, root_stands, root_searched, none_searched}
 use Rattle.rkyv_btree_walk.proofs.many.first_way.Goals as goal
 

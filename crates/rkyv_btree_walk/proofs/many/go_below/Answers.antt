@@ -1,7 +1,7 @@
 -- The way ends at an entry, or goes on in the child where the search of the node stops.
 use Rattle.std.proofs.Common.{◌∙◌, arith, sym}
-use Rattle.rkyv_btree_base.proofs.Sizes.{room_of}
-use Rattle.rkyv_btree_base.specs.Layout.{layout_of}
+use Rattle.rkyv_btree_format.proofs.Sizes.{room_of}
+use Rattle.rkyv_btree_format.specs.Layout.{layout_of}
 use Rattle.rkyv_btree_walk.proofs.Searches.{inner_counted}
 use Rattle.rkyv_btree_walk.proofs.Ways.{step_finds, step_ends, step_goes}
 use Rattle.rkyv_btree_walk.proofs.many.go_below.Goals as goal

@@ -1,6 +1,6 @@
 -- A node has a byte.
 use Rattle.std.proofs.Common.{arith}
-use Rattle.rkyv_btree_base.proofs.Sizes.{room_of}
+use Rattle.rkyv_btree_format.proofs.Sizes.{room_of}
 use Rattle.rkyv_btree_walk.proofs.node.is_leaf.Goals as goal
 
 pub bounds-buf-node : goal.bounds-buf-node

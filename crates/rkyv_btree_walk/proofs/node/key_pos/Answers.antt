@@ -1,6 +1,6 @@
 -- A key stands within its node.
 use Rattle.std.proofs.Common.{arith, refl}
-use Rattle.rkyv_btree_base.proofs.Sizes.{sound_of, key_inside}
+use Rattle.rkyv_btree_format.proofs.Sizes.{sound_of, key_inside}
 use Rattle.rkyv_btree_walk.proofs.node.key_pos.Goals as goal
 
 pub overflow_add-result : goal.overflow_add-result

@@ -1,7 +1,7 @@
 -- A map that stands has a root where it has entries.
 use Rattle.std.proofs.Common.{◌∙◌, arith}
 use Rattle.std.proofs.lemmas.List.{append-nil}
-use Rattle.rkyv_btree_base.proofs.MapLaws.{map_room, map_short}
+use Rattle.rkyv_btree_verify.proofs.MapLaws.{map_room, map_short}
 use Rattle.rkyv_btree_walk.specs.Below.{root_place}
 use Rattle.rkyv_btree_walk.proofs.Below.{root_placed}
 use Rattle.rkyv_btree_walk.proofs.Roots.{root_leads, root_stands, root_list}

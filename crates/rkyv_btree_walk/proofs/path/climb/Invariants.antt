@@ -1,6 +1,6 @@
 -- The way up, past nodes with no entry left.
 use Rattle.std.proofs.Common.{◌≡◌, length}
-use Rattle.rkyv_btree_base.specs.Layout.{layout_of}
+use Rattle.rkyv_btree_format.specs.Layout.{layout_of}
 use Rattle.rkyv_btree_walk.specs.mirror.Below.{PathStaysBelow}
 use Rattle.rkyv_btree_walk.specs.Paths.{path_rest}
 use Rattle.rkyv_btree_walk.specs.mirror.Path.{IsPath}

@@ -1,6 +1,6 @@
 -- Each node that is met stands, and is put on the path unless it is a leaf.
 use Rattle.std.proofs.Common.{◌-◌, ◌++◌, ◌∙◌, length, arith, sym, ap}
-use Rattle.rkyv_btree_base.specs.Layout.{layout_of}
+use Rattle.rkyv_btree_format.specs.Layout.{layout_of}
 use Rattle.rkyv_btree_walk.specs.mirror.Path.{tree_rest}
 use Rattle.rkyv_btree_walk.specs.Paths.{path_rest, walk_rest}
 use Rattle.rkyv_btree_walk.proofs.Below.{put_below}

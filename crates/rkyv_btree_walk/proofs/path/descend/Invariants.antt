@@ -1,6 +1,6 @@
 -- The way down: no entry is lost of what is left, and each child stands before its node.
 use Rattle.std.proofs.Common.{◌≡◌, ℕ, ◌-◌, ◌++◌, length, Option}
-use Rattle.rkyv_btree_base.specs.Layout.{layout_of}
+use Rattle.rkyv_btree_format.specs.Layout.{layout_of}
 use Rattle.rkyv_btree_walk.specs.Below.{IsBelow, PathBelow}
 use Rattle.rkyv_btree_walk.specs.mirror.Node.{TreeStands}
 use Rattle.rkyv_btree_walk.specs.mirror.Path.{tree_rest, IsPath}

@@ -1,7 +1,7 @@
 -- The last node is put back with its next entry, and the leaf after it is its next child; or it is put back as it was.
 use Rattle.std.proofs.Common.{◌+◌, ◌-◌, ◌<◌, ◌∷◌, ◌++◌, ◌∙◌, length, refl, arith, sym, ap}
-use Rattle.rkyv_btree_base.specs.Layout.{layout_of}
-use Rattle.rkyv_btree_base.proofs.Sizes.{room_of}
+use Rattle.rkyv_btree_format.specs.Layout.{layout_of}
+use Rattle.rkyv_btree_format.proofs.Sizes.{room_of}
 use Rattle.rkyv_btree_walk.specs.mirror.Path.{tree_rest, IsPath}
 use Rattle.rkyv_btree_walk.specs.Paths.{path_rest, walk_rest}
 use Rattle.rkyv_btree_walk.proofs.Below.{put_below, pop_below, run_inner}

@@ -1,6 +1,6 @@
 -- A step to an entry that isn't the stop takes the first entry of the range.
 use Rattle.std.proofs.Common.{[], ◌∷◌, ◌++◌, refl, sym, ap, ◌∙◌, append_assoc}
-use Rattle.rkyv_btree_base.specs.Layout.{layout_of}
+use Rattle.rkyv_btree_format.specs.Layout.{layout_of}
 use Rattle.rkyv_btree_walk.specs.mirror.Path.{leaf_rest}
 use Rattle.rkyv_btree_walk.proofs.Ranges.{step_before}
 use Rattle.rkyv_btree_walk.proofs.range_ends.before.Goals as goal

@@ -1,9 +1,9 @@
 -- What the places of a range mean is a range of what all mean.
 use Rattle.std.proofs.Common.{[], ◌∙◌, refl, ap, map, arith, None}
 use Rattle.std.specs.Range.Bound.{bound_map}
-use Rattle.rkyv_btree_base.specs.Layout.{layout_of}
-use Rattle.rkyv_btree_base.specs.Read.{entry_at, map_tree, read_map}
-use Rattle.rkyv_btree_base.specs.Tree.{list}
+use Rattle.rkyv_btree_format.specs.Layout.{layout_of}
+use Rattle.rkyv_btree_format.specs.Read.{entry_at, map_tree, read_map}
+use Rattle.rkyv_btree_shape.specs.Tree.{list}
 use Rattle.rkyv_btree_walk.proofs.Below.{root_placed}
 use Rattle.rkyv_btree_walk.proofs.Ranges.{from_rises, past_rises, within_means, run_means}
 use Rattle.rkyv_btree_walk.proofs.Roots.{root_list}

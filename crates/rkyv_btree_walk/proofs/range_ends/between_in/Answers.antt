@@ -1,7 +1,7 @@
 -- What is left after the low bound is cut before the first entry past the high one.
 use Rattle.std.proofs.Common.{◌-◌, [], ◌++◌, ◌∙◌, refl, sym, ap, arith, None}
-use Rattle.rkyv_btree_base.specs.Layout.{layout_of}
-use Rattle.rkyv_btree_base.specs.Read.{run}
+use Rattle.rkyv_btree_format.specs.Layout.{layout_of}
+use Rattle.rkyv_btree_format.specs.Read.{run}
 use Rattle.rkyv_btree_walk.specs.mirror.Path.{tree_rest}
 use Rattle.rkyv_btree_walk.specs.Paths.{walk_rest}
 use Rattle.rkyv_btree_walk.specs.Remaining.{take_before}

@@ -1,7 +1,7 @@
 -- A stop in the leaf's part is where it ends; else no entry of it is the stop.
 use Rattle.std.proofs.Common.{◌-◌, refl, sym, arith, inl, inr, None, Some}
 use Rattle.std.proofs.lemmas.List.{append-nil}
-use Rattle.rkyv_btree_base.specs.Layout.{layout_of}
+use Rattle.rkyv_btree_format.specs.Layout.{layout_of}
 use Rattle.rkyv_btree_walk.specs.Paths.{path_rest}
 use Rattle.rkyv_btree_walk.proofs.Ranges.{taken_to, taken_past, stop_off}
 use Rattle.rkyv_btree_walk.proofs.Placed.{placed_cut}

@@ -1,6 +1,6 @@
 -- A node is taken from the path, and put back where it has an entry left.
 use Rattle.std.proofs.Common.{◌≡◌, [], ◌∙◌, arith, rules, sym, ap}
-use Rattle.rkyv_btree_base.specs.Layout.{layout_of}
+use Rattle.rkyv_btree_format.specs.Layout.{layout_of}
 use Rattle.rkyv_btree_walk.specs.Paths.{path_rest}
 use Rattle.rkyv_btree_walk.specs.mirror.Range.{first_of}
 use Rattle.rkyv_btree_walk.proofs.Below.{pop_below}

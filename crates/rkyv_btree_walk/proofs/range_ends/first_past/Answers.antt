@@ -1,6 +1,6 @@
 -- What is past a bound reaches its query, or is after it.
 use Rattle.std.proofs.Common.{sym, ap}
-use Rattle.rkyv_btree_base.specs.Layout.{layout_of}
+use Rattle.rkyv_btree_format.specs.Layout.{layout_of}
 use Rattle.rkyv_btree_walk.specs.Paths.{walk_rest}
 use Rattle.rkyv_btree_walk.specs.mirror.Range.{first_of}
 use Rattle.rkyv_btree_walk.proofs.Ranges.{kept_none}

@@ -1,6 +1,6 @@
 -- A map that stands has a root where it has entries.
 use Rattle.std.proofs.Common.{arith}
-use Rattle.rkyv_btree_base.proofs.MapLaws.{map_room}
+use Rattle.rkyv_btree_verify.proofs.MapLaws.{map_room}
 use Rattle.rkyv_btree_walk.proofs.Roots.{root_leads, root_readable}
 use Rattle.rkyv_btree_walk.proofs.range_ends.tree_root.Goals as goal
 

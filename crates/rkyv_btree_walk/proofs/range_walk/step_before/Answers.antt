@@ -1,8 +1,8 @@
 -- The next entry of the leaf, or of the path above it before the stop.
 use Rattle.std.proofs.Common.{◌+◌, arith}
 use mathlib.Core.Logic.{∥∥₁_map}
-use Rattle.rkyv_btree_base.specs.Layout.{layout_of}
-use Rattle.rkyv_btree_base.proofs.MapLaws.{map_short}
+use Rattle.rkyv_btree_format.specs.Layout.{layout_of}
+use Rattle.rkyv_btree_verify.proofs.MapLaws.{map_short}
 use Rattle.rkyv_btree_walk.specs.Below.{root_place}
 use Rattle.rkyv_btree_walk.proofs.Below.{walk_path, walk_run, run_within}
 use Rattle.rkyv_btree_walk.proofs.Props.{path_had, run_had}

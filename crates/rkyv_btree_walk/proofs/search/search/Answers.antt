@@ -1,6 +1,6 @@
 -- A map that stands has a root where it has entries.
 use Rattle.std.proofs.Common.{◌≡◌, length, ◌∙◌, arith, rules}
-use Rattle.rkyv_btree_base.proofs.MapLaws.{map_room}
+use Rattle.rkyv_btree_verify.proofs.MapLaws.{map_room}
 use Rattle.rkyv_btree_walk.specs.mirror.Node.{TreeCanBeRead}
 use Rattle.rkyv_btree_walk.proofs.Roots.{root_leads, root_readable, root_list, root_searched, none_searched}
 use Rattle.rkyv_btree_walk.proofs.search.search.Goals as goal

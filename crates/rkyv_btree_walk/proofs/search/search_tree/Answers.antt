@@ -1,7 +1,7 @@
 -- Each node that is met stands, and the search goes on where it stops.
 use Rattle.std.proofs.Common.{arith, sym, ◌∙◌, rules}
-use Rattle.rkyv_btree_base.proofs.Sizes.{room_of}
-use Rattle.rkyv_btree_base.specs.Layout.{layout_of}
+use Rattle.rkyv_btree_format.proofs.Sizes.{room_of}
+use Rattle.rkyv_btree_format.specs.Layout.{layout_of}
 use Rattle.rkyv_btree_walk.specs.mirror.Node.{CanBeSearched, RunStands}
 use Rattle.rkyv_btree_walk.proofs.Listed.{child_listed, entry_listed}
 use Rattle.rkyv_btree_walk.proofs.Nodes.{tree_node, tree_levels, child_before, child_stands}

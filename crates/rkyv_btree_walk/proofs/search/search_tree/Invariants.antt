@@ -1,7 +1,7 @@
 -- The way down: the search of the whole tree is what was asked so far and then the search of the tree at `node`.
 use Rattle.std.proofs.Common.{◌≡◌, ℕ, ◌+◌, ◌*◌, ◌≤◌}
 use Rattle.std.specs.declared.cmp.Ordering.{Ordering}
-use Rattle.rkyv_btree_base.specs.Layout.{layout_of}
+use Rattle.rkyv_btree_format.specs.Layout.{layout_of}
 use Rattle.rkyv_btree_walk.specs.mirror.Node.{TreeStands}
 use Rattle.rkyv_btree_walk.specs.Search.{shown_value}
 use Rattle.rkyv_btree_walk.specs.mirror.Path.{tree_rest}

@@ -1,6 +1,6 @@
 -- Each node that is met stands, and the first entry of its tree is in the child before its own first one, or is that one.
 use Rattle.std.proofs.Common.{◌≤◌, ◌∙◌, refl, sym, arith}
-use Rattle.rkyv_btree_base.specs.Layout.{layout_of}
+use Rattle.rkyv_btree_format.specs.Layout.{layout_of}
 use Rattle.rkyv_btree_walk.specs.mirror.Range.{reached_at}
 use Rattle.rkyv_btree_walk.proofs.Nodes.{tree_node, child_before}
 use Rattle.rkyv_btree_walk.proofs.Searches.{leaf_counted, inner_counted, leaf_alone}

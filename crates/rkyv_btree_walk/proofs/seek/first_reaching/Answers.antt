@@ -1,7 +1,7 @@
 -- Each node of the path stands. The way stays on the path as long as the first entry is its node's next one.
 use Rattle.std.proofs.Common.{ℕ, ◌-◌, ◌≤◌, ◌∙◌, slice_index_or, sym, arith, rules}
-use Rattle.rkyv_btree_base.specs.Layout.{layout_of}
-use Rattle.rkyv_btree_base.specs.Read.{run}
+use Rattle.rkyv_btree_format.specs.Layout.{layout_of}
+use Rattle.rkyv_btree_format.specs.Read.{run}
 use Rattle.rkyv_btree_walk.specs.mirror.Node.{RunCanBeRead, TreeStands}
 use Rattle.rkyv_btree_walk.specs.mirror.Range.{reached_at}
 use Rattle.rkyv_btree_walk.proofs.Nodes.{tree_node, child_stands}

@@ -1,7 +1,7 @@
 -- Along the path: the first entry of what is left of it so far is `stop`.
 use Rattle.std.proofs.Common.{◌≡◌, ℕ, Bool, take, None}
 use Rattle.std.specs.declared.cmp.Ordering.{Ordering}
-use Rattle.rkyv_btree_base.specs.Layout.{layout_of}
+use Rattle.rkyv_btree_format.specs.Layout.{layout_of}
 use Rattle.rkyv_btree_walk.specs.Search.{ComparesBy, shown_value}
 use Rattle.rkyv_btree_walk.specs.Paths.{path_rest}
 use Rattle.rkyv_btree_walk.specs.mirror.Range.{reached_at}

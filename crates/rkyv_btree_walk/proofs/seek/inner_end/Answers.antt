@@ -1,7 +1,7 @@
 -- An inner node that stands is full, and its entries stand.
 use Rattle.std.proofs.Common.{arith}
-use Rattle.rkyv_btree_base.specs.Layout.{layout_of}
-use Rattle.rkyv_btree_base.proofs.Sizes.{room_of}
+use Rattle.rkyv_btree_format.specs.Layout.{layout_of}
+use Rattle.rkyv_btree_format.proofs.Sizes.{room_of}
 use Rattle.rkyv_btree_walk.proofs.Searches.{node_run, inner_counted}
 use Rattle.rkyv_btree_walk.proofs.seek.inner_end.Goals as goal
 

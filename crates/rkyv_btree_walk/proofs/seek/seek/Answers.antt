@@ -1,7 +1,7 @@
 -- Each node that is met stands, and the way goes on beside its first entry that reaches the query.
 use Rattle.std.proofs.Common.{◌≡◌, ◌+◌, ◌-◌, ◌≤◌, [], ◌∙◌, length, refl, sym, arith, rules, Some}
 use Rattle.std.proofs.lemmas.List.{append-nil}
-use Rattle.rkyv_btree_base.specs.Layout.{layout_of}
+use Rattle.rkyv_btree_format.specs.Layout.{layout_of}
 use Rattle.rkyv_btree_walk.specs.mirror.Node.{RunCanBeRead}
 use Rattle.rkyv_btree_walk.specs.mirror.Range.{reached_at}
 use Rattle.rkyv_btree_walk.proofs.Below.{put_below}

@@ -2,7 +2,7 @@
 use Rattle.std.proofs.Common.{◌≡◌, ◌-◌, [], ◌++◌, length, List, ℕ, Bool, Some}
 use Rattle.std.specs.Prelude.{filter}
 use Rattle.std.specs.declared.cmp.Ordering.{Ordering}
-use Rattle.rkyv_btree_base.specs.Layout.{layout_of}
+use Rattle.rkyv_btree_format.specs.Layout.{layout_of}
 use Rattle.rkyv_btree_walk.specs.Search.{ComparesBy, shown_value}
 use Rattle.rkyv_btree_walk.specs.Below.{IsBelow, PathBelow}
 use Rattle.rkyv_btree_walk.specs.mirror.Node.{TreeStands}

@@ -1,5 +1,5 @@
 -- The first key among all is the first, where none after one that passes fails.
-use Rattle.rkyv_btree_base.proofs.Sizes.{fitting_parts}
+use Rattle.rkyv_btree_format.proofs.Sizes.{fitting_parts}
 use Rattle.rkyv_btree_walk.proofs.seek.seek_node.Goals as goal
 
 pub is_one_number-requires : goal.is_one_number-requires

@@ -1,7 +1,7 @@
 -- One call more, at the entry that comes next in a leaf or above it.
 use Rattle.std.proofs.Common.{◌∙◌, map, of_calls, ap}
-use Rattle.rkyv_btree_base.specs.Layout.{layout_of}
-use Rattle.rkyv_btree_base.specs.Read.{entry_at}
+use Rattle.rkyv_btree_format.specs.Layout.{layout_of}
+use Rattle.rkyv_btree_format.specs.Read.{entry_at}
 use Rattle.rkyv_btree_walk.proofs.Paths.{walk_more, walk_end}
 use Rattle.rkyv_btree_walk.proofs.Visits.{visits_on, visits_off}
 use Rattle.rkyv_btree_walk.proofs.visit_loop.visit_rest.Goals as goal

@@ -1,6 +1,6 @@
 -- The calls so far, and those to come.
 use Rattle.std.proofs.Common.{Option, length}
-use Rattle.rkyv_btree_base.specs.Layout.{layout_of}
+use Rattle.rkyv_btree_format.specs.Layout.{layout_of}
 use Rattle.rkyv_btree_walk.specs.mirror.Node.{RunStands}
 use Rattle.rkyv_btree_walk.specs.mirror.Path.{IsPath, read_rest}
 use Rattle.rkyv_btree_walk.specs.Paths.{path_rest}

@@ -5,7 +5,8 @@ use Rattle.rkyv_btree_writing_laws.proofs.Built.{list_built}
 use Rattle.rkyv_btree_writing_laws.proofs.OneTree.{keys_one_tree}
 use Rattle.rkyv_btree_writing_laws.proofs.SmallestMaps.{keys_smallest}
 use Rattle.rkyv_btree_writing_laws.proofs.TreeSerialised.{keys_begun, keys_drained, list_unserialised, set_serialised, units_count}
-use Rattle.rkyv_btree_writing_laws.specs.Sets.{entries_by, entry_borrowed, unit_archival, with_units}
+use Rattle.rkyv_btree_writing_laws.specs.Sets.{entries_by, entry_borrowed, unit_archival}
+use Rattle.rkyv_btree_format.specs.Units.{with_units}
 use Rattle.rkyv_btree_portable.specs.Natives.{unit_form}
 use Rattle.rkyv_btree_portable.specs.Scalars.{unit_kind}
 use Rattle.rkyv_btree_portable.specs.laws.Natives.{unit_faithful}

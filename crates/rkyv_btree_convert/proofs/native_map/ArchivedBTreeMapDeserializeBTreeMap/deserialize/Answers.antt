@@ -1,8 +1,8 @@
 -- Decoded entries whose keys increase are those of the map.
 use Rattle.std.proofs.Common.{map}
-use Rattle.rkyv_btree_base.specs.Layout.{layout_of}
-use Rattle.rkyv_btree_base.specs.Read.{map_tree}
-use Rattle.rkyv_btree_base.specs.Tree.{list}
+use Rattle.rkyv_btree_format.specs.Layout.{layout_of}
+use Rattle.rkyv_btree_format.specs.Read.{map_tree}
+use Rattle.rkyv_btree_shape.specs.Tree.{list}
 use Rattle.rkyv_btree_convert.proofs.Sorted.{map_is_sorted}
 use Rattle.rkyv_btree_convert.specs.Maps.{given_at, model_both}
 use Rattle.rkyv_btree_convert.proofs.native_map.ArchivedBTreeMapDeserializeBTreeMap.deserialize.Goals as goal

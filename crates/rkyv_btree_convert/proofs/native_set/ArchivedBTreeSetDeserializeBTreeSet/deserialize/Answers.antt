@@ -1,9 +1,9 @@
 -- Decoded entries whose keys increase are those of the set.
 use Rattle.std.proofs.Common.{map}
-use Rattle.rkyv_btree_base.specs.Layout.{layout_of}
-use Rattle.rkyv_btree_base.specs.Read.{map_tree}
-use Rattle.rkyv_btree_base.specs.Scalars.{unit_kind}
-use Rattle.rkyv_btree_base.specs.Tree.{list}
+use Rattle.rkyv_btree_format.specs.Layout.{layout_of}
+use Rattle.rkyv_btree_format.specs.Read.{map_tree}
+use Rattle.rkyv_btree_portable.specs.Scalars.{unit_kind}
+use Rattle.rkyv_btree_shape.specs.Tree.{list}
 use Rattle.rkyv_btree_convert.proofs.Sorted.{set_is_sorted}
 use Rattle.rkyv_btree_convert.specs.Maps.{given_at}
 use Rattle.rkyv_btree_convert.specs.Sets.{unit_given}

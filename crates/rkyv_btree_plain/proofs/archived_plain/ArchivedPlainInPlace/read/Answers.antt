@@ -1,5 +1,5 @@
 -- Own bytes are a value.
-use Rattle.rkyv_btree_base.specs.laws.InPlace.{plain_is_value}
+use Rattle.rkyv_btree_portable.specs.laws.InPlace.{plain_is_value}
 use Rattle.rkyv_btree_plain.specs.PlainValues.{plain_of}
 use Rattle.rkyv_btree_plain.specs.laws.PlainValues.{plain_faithful}
 use Rattle.rkyv_btree_plain.proofs.archived_plain.ArchivedPlainInPlace.read.Goals as goal

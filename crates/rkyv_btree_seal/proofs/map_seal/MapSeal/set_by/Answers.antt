@@ -1,6 +1,7 @@
 -- What is found is an entry, whose value is written.
 use Rattle.std.proofs.Common.{refl}
 use Rattle.std.specs.Prelude.{None, Some, true, false}
+use Rattle.rkyv_btree_seal.specs.Places.{SetsFound}
 use Rattle.rkyv_btree_seal.proofs.Setting.{sets_found, sets_writes, sets_sorted}
 use Rattle.rkyv_btree_walk.specs.EntryPlaces.{place_of}
 use Rattle.rkyv_btree_view.proofs.LookedUp.{natives_agree}
@@ -9,28 +10,32 @@ use Rattle.rkyv_btree_seal.proofs.map_seal.MapSeal.set_by.Goals as goal
 pub set_at-requires : goal.set_at-requires
 set_at-requires g c = rw c.in-Some.is at c.find_by.ensures.entry
 
-pub returns-in-None-clause-sets : goal.returns-in-None-clause-sets
-returns-in-None-clause-sets g c f p = record { found = None; finds = rw c.in-None.is at (c.find_by.ensures.finds f p); has_found = refl; puts = refl }
+pub returns-in-None-clause-set : goal.returns-in-None-clause-set
+returns-in-None-clause-set g c f p =
+    let K = g.K.Portable.kind in let V = g.V.Portable.kind in let E = g.M.ArchivedMap.E in
+    let b = c.args.self.now.buf.now in
+    let at = c.args.self.now.pos in
+    let comparison = f c.args.key in
+    let own = g.V.InPlace.in_place.own_bytes c.args.value in
+    let sets : SetsFound K V E b at comparison own c.args.self.now.buf.now false = record { found = None; finds = rw c.in-None.is at (c.find_by.ensures.finds f p); has_found = refl; puts = refl } in
+    record {
+      sorted = λ rises. sets_sorted K V E b at comparison own c.args.self.now.buf.now false sets rises (g.met.K.CompareWith.compares.compared c.args.key) (g.met.K.CompareWith.compares.cuts c.args.key) (natives_agree g.met.K.CompareWith.compares f p c.args.key b);
+      found = sets_found K V E b at comparison own c.args.self.now.buf.now false sets;
+      writes = sets_writes K V E b at comparison own c.args.self.now.buf.now false sets;
+      sets = sets;
+    }
 
-pub returns-in-None-clause-found : goal.returns-in-None-clause-found
-returns-in-None-clause-found g c f p = sets_found g.K.Portable.kind g.V.Portable.kind g.M.ArchivedMap.E c.args.self.now.buf.now c.args.self.now.pos (f c.args.key) _ _ false (returns-in-None-clause-sets g c f p)
-
-pub returns-in-None-clause-writes : goal.returns-in-None-clause-writes
-returns-in-None-clause-writes g c f p = sets_writes g.K.Portable.kind g.V.Portable.kind g.M.ArchivedMap.E c.args.self.now.buf.now c.args.self.now.pos (f c.args.key) _ _ false (returns-in-None-clause-sets g c f p)
-
-pub returns-in-None-clause-sorted : goal.returns-in-None-clause-sorted
-returns-in-None-clause-sorted g c f p = λ rises.
-    sets_sorted g.K.Portable.kind g.V.Portable.kind g.M.ArchivedMap.E c.args.self.now.buf.now c.args.self.now.pos (f c.args.key) _ _ false (returns-in-None-clause-sets g c f p) rises (g.met.K.CompareWith.compares.compared c.args.key) (g.met.K.CompareWith.compares.cuts c.args.key) (natives_agree g.met.K.CompareWith.compares f p c.args.key c.args.self.now.buf.now)
-
-pub returns-in-Some-clause-sets : goal.returns-in-Some-clause-sets
-returns-in-Some-clause-sets g c f p = record { found = Some (place_of c.in-Some.place); finds = rw c.in-Some.is at (c.find_by.ensures.finds f p); has_found = refl; puts = c.set_at.ensures.puts }
-
-pub returns-in-Some-clause-found : goal.returns-in-Some-clause-found
-returns-in-Some-clause-found g c f p = sets_found g.K.Portable.kind g.V.Portable.kind g.M.ArchivedMap.E c.args.self.now.buf.now c.args.self.now.pos (f c.args.key) _ _ true (returns-in-Some-clause-sets g c f p)
-
-pub returns-in-Some-clause-writes : goal.returns-in-Some-clause-writes
-returns-in-Some-clause-writes g c f p = rw c.set_at.ensures.position (sets_writes g.K.Portable.kind g.V.Portable.kind g.M.ArchivedMap.E c.args.self.now.buf.now c.args.self.now.pos (f c.args.key) _ _ true (returns-in-Some-clause-sets g c f p))
-
-pub returns-in-Some-clause-sorted : goal.returns-in-Some-clause-sorted
-returns-in-Some-clause-sorted g c f p = λ rises.
-    sets_sorted g.K.Portable.kind g.V.Portable.kind g.M.ArchivedMap.E c.args.self.now.buf.now c.args.self.now.pos (f c.args.key) _ _ true (returns-in-Some-clause-sets g c f p) rises (g.met.K.CompareWith.compares.compared c.args.key) (g.met.K.CompareWith.compares.cuts c.args.key) (natives_agree g.met.K.CompareWith.compares f p c.args.key c.args.self.now.buf.now)
+pub returns-in-Some-clause-set : goal.returns-in-Some-clause-set
+returns-in-Some-clause-set g c f p =
+    let K = g.K.Portable.kind in let V = g.V.Portable.kind in let E = g.M.ArchivedMap.E in
+    let b = c.args.self.now.buf.now in
+    let at = c.args.self.now.pos in
+    let comparison = f c.args.key in
+    let own = g.V.InPlace.in_place.own_bytes c.args.value in
+    let sets : SetsFound K V E b at comparison own c.set_at.new.self.buf.now true = record { found = Some (place_of c.in-Some.place); finds = rw c.in-Some.is at (c.find_by.ensures.finds f p); has_found = refl; puts = c.set_at.ensures.puts } in
+    record {
+      sorted = λ rises. sets_sorted K V E b at comparison own c.set_at.new.self.buf.now true sets rises (g.met.K.CompareWith.compares.compared c.args.key) (g.met.K.CompareWith.compares.cuts c.args.key) (natives_agree g.met.K.CompareWith.compares f p c.args.key b);
+      found = sets_found K V E b at comparison own c.set_at.new.self.buf.now true sets;
+      writes = sets_writes K V E b at comparison own c.set_at.new.self.buf.now true sets;
+      sets = sets;
+    }

@@ -1,6 +1,6 @@
 -- Keys compare as what their views read.
 use Rattle.std.proofs.Common.{◌∙◌, refl, rules}
-use Rattle.rkyv_btree_base.specs.Read.{read_map}
+use Rattle.rkyv_btree_format.specs.Read.{read_map}
 use Rattle.rkyv_btree_view.proofs.Bounds.{within_referred}
 use Rattle.rkyv_btree_view.proofs.Ordered.{between}
 use Rattle.rkyv_btree_view.specs.View.{view_value}

@@ -1,6 +1,6 @@
 -- A native value compares as at the positions of keys.
 use Rattle.std.proofs.Common.{◌∙◌, rules}
-use Rattle.rkyv_btree_base.specs.Read.{read_map}
+use Rattle.rkyv_btree_format.specs.Read.{read_map}
 use Rattle.rkyv_btree_view.proofs.Bounds.{within_referred}
 use Rattle.rkyv_btree_view.proofs.LookedUp.{natives_agree}
 use Rattle.rkyv_btree_view.proofs.Ordered.{between, natives_alike}

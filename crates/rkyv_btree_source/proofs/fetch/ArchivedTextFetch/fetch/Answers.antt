@@ -1,7 +1,7 @@
 -- A text is brought with own bytes that lead to it.
 use Rattle.std.proofs.Common.{◌≡◌, ◌∙◌, ◌+◌, ◌/◌, ◌*◌, ◌≤◌, ap, arith, length, take, sym}
 use Rattle.std.proofs.lemmas.List.{length-take}
-use Rattle.rkyv_btree_base.specs.Bytes.{bytes_at, number_at}
+use Rattle.rkyv_btree_portable.specs.Bytes.{bytes_at, number_at}
 use Rattle.rkyv_btree_source.proofs.Texts.{brought_reads, brought_valid, refuses_odd, refuses_range, refuses_bytes, source_reads, source_valid}
 use Rattle.rkyv_btree_source.proofs.fetch.ArchivedTextFetch.fetch.Goals as goal
 

@@ -1,6 +1,7 @@
 -- What a lookup in a source finds is what one in its bytes does.
 use Rattle.std.proofs.Common.{◌∙◌, ap, arith, refl, rules, Some, None}
-use Rattle.rkyv_btree_base.proofs.Sizes.{room_of}
+use Rattle.std.proofs.lemmas.List.{length-take-le}
+use Rattle.rkyv_btree_format.proofs.Sizes.{room_of}
 use Rattle.rkyv_btree_source.proofs.Fitting.{beside}
 use Rattle.rkyv_btree_source.proofs.Lacking.{short_beside}
 use Rattle.rkyv_btree_source.proofs.Sourced.{reads_fault, reads_found, reads_refusal}
@@ -41,9 +42,10 @@ returns-in-Err-NoRoom-clause-reads g c b e = record {
   takes = λ f p. tt;
   lacks = λ f p.
       let short = rw c.in-Err-NoRoom.field-0-is at (c.in-Err-NoRoom.ensures.lacks b e f p) in
-      let bound = rw c.in-Err-NoRoom.field-0-is at c.in-Err-NoRoom.ensures.caused in
+      let bound = rw c.in-Err-NoRoom.field-0-is at c.in-Err-NoRoom.ensures.reach in
+      let here = length-take-le c.min-reach.result c.split_at_mut-page.result.1.now (omega (arith, c.min-reach.ensures)) in
       short_beside g.K.Portable.kind g.V.Portable.kind g.M.ArchivedMap.E b g.K.Fetch.lengths g.V.Fetch.lengths (Reads g.K.Portable.kind g.V.Portable.kind g.M.ArchivedMap.E b g.K.Fetch.lengths g.V.Fetch.lengths (f c.args.key) c.args.self.now.pos) _ _ _ _ _ short
-      (omega (arith, c.split_at_mut-page.ensures.front_len, c.split_at_mut-page.ensures.back_len, c.inner_size-page_len.ensures))
+      (omega (arith, here, bound.0, bound.2, c.min-reach.ensures, c.saturating_add.ensures, c.from-in-Err-NoRoom.ensures, c.in-Err-NoRoom.needed-is, c.split_at_mut-page.ensures.front_len, c.split_at_mut-page.ensures.back_len, c.inner_size-page_len.ensures))
       (omega (arith, bound.2, c.saturating_add.ensures, c.from-in-Err-NoRoom.ensures, c.inner_size-page_len.ensures, c.in-Err-NoRoom.needed-is));
   fits = λ f p. tt;
 }
@@ -64,11 +66,12 @@ returns-in-Ok-None-clause-same_as g c b e =
 pub returns-in-Ok-None-clause-reads : goal.returns-in-Ok-None-clause-reads
 returns-in-Ok-None-clause-reads g c b e =
     let K = g.K.Portable.kind in let V = g.V.Portable.kind in let E = g.M.ArchivedMap.E in
+    let here = length-take-le c.min-reach.result c.split_at_mut-page.result.1.now (omega (arith, c.min-reach.ensures)) in
     record {
       takes = λ f p. search rules;
       lacks = λ f p. tt;
       fits = λ f p. beside K V E b g.K.Fetch.lengths g.V.Fetch.lengths (f c.args.key) (Reads K V E b g.K.Fetch.lengths g.V.Fetch.lengths (f c.args.key) c.args.self.now.pos) _ _ _
-          (omega (arith, c.split_at_mut-page.ensures.front_len, c.split_at_mut-page.ensures.back_len, c.inner_size-page_len.ensures)) (c.in-Ok-None.ensures.fits b e f p);
+          (omega (arith, here, c.min-reach.ensures, c.split_at_mut-page.ensures.front_len, c.split_at_mut-page.ensures.back_len, c.inner_size-page_len.ensures)) (c.in-Ok-None.ensures.fits b e f p);
     }
 
 pub returns-clause-same_as : goal.returns-clause-same_as
@@ -84,11 +87,12 @@ returns-clause-same_as g c b e =
 pub returns-clause-reads : goal.returns-clause-reads
 returns-clause-reads g c b e =
     let K = g.K.Portable.kind in let V = g.V.Portable.kind in let E = g.M.ArchivedMap.E in
+    let here = length-take-le c.min-reach.result c.split_at_mut-page.result.1.now (omega (arith, c.min-reach.ensures)) in
     record {
       takes = λ f p. search rules;
       lacks = λ f p. tt;
       fits = λ f p. beside K V E b g.K.Fetch.lengths g.V.Fetch.lengths (f c.args.key) (Reads K V E b g.K.Fetch.lengths g.V.Fetch.lengths (f c.args.key) c.args.self.now.pos) _ _ _
-          (omega (arith, c.split_at_mut-page.ensures.front_len, c.split_at_mut-page.ensures.back_len, c.inner_size-page_len.ensures)) (c.in-Ok-Some.ensures.fits b e f p);
+          (omega (arith, here, c.min-reach.ensures, c.split_at_mut-page.ensures.front_len, c.split_at_mut-page.ensures.back_len, c.inner_size-page_len.ensures)) (c.in-Ok-Some.ensures.fits b e f p);
     }
 
 pub returns-then-lent-page_len-clause-bounded : goal.returns-then-lent-page_len-clause-bounded

@@ -1,7 +1,7 @@
 -- A list increases or has one first entry out of order, and not both.
 use Rattle.std.proofs.Common.{ap}
 use Rattle.std.specs.Prelude.{Err}
-use Rattle.rkyv_btree_base.specs.Refusal.TheVariants.{OutOfOrder}
+use Rattle.rkyv_btree_portable.specs.declared.refusal.Refusal.TheVariants.{OutOfOrder}
 use Rattle.rkyv_btree_strict.proofs.Ordered.{not_both, one_index}
 use Rattle.rkyv_btree_view.specs.View.{entries_of}
 use Rattle.rkyv_btree_strict.proofs.strict_map.Strict.of.Goals as goal

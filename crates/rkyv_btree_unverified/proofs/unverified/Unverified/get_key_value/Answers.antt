@@ -1,6 +1,6 @@
 -- Keys compare as what their views read.
 use Rattle.std.proofs.Common.{refl, rules}
-use Rattle.rkyv_btree_base.proofs.Sizes.{room_of}
+use Rattle.rkyv_btree_format.proofs.Sizes.{room_of}
 use Rattle.rkyv_btree_unverified.proofs.Promised.{by_key, entry_failed, entry_found}
 use Rattle.rkyv_btree_view.specs.View.{view_value}
 use Rattle.rkyv_btree_view.specs.laws.Cuts.{order_cuts}

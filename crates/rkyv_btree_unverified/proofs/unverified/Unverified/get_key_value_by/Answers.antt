@@ -1,6 +1,6 @@
 -- A native value compares as at the positions of keys.
 use Rattle.std.proofs.Common.{rules}
-use Rattle.rkyv_btree_base.proofs.Sizes.{room_of}
+use Rattle.rkyv_btree_format.proofs.Sizes.{room_of}
 use Rattle.rkyv_btree_unverified.proofs.Promised.{by_native, entry_failed, entry_found}
 use Rattle.rkyv_btree_view.proofs.LookedUp.{natives_agree}
 use Rattle.rkyv_btree_unverified.proofs.unverified.Unverified.get_key_value_by.Goals as goal

@@ -1,6 +1,6 @@
 -- What is found at a place is what the views there read.
 use Rattle.std.proofs.Common.{rules}
-use Rattle.rkyv_btree_base.proofs.Sizes.{room_of}
+use Rattle.rkyv_btree_format.proofs.Sizes.{room_of}
 use Rattle.rkyv_btree_unverified.proofs.Promised.{by_comparison, entry_with_failed, entry_with_found}
 use Rattle.rkyv_btree_walk.specs.Search.{shown_value}
 use Rattle.rkyv_btree_unverified.proofs.unverified.Unverified.get_key_value_counted.Goals as goal

@@ -2,8 +2,8 @@
 use Rattle.std.proofs.Common.{List, sym, subst}
 use Rattle.std.specs.List.{AllZip}
 use Rattle.std.specs.Prelude.{ℕ, Option, Result}
-use Rattle.rkyv_btree_base.proofs.Sizes.{room_of}
-use Rattle.rkyv_btree_base.specs.Refusal.{Refusal}
+use Rattle.rkyv_btree_format.proofs.Sizes.{room_of}
+use Rattle.rkyv_btree_portable.specs.declared.refusal.Refusal.{Refusal}
 use Rattle.rkyv_btree_unverified.proofs.ManyGiven.{drained_left, given_value, no_error_on_map, zip_both}
 use Rattle.rkyv_btree_unverified.proofs.Promised.{by_native}
 use Rattle.rkyv_btree_unverified.specs.Given.{GivesValue}

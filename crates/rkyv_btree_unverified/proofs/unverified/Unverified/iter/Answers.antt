@@ -1,7 +1,7 @@
 -- Before a walk begins all entries are left, and the nodes of a map fit into the buffer.
 use Rattle.std.proofs.Common.{arith, refl}
-use Rattle.rkyv_btree_base.proofs.Sizes.{room_of}
-use Rattle.rkyv_btree_base.specs.Layout.{layout_of}
+use Rattle.rkyv_btree_format.proofs.Sizes.{room_of}
+use Rattle.rkyv_btree_format.specs.Layout.{layout_of}
 use Rattle.rkyv_btree_unverified.proofs.Along.{along_entries, entries_faultless}
 use Rattle.rkyv_btree_unverified.proofs.Chains.{no_way}
 use Rattle.rkyv_btree_unverified.proofs.Counted.{map_nodes}

@@ -1,8 +1,8 @@
 -- What is sought at the low bound, up to the first key past the high one.
 use Rattle.std.proofs.Common.{◌≡◌, ◌∙◌, ap, map, refl, rules, sym, arith}
 use Rattle.std.specs.Range.Bound.{bound_map}
-use Rattle.rkyv_btree_base.proofs.Sizes.{room_of}
-use Rattle.rkyv_btree_base.specs.Read.{entry_at, read_map}
+use Rattle.rkyv_btree_format.proofs.Sizes.{room_of}
+use Rattle.rkyv_btree_format.specs.Read.{entry_at, read_map}
 use Rattle.rkyv_btree_unverified.proofs.Along.{along_range}
 use Rattle.rkyv_btree_unverified.proofs.Counted.{map_nodes}
 use Rattle.rkyv_btree_unverified.proofs.Iterated.{iterates_between}

@@ -1,6 +1,6 @@
 -- The entries that are put are all of the map, in its order.
 use Rattle.std.proofs.Common.{sym, ap, subst}
-use Rattle.rkyv_btree_base.specs.Increasing.{Increasing}
+use Rattle.rkyv_btree_format.specs.Increasing.{Increasing}
 use Rattle.rkyv_btree_update.proofs.Lent.{whole}
 use Rattle.rkyv_btree_update.proofs.Meant.{put_increase, read_meant, shown_increase}
 use Rattle.rkyv_btree_update.specs.Updated.{all_put}

@@ -3,8 +3,8 @@ use Rattle.std.proofs.Common.{◌≡◌, Bool, true, false, refl}
 use Rattle.std.specs.Cmp.{bool_cmp_total}
 use Rattle.std.specs.Ordering.{bool_cmp}
 use Rattle.std.specs.declared.cmp.Ordering.TheVariants.{Equal}
-use Rattle.rkyv_btree_base.specs.Archiving.{itself}
-use Rattle.rkyv_btree_base.specs.Scalars.{bool_kind}
+use Rattle.rkyv_btree_writer.specs.Archiving.{itself}
+use Rattle.rkyv_btree_portable.specs.Scalars.{bool_kind}
 use Rattle.rkyv_btree_update.proofs.compare_archived.BoolCompareArchived.is_lent.Goals as goal
 
 exact_bool : (x y : Bool) → bool_cmp x y ≡ Equal → x ≡ y

@@ -2,8 +2,8 @@
 use Rattle.std.proofs.Common.{refl}
 use Rattle.std.proofs.lemmas.Cmp.{int_cmp_total}
 use Rattle.std.proofs.lemmas.Map.Lookups.{exact_signed}
-use Rattle.rkyv_btree_base.specs.Archiving.{itself}
-use Rattle.rkyv_btree_base.specs.Scalars.{i8_kind}
+use Rattle.rkyv_btree_writer.specs.Archiving.{itself}
+use Rattle.rkyv_btree_portable.specs.Scalars.{i8_kind}
 use Rattle.rkyv_btree_update.proofs.compare_archived.I8CompareArchived.is_lent.Goals as goal
 
 pub returns : goal.returns

@@ -2,8 +2,8 @@
 use Rattle.std.proofs.Common.{refl}
 use Rattle.std.proofs.lemmas.Cmp.{nat_cmp_total}
 use Rattle.std.proofs.lemmas.Map.Lookups.{exact_unsigned}
-use Rattle.rkyv_btree_base.specs.Archiving.{itself}
-use Rattle.rkyv_btree_base.specs.Scalars.{non_zero_kind}
+use Rattle.rkyv_btree_writer.specs.Archiving.{itself}
+use Rattle.rkyv_btree_portable.specs.Scalars.{non_zero_kind}
 use Rattle.rkyv_btree_update.proofs.compare_archived.NonZeroU32CompareArchived.is_lent.Goals as goal
 
 pub returns : goal.returns

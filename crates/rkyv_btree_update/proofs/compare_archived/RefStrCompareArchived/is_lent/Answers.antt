@@ -2,8 +2,8 @@
 use Rattle.std.proofs.Common.{refl}
 use Rattle.std.proofs.lemmas.Map.Lookups.{exact_bytes}
 use Rattle.std.specs.Cmp.Lexicographic.{nat_list_cmp_total}
-use Rattle.rkyv_btree_base.specs.Archiving.{itself}
-use Rattle.rkyv_btree_base.specs.Text.{text_kind}
+use Rattle.rkyv_btree_writer.specs.Archiving.{itself}
+use Rattle.rkyv_btree_portable.specs.Text.{text_kind}
 use Rattle.rkyv_btree_update.proofs.compare_archived.RefStrCompareArchived.is_lent.Goals as goal
 
 pub returns : goal.returns

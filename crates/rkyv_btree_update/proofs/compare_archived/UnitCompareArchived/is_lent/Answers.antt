@@ -1,7 +1,7 @@
 -- There is one value, which shows itself.
 use Rattle.std.proofs.Common.{refl}
-use Rattle.rkyv_btree_base.specs.Archiving.{itself}
-use Rattle.rkyv_btree_base.specs.Scalars.{unit_kind}
+use Rattle.rkyv_btree_writer.specs.Archiving.{itself}
+use Rattle.rkyv_btree_portable.specs.Scalars.{unit_kind}
 use Rattle.rkyv_btree_update.proofs.compare_archived.UnitCompareArchived.is_lent.Goals as goal
 
 pub returns : goal.returns

@@ -2,10 +2,10 @@
 use Rattle.std.proofs.Common.{◌≡◌, ◌+◌, refl, subst}
 use Rattle.std.proofs.lemmas.Cmp.{on_total, then_total}
 use Rattle.std.proofs.lemmas.Map.Lookups.{exact_pairs}
-use Rattle.rkyv_btree_base.specs.Archiving.{Matches}
-use Rattle.rkyv_btree_base.specs.Entry.{entry_kind, value_offset}
-use Rattle.rkyv_btree_base.specs.Kind.{Kind}
-use Rattle.rkyv_btree_base.specs.laws.EntryArchived.{same_entry, same_offset}
+use Rattle.rkyv_btree_writer.specs.Archiving.{Matches}
+use Rattle.rkyv_btree_portable.specs.Entry.{entry_kind, value_offset}
+use Rattle.rkyv_btree_portable.specs.Kind.{Kind}
+use Rattle.rkyv_btree_archive.specs.laws.EntryArchived.{same_entry, same_offset}
 use Rattle.rkyv_btree_update.proofs.pairs.Tuple2CompareArchived.is_lent.Goals as goal
 
 -- entries match part by part

@@ -4,7 +4,7 @@ use Rattle.std.specs.Option.{option_map}
 use Rattle.std.specs.Ordering.{is_lt}
 use Rattle.std.specs.declared.cmp.Ordering.{Ordering}
 use Rattle.std.specs.declared.cmp.Ordering.TheVariants.{Less, Equal, Greater}
-use Rattle.rkyv_btree_base.specs.Increasing.{Increasing}
+use Rattle.rkyv_btree_format.specs.Increasing.{Increasing}
 use Rattle.rkyv_btree_update.proofs.Lent.{last}
 use Rattle.rkyv_btree_update.proofs.Quiet.{bare, earlier_before, last_before, no_later, none_of}
 use Rattle.rkyv_btree_update.specs.Updated.{change_meant, key_change}

@@ -1,7 +1,7 @@
 -- The entry before a leaf comes before the changes if the leaf's last one does; else it is put back.
 use Rattle.std.proofs.Common.{refl, ap, sym, subst, ◌∙◌}
 use Rattle.std.specs.Option.{option_map}
-use Rattle.rkyv_btree_base.specs.Increasing.{Increasing}
+use Rattle.rkyv_btree_format.specs.Increasing.{Increasing}
 use Rattle.rkyv_btree_update.proofs.Quiet.{all_entries, crossed, crossing_gives, returned}
 use Rattle.rkyv_btree_update.specs.Natives.{both}
 use Rattle.rkyv_btree_update.specs.Updated.{updated}

@@ -1,7 +1,7 @@
 -- With what is left the hasher comes to where the whole list takes it.
 use Rattle.std.proofs.Common.{◌≡◌, length}
 use Rattle.std.specs.List.{flat_map, fold}
-use Rattle.rkyv_btree_base.specs.Entry.{entry_kind}
+use Rattle.rkyv_btree_portable.specs.Entry.{entry_kind}
 use Rattle.rkyv_btree_view.specs.Iter.{entries_left}
 use Rattle.rkyv_btree_view.proofs.compare.ArchivedBTreeMapViewHash.hash_view.Given as goal
 

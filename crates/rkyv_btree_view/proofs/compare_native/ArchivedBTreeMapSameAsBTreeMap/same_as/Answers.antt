@@ -1,8 +1,8 @@
 -- The test by what keys and values mean is the test at their positions.
 use Rattle.std.proofs.Common.{sym, ◌∙◌}
-use Rattle.rkyv_btree_base.specs.Layout.{layout_of}
-use Rattle.rkyv_btree_base.specs.Read.{map_tree}
-use Rattle.rkyv_btree_base.specs.Tree.{list}
+use Rattle.rkyv_btree_format.specs.Layout.{layout_of}
+use Rattle.rkyv_btree_format.specs.Read.{map_tree}
+use Rattle.rkyv_btree_shape.specs.Tree.{list}
 use Rattle.rkyv_btree_view.specs.laws.SameAs.{places_tested}
 use Rattle.rkyv_btree_view.proofs.compare_native.ArchivedBTreeMapSameAsBTreeMap.same_as.Goals as goal
 

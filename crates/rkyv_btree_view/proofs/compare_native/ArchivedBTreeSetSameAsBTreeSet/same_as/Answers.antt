@@ -1,10 +1,10 @@
 -- The test by what keys mean is the test at their positions.
 use Rattle.std.proofs.Common.{sym, ◌∙◌, refl, true}
-use Rattle.rkyv_btree_base.specs.Layout.{layout_of}
-use Rattle.rkyv_btree_base.specs.Read.{map_tree}
-use Rattle.rkyv_btree_base.specs.Scalars.{unit_kind}
-use Rattle.rkyv_btree_base.specs.Sets.{with_units}
-use Rattle.rkyv_btree_base.specs.Tree.{list}
+use Rattle.rkyv_btree_format.specs.Layout.{layout_of}
+use Rattle.rkyv_btree_format.specs.Read.{map_tree}
+use Rattle.rkyv_btree_portable.specs.Scalars.{unit_kind}
+use Rattle.rkyv_btree_format.specs.Units.{with_units}
+use Rattle.rkyv_btree_shape.specs.Tree.{list}
 use Rattle.rkyv_btree_view.specs.View.{entries_of}
 use Rattle.rkyv_btree_view.specs.laws.SameAs.{places_tested, units_tested}
 use Rattle.rkyv_btree_view.proofs.compare_native.ArchivedBTreeSetSameAsBTreeSet.same_as.Goals as goal

@@ -1,5 +1,5 @@
 -- A value stands after its key.
-use Rattle.rkyv_btree_base.specs.laws.EntryLaws.{value_stands}
+use Rattle.rkyv_btree_portable.specs.laws.EntryLaws.{value_stands}
 use Rattle.rkyv_btree_view.proofs.entry_view.View+Entry+K+V.value.Goals as goal
 
 pub invariant_of-result : goal.invariant_of-result

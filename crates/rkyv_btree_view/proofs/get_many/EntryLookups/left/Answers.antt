@@ -3,7 +3,7 @@ use Rattle.std.proofs.Common.{arith, drop, map, take, length-append}
 use Rattle.std.proofs.lemmas.List.{length-map}
 use Rattle.std.specs.Option.{option_map}
 use Rattle.std.specs.Prelude.{Option}
-use Rattle.rkyv_btree_base.specs.Read.{entry_at}
+use Rattle.rkyv_btree_format.specs.Read.{entry_at}
 use Rattle.rkyv_btree_walk.specs.Ends.{end_of}
 use Rattle.rkyv_btree_walk.specs.declared.many.Way.{Way}
 use Rattle.rkyv_btree_walk.specs.declared.many.Way.TheVariants.{On}

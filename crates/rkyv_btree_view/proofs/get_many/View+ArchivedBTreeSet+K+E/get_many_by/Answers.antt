@@ -2,7 +2,7 @@
 use Rattle.std.proofs.Common.{◌∙◌, ap, drop, length, map}
 use Rattle.std.proofs.lemmas.Simd.{map-map}
 use Rattle.std.specs.Option.{option_map}
-use Rattle.rkyv_btree_base.specs.Scalars.{unit_kind}
+use Rattle.rkyv_btree_portable.specs.Scalars.{unit_kind}
 use Rattle.rkyv_btree_view.specs.ManyLeft.{key_lookups_left}
 use Rattle.rkyv_btree_view.specs.ManyLookups.{entry_looked_up_in}
 use Rattle.rkyv_btree_view.specs.View.{view_value}

@@ -1,7 +1,7 @@
 -- The last place of the leaf is the last of those at hand.
 use Rattle.std.proofs.Common.{◌+◌, ◌∷◌, ◌++◌, ◌∙◌, map, sym, ap}
 use Rattle.std.proofs.lemmas.List.{length-map, map-append}
-use Rattle.rkyv_btree_base.specs.Read.{entry_at}
+use Rattle.rkyv_btree_format.specs.Read.{entry_at}
 use Rattle.rkyv_btree_view.proofs.Remaining.{remaining_is}
 use Rattle.rkyv_btree_walk.specs.EntryPlaces.{place_of}
 use Rattle.rkyv_btree_view.proofs.iter.Iter.last_at_hand.Goals as goal

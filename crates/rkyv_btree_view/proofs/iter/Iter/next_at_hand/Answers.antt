@@ -1,7 +1,7 @@
 -- The walk takes the next entry of its leaf, or stays as it is.
 use Rattle.std.proofs.Common.{◌+◌, ◌-◌, ◌∷◌, ◌∙◌, map, sym, ap}
-use Rattle.rkyv_btree_base.specs.Layout.{layout_of}
-use Rattle.rkyv_btree_base.specs.Read.{entry_at, read_map}
+use Rattle.rkyv_btree_format.specs.Layout.{layout_of}
+use Rattle.rkyv_btree_format.specs.Read.{entry_at, read_map}
 use Rattle.rkyv_btree_view.proofs.Remaining.{remaining_is}
 use Rattle.rkyv_btree_view.specs.Iter.{last_of}
 use Rattle.rkyv_btree_view.specs.View.{view_entry}

@@ -1,7 +1,7 @@
 -- The walk takes the next entry, so one entry less remains.
 use Rattle.std.proofs.Common.{◌∷◌, ◌∙◌, map, sym, ap}
-use Rattle.rkyv_btree_base.specs.Layout.{layout_of}
-use Rattle.rkyv_btree_base.specs.Read.{entry_at}
+use Rattle.rkyv_btree_format.specs.Layout.{layout_of}
+use Rattle.rkyv_btree_format.specs.Read.{entry_at}
 use Rattle.rkyv_btree_view.proofs.Remaining.{end_taken, remaining_is, shorter}
 use Rattle.rkyv_btree_view.specs.View.{view_entry}
 use Rattle.rkyv_btree_walk.specs.mirror.Along.{walk_left}

@@ -1,8 +1,8 @@
 -- The walk takes the next entry, so one entry less remains.
 use Rattle.std.proofs.Common.{◌∷◌, ◌∙◌, map, sym, ap}
 use mathlib.Core.Logic.{∥∥₁_map}
-use Rattle.rkyv_btree_base.specs.Layout.{layout_of}
-use Rattle.rkyv_btree_base.specs.Read.{entry_at}
+use Rattle.rkyv_btree_format.specs.Layout.{layout_of}
+use Rattle.rkyv_btree_format.specs.Read.{entry_at}
 use Rattle.rkyv_btree_view.proofs.Remaining.{shorter}
 use Rattle.rkyv_btree_view.specs.View.{view_entry}
 use Rattle.rkyv_btree_walk.proofs.Placed.{between_left}

@@ -1,7 +1,7 @@
 -- The keys of the map's range are those of the set's.
 use Rattle.std.proofs.Common.{refl}
 use Rattle.std.specs.Range.Bound.{bound_map}
-use Rattle.rkyv_btree_base.specs.Scalars.{unit_kind}
+use Rattle.rkyv_btree_portable.specs.Scalars.{unit_kind}
 use Rattle.rkyv_btree_view.specs.Keys.{range_keys_left}
 use Rattle.rkyv_btree_view.specs.Range.{range_left}
 use Rattle.rkyv_btree_view.specs.View.{view_value, entries_of}

@@ -2,7 +2,7 @@
 use Rattle.std.proofs.Common.{◌≡◌}
 use Rattle.std.proofs.lemmas.List.Elements.{All-map}
 use Rattle.std.specs.Range.Bound.{bound_map}
-use Rattle.rkyv_btree_base.specs.Scalars.{unit_kind}
+use Rattle.rkyv_btree_portable.specs.Scalars.{unit_kind}
 use Rattle.rkyv_btree_view.specs.Keys.{range_keys_left}
 use Rattle.rkyv_btree_view.specs.Range.{range_left}
 use Rattle.rkyv_btree_view.specs.View.{view_value, entries_of}

@@ -3,10 +3,10 @@ use Rattle.std.specs.Prelude.{IsUtf8, ℤ, pos}
 use Rattle.std.proofs.Common.{◌≡◌, ℕ, ◌+◌, ◌-◌, ◌<◌, List, take, drop, subst, ◌∙◌, arith, refl, to_z, of_z, w64}
 use Rattle.std.proofs.lemmas.Int.{ints}
 use Rattle.std.specs.Int.RustNames.{unsigned_abs}
-use Rattle.rkyv_btree_base.specs.Bytes.{bytes_at}
-use Rattle.rkyv_btree_base.specs.Text.{text_len}
-use Rattle.rkyv_btree_base.specs.laws.Views.{means_read}
-use Rattle.rkyv_btree_base.specs.laws.TextLaws.{text_laws}
+use Rattle.rkyv_btree_portable.specs.Bytes.{bytes_at}
+use Rattle.rkyv_btree_portable.specs.Text.{text_len}
+use Rattle.rkyv_btree_portable.specs.laws.Views.{means_read}
+use Rattle.rkyv_btree_portable.specs.laws.TextLaws.{text_laws}
 use Rattle.rkyv_btree_view.proofs.view.View+ArchivedText.as_str.Goals as goal
 
 -- a place that isn't before the buffer's start is its number

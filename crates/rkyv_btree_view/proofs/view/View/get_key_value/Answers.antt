@@ -1,7 +1,7 @@
 -- Keys compare as what their views read.
 use Rattle.std.proofs.Common.{◌∙◌, ap, refl, rules}
 use Rattle.std.specs.Option.{option_map}
-use Rattle.rkyv_btree_base.specs.Read.{entry_at}
+use Rattle.rkyv_btree_format.specs.Read.{entry_at}
 use Rattle.rkyv_btree_view.proofs.Promised.{entry_lookup}
 use Rattle.rkyv_btree_view.specs.View.{view_value}
 use Rattle.rkyv_btree_view.specs.laws.Cuts.{order_cuts}

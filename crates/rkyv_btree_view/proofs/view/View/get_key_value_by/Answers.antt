@@ -1,7 +1,7 @@
 -- A native value compares as at the positions of keys.
 use Rattle.std.proofs.Common.{◌∙◌, ap, rules}
 use Rattle.std.specs.Option.{option_map}
-use Rattle.rkyv_btree_base.specs.Read.{entry_at}
+use Rattle.rkyv_btree_format.specs.Read.{entry_at}
 use Rattle.rkyv_btree_view.proofs.LookedUp.{natives_agree}
 use Rattle.rkyv_btree_view.proofs.Promised.{entry_lookup}
 use Rattle.rkyv_btree_view.proofs.view.View.get_key_value_by.Goals as goal

@@ -1,14 +1,14 @@
 -- The entry that is found is one of the map, and the search compares no more keys than the tree has room for.
 use Rattle.std.proofs.Common.{◌∙◌, ◌+◌, ap, arith, rules}
-use Rattle.rkyv_btree_base.specs.Map.{map_kind}
-use Rattle.rkyv_btree_base.specs.laws.Views.{fitting_of}
+use Rattle.rkyv_btree_verify.specs.Map.{map_kind}
+use Rattle.rkyv_btree_portable.specs.laws.Views.{fitting_of}
 use Rattle.rkyv_btree_walk.specs.mirror.Search.{comparison_at}
 use Rattle.rkyv_btree_walk.proofs.Roots.{map_compared_bound}
 use Rattle.rkyv_btree_view.proofs.Lookups.{count_room}
 use Rattle.std.specs.Option.{option_map}
-use Rattle.rkyv_btree_base.specs.Layout.{layout_of}
-use Rattle.rkyv_btree_base.specs.Read.{entry_at, map_tree}
-use Rattle.rkyv_btree_base.specs.Tree.{list}
+use Rattle.rkyv_btree_format.specs.Layout.{layout_of}
+use Rattle.rkyv_btree_format.specs.Read.{entry_at, map_tree}
+use Rattle.rkyv_btree_shape.specs.Tree.{list}
 use Rattle.rkyv_btree_view.proofs.LookedUp.{listed_read}
 use Rattle.rkyv_btree_view.proofs.Promised.{lookup_with}
 use Rattle.rkyv_btree_view.proofs.view.View.get_key_value_counted.Goals as goal

@@ -1,9 +1,9 @@
 -- The entry that is found is one of the map.
 use Rattle.std.proofs.Common.{◌∙◌, ap, rules}
 use Rattle.std.specs.Option.{option_map}
-use Rattle.rkyv_btree_base.specs.Layout.{layout_of}
-use Rattle.rkyv_btree_base.specs.Read.{entry_at, map_tree}
-use Rattle.rkyv_btree_base.specs.Tree.{list}
+use Rattle.rkyv_btree_format.specs.Layout.{layout_of}
+use Rattle.rkyv_btree_format.specs.Read.{entry_at, map_tree}
+use Rattle.rkyv_btree_shape.specs.Tree.{list}
 use Rattle.rkyv_btree_view.proofs.LookedUp.{listed_read}
 use Rattle.rkyv_btree_view.proofs.Promised.{lookup_with}
 use Rattle.rkyv_btree_view.proofs.view.View.get_key_value_with.Goals as goal

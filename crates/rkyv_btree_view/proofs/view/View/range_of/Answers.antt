@@ -7,7 +7,7 @@ use Rattle.rkyv_btree_view.proofs.Bounds.{within_referred, unbounded_referred}
 use Rattle.rkyv_btree_view.proofs.Drained.{drained}
 use Rattle.rkyv_btree_view.proofs.LookedUp.{natives_agree}
 use Rattle.rkyv_btree_view.proofs.Ordered.{between, natives_alike}
-use Rattle.rkyv_btree_base.specs.Read.{entry_at}
+use Rattle.rkyv_btree_format.specs.Read.{entry_at}
 use Rattle.rkyv_btree_walk.proofs.Ranges.{run_means}
 use Rattle.rkyv_btree_walk.specs.EntryPlaces.{entry_places}
 use Rattle.rkyv_btree_view.proofs.view.View.range_of.Goals as goal

@@ -1,6 +1,6 @@
 -- At its start a walk has all entries left.
 use Rattle.std.proofs.Common.{[], sym, ap, ◌∙◌, map}
-use Rattle.rkyv_btree_base.specs.Read.{entry_at}
+use Rattle.rkyv_btree_format.specs.Read.{entry_at}
 use Rattle.rkyv_btree_view.proofs.Remaining.{remaining_is}
 use Rattle.rkyv_btree_view.proofs.view.View.walk.Goals as goal
 

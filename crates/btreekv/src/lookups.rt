@@ -1,0 +1,223 @@
+//! Look-ups of one key, and of many. A file isn't read whole.
+
+use crate::progress::Progress;
+use crate::system::{Ended, Names, System};
+use crate::words;
+use btreearc_lines::fault::ProgramFault;
+use btreearc_lines::spool::buffered;
+use btreearc_lines::streams::{read_all, read_line, write_all};
+use btreekv_commands::lines::bad_byte;
+use btreekv_commands::opening::Texts;
+use btreekv_commands::program::run;
+use btreekv_commands::{opening, sourced};
+use clap::ArgMatches;
+use rkyv_btree_source::source::{ReadAt, SeekSource};
+use rkyv_btree_source::unverified_source::UnverifiedSource;
+use std::fs::File;
+use std::io::{BufRead, Read};
+use std::str::from_utf8;
+
+/// Writes how much of an input was read, if the words ask for it.
+fn write_stats(system: &System<'_>, matches: &ArgMatches<'_>, read: u64, size: u64) {
+    if matches.get_flag("stats") {
+        let rt = system.rt;
+        let _ = eprintln!(rt; "btreekv: {read} of {size} bytes read");
+    }
+}
+
+/// Validates all of an input, and writes the line of a key's value.
+fn get_in_all<R: Read + Drop>(
+    system: &System<'_>,
+    matches: &ArgMatches<'_>,
+    input: R,
+) -> Result<u8, ProgramFault> {
+    let Ok(command) = words::command_of(system.alloc(), "get", matches) else {
+        return Err(ProgramFault::Memory);
+    };
+    let mut input = Progress::new(system, input);
+    let status = run(system.alloc(), &command, &mut input, &mut system.stdout())?;
+    let read = input.bytes_read();
+    write_stats(system, matches, read, read);
+    Ok(status)
+}
+
+/// Writes the line of a key's value in a regular file, of which the look-up alone is read and validated.
+fn get_in_parts(
+    system: &System<'_>,
+    matches: &ArgMatches<'_>,
+    file: File,
+) -> Result<u8, ProgramFault> {
+    let alloc = system.alloc();
+    let Ok(key) = words::owned(alloc, matches, "KEY") else {
+        return Err(ProgramFault::Memory);
+    };
+    let mut source = SeekSource { file };
+    let Ok(size) = source.size() else {
+        return Err(ProgramFault::InputFailed);
+    };
+    let mut map = sourced::open(source)?;
+    let mut room = sourced::first_room(alloc)?;
+    let form = words::form_of(matches);
+    let (line, status) = sourced::line_of(alloc, &mut map, &mut room, &key, form)?;
+    write_all(&mut system.stdout(), &line)?;
+    let read = sourced::BUDGET.saturating_sub(map.budget_left());
+    write_stats(system, matches, read, size);
+    Ok(status)
+}
+
+/// The lines of keys, with the name of their file.
+#[derive(Drop)]
+struct Keys<'n, R> {
+    input: R,
+    name: Option<&'n str>,
+}
+
+impl<'n, R: BufRead> Keys<'n, R> {
+    /// Reads the next key into a buffer, and returns whether there is one.
+    fn read(&mut self, system: &System<'_>, number: u64, key: &mut Vec<u8>) -> Result<bool, Ended> {
+        match read_line(&mut self.input, key) {
+            Ok(false) => return Ok(false),
+            Ok(true) => {}
+            Err(fault) => return Err(system.fail(Names::of_input(self.name), &fault)),
+        }
+        match bad_byte(key) {
+            None => Ok(true),
+            Some(byte) => Err(system.not_utf8(self.name, number, byte)),
+        }
+    }
+}
+
+/// Looks up keys in an archive that is all of a source, and writes the line of each that is found. Returns the exit status.
+fn write_keys<S: ReadAt, R: BufRead + Drop>(
+    system: &System<'_>,
+    names: Names<'_>,
+    map: &mut UnverifiedSource<S, Texts>,
+    mut keys: Keys<'_, R>,
+) -> Result<u8, Ended> {
+    let alloc = system.alloc();
+    let mut room = match sourced::first_room(alloc) {
+        Ok(room) => room,
+        Err(fault) => return Err(system.fail(names, &fault)),
+    };
+    let mut lines = String::new(alloc);
+    let mut line = Vec::new(alloc);
+    let mut status = 0;
+    for number in 1..u64::MAX {
+        if !keys.read(system, number, &mut line)? {
+            break;
+        }
+        let Ok(key) = from_utf8(&line) else {
+            break;
+        };
+        match sourced::push_found(alloc, map, &mut room, key, &mut lines) {
+            Ok(true) => {}
+            Ok(false) => status = 1,
+            Err(fault) => return Err(system.fail(names, &fault)),
+        }
+    }
+    match write_all(&mut system.stdout(), lines.as_bytes()) {
+        Ok(()) => Ok(status),
+        Err(fault) => Err(system.fail(names, &fault)),
+    }
+}
+
+/// Looks up the keys that a reader has, in an archive that is all of a source.
+fn write_keys_of<S: ReadAt, R: Read + Drop>(
+    system: &System<'_>,
+    names: Names<'_>,
+    map: &mut UnverifiedSource<S, Texts>,
+    input: R,
+    name: Option<&str>,
+) -> Result<u8, Ended> {
+    match buffered(system.alloc(), Progress::silent(system, input)) {
+        Ok(input) => write_keys(system, names, map, Keys { input, name }),
+        Err(fault) => Err(system.fail(names, &fault)),
+    }
+}
+
+/// Looks up the keys of a file, or of standard input, in an archive that is all of a source.
+fn get_keys_in<S: ReadAt + Drop>(
+    system: &System<'_>,
+    matches: &ArgMatches<'_>,
+    mut source: S,
+    keys: &str,
+) -> Result<u8, Ended> {
+    let names = Names::of_input(matches.get_str("KEY"));
+    let Ok(size) = source.size() else {
+        return Err(system.fail(names, &ProgramFault::InputFailed));
+    };
+    let mut map = match sourced::open(source) {
+        Ok(map) => map,
+        Err(fault) => return Err(system.fail(names, &fault)),
+    };
+    let status = if keys == "-" {
+        write_keys_of(system, names, &mut map, system.rt.stdin(), None)?
+    } else {
+        let file = system.open(keys)?;
+        write_keys_of(system, names, &mut map, file, Some(keys))?
+    };
+    let read = sourced::BUDGET.saturating_sub(map.budget_left());
+    write_stats(system, matches, read, size);
+    Ok(status)
+}
+
+/// Reads and validates all of an archive.
+fn validated(system: &System<'_>, file: File) -> Result<Vec<u8>, ProgramFault> {
+    let bytes = read_all(system.alloc(), &mut Progress::new(system, file))?;
+    opening::open(&bytes)?;
+    Ok(bytes)
+}
+
+/// Looks up the keys of a file, or of standard input.
+fn get_keys(system: &System<'_>, matches: &ArgMatches<'_>, keys: &str) -> Result<u8, Ended> {
+    // The words have no key then, so the first of them is the file.
+    let path = matches.get_str("KEY").unwrap_or("");
+    let file = system.open(path)?;
+    if is_regular(&file) && !matches.get_flag("validate") {
+        return get_keys_in(system, matches, SeekSource { file }, keys);
+    }
+    match validated(system, file) {
+        Ok(bytes) => get_keys_in(system, matches, bytes.as_slice(), keys),
+        Err(fault) => Err(system.fail(Names::of_input(Some(path)), &fault)),
+    }
+}
+
+/// Returns whether a file is a regular one.
+fn is_regular(file: &File) -> bool {
+    match file.metadata() {
+        Ok(metadata) => metadata.is_file(),
+        Err(_) => false,
+    }
+}
+
+/// Writes the line of a key's value in a file.
+fn get_in_file(
+    system: &System<'_>,
+    matches: &ArgMatches<'_>,
+    file: File,
+) -> Result<u8, ProgramFault> {
+    if is_regular(&file) && !matches.get_flag("validate") {
+        get_in_parts(system, matches, file)
+    } else {
+        get_in_all(system, matches, file)
+    }
+}
+
+/// Runs `get`, and returns the exit status.
+pub fn get(system: &System<'_>, matches: &ArgMatches<'_>) -> Result<u8, Ended> {
+    if let Some(keys) = matches.get_str("keys-from") {
+        return get_keys(system, matches, keys);
+    }
+    let path = matches.get_str("FILE");
+    let done = match path {
+        None => get_in_all(system, matches, system.rt.stdin()),
+        Some(path) => {
+            let file = system.open(path)?;
+            get_in_file(system, matches, file)
+        }
+    };
+    match done {
+        Ok(status) => Ok(status),
+        Err(fault) => Err(system.fail(Names::of_input(path), &fault)),
+    }
+}

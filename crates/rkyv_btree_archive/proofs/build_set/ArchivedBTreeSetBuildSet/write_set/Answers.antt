@@ -1,0 +1,20 @@
+-- The tree is built, and the set is written after it.
+use Rattle.std.proofs.Common.{inl}
+use Rattle.std.proofs.lemmas.Result.{err_from_is_err_and}
+use Rattle.rkyv_btree_writing_laws.proofs.MapsWritten.{result_set_unwritten, result_set_written}
+use Rattle.rkyv_btree_archive.proofs.build_set.ArchivedBTreeSetBuildSet.write_set.Goals as goal
+
+pub returns-in_err-tree-clause-err : goal.returns-in_err-tree-clause-err
+returns-in_err-tree-clause-err g c =
+    let p = err_from_is_err_and c.from_residual.result c.from_residual.ensures.1 in
+    rw (p.1, p.2) (record { cause = inl c.in_err-tree.ensures.err.cause; kept = c.in_err-tree.ensures.err.kept })
+
+pub returns-clause-ok : goal.returns-clause-ok
+returns-clause-ok g c =
+    result_set_written g.K.Portable.kind g.row.E g.KU.Archive.archival g.BKU.Borrow.borrowed g.I.Iterator.next_gives c.args.iter _ g.W.Writer.state c.args.writer.now c.serialize_from_exact_iter.new.writer c.write_root.new.writer
+    c.write_root.result _ c.in_ok-tree.ensures.ok (rw (← c.len-len.ensures.value) c.write_root.ensures.ok)
+
+pub returns-clause-err : goal.returns-clause-err
+returns-clause-err g c =
+    result_set_unwritten g.K.Portable.kind g.row.E g.KU.Archive.archival g.BKU.Borrow.borrowed g.I.Iterator.next_gives c.args.iter _ g.W.Writer.state c.args.writer.now c.serialize_from_exact_iter.new.writer c.write_root.new.writer
+    c.write_root.result _ c.in_ok-tree.ensures.ok (rw (← c.len-len.ensures.value) c.write_root.ensures.err)

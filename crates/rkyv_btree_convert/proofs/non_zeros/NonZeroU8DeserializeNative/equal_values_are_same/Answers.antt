@@ -1,0 +1,11 @@
+-- Numbers that are equal by their order are the same.
+use Rattle.std.proofs.Common.{◌≡◌, ℕ, Equal, rules}
+use Rattle.std.specs.Ordering.{nat_cmp}
+use Rattle.rkyv_btree_portable.specs.laws.NonZeros.{same_u8}
+use Rattle.rkyv_btree_convert.proofs.non_zeros.NonZeroU8DeserializeNative.equal_values_are_same.Goals as goal
+
+level : (m n : ℕ) → nat_cmp m n ≡ Equal → m ≡ n
+level m n same = search rules
+
+pub returns : goal.returns
+returns c _ x y same = same_u8 x y (level _ _ same)

@@ -1,0 +1,40 @@
+-- Keys or values that C has one after the other, as columns.
+use Rattle.std.specs.Prelude.{◌≡◌, ℕ, ◌+◌, ◌-◌, ◌*◌, ◌≤◌, List, length, IsUtf8, ◌⊎◌}
+use Rattle.rkyv_btree_portable.specs.Bytes.{bytes_at, number_at}
+use Rattle.rkyv_btree_ffi.specs.Items.{ItemType, narrow, wide, text, kind_at, Native, native_value}
+use Rattle.rkyv_btree_ffi.specs.declared.column.BtreeColumn.{BtreeColumn}
+
+module _ (c : BtreeColumn) (i : ℕ) where
+  -- where the text at an index begins, and where the text before it ends
+  abbrev pub offset : ℕ
+  offset = number_at c.offsets.now (c.offset_size * i) c.offset_size
+
+  -- the column has so many offsets, of four bytes or of eight
+  abbrev pub HasOffset : Type 0
+  HasOffset = ((c.offset_size ≡ 4) × (4 * i + 4 ≤ length c.offsets.now)) ⊎ ((c.offset_size ≡ 8) × (8 * i + 8 ≤ length c.offsets.now))
+
+-- the text at an index
+abbrev pub text_in : BtreeColumn → ℕ → List ℕ
+text_in c i = bytes_at c.buf.now (offset c i) (offset c (i + 1) - offset c i)
+
+-- the column has a text at an index: its offsets are there, it lies in the buffer, and it is UTF-8
+pub record IsText (c : BtreeColumn) (i : ℕ) : Type 0 where
+  pub there : HasOffset c (i + 1)
+  pub order : offset c i ≤ offset c (i + 1)
+  pub inside : offset c (i + 1) ≤ length c.buf.now
+  pub utf8 : IsUtf8 (text_in c i)
+
+-- the column has a key or a value of the type at an index
+abbrev pub IsCell : ItemType → BtreeColumn → ℕ → Type 0
+IsCell narrow c i = 4 * i + 4 ≤ length c.buf.now
+IsCell wide c i = 8 * i + 8 ≤ length c.buf.now
+IsCell text c i = IsText c i
+
+-- the key or the value that it is
+abbrev pub cell_value : (t : ItemType) → BtreeColumn → ℕ → (kind_at t).Value
+cell_value narrow c i = number_at c.buf.now (4 * i) 4
+cell_value wide c i = number_at c.buf.now (8 * i) 8
+cell_value text c i = text_in c i
+
+abbrev pub IsNativeCell : (t : ItemType) → BtreeColumn → ℕ → Native t → Type 0
+IsNativeCell t c i native = native_value t native ≡ cell_value t c i

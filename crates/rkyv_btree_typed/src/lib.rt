@@ -1,0 +1,12 @@
+//! Files that state the type of their map: a header with its name, and then an archive.
+#![tactic(auto)]
+
+pub mod found_name;
+pub mod from_typed;
+pub mod header;
+mod non_zero_names;
+pub mod open_typed;
+pub mod to_typed;
+pub mod type_check;
+pub mod type_laws;
+pub mod type_name;
