@@ -3,7 +3,9 @@
 use anyhow::{Context, bail};
 use std::alloc::{AllocError, Global};
 use std::collections::BTreeMap;
-use std::num::NonZeroU32;
+use std::num::{
+    NonZeroI8, NonZeroI16, NonZeroI32, NonZeroI64, NonZeroU8, NonZeroU16, NonZeroU32, NonZeroU64,
+};
 
 /// What is left of the bytes of a case.
 #[derive(Drop)]
@@ -45,6 +47,9 @@ impl<'a> Input<'a> {
         }
     }
 }
+
+/// Why a case has no number of a type without 0.
+const NO_ZERO: &str = "a number of the case is 0";
 
 /// A native type whose values cases hold.
 pub trait Wire: Drop {
@@ -99,9 +104,59 @@ impl Wire for char {
     }
 }
 
+impl Wire for NonZeroU8 {
+    fn take(_alloc: Global, input: &mut Input<'_>) -> anyhow::Result<NonZeroU8> {
+        let number = u8::from_le_bytes(input.array::<1>()?);
+        NonZeroU8::new(number).context(NO_ZERO)
+    }
+}
+
+impl Wire for NonZeroU16 {
+    fn take(_alloc: Global, input: &mut Input<'_>) -> anyhow::Result<NonZeroU16> {
+        let number = u16::from_le_bytes(input.array::<2>()?);
+        NonZeroU16::new(number).context(NO_ZERO)
+    }
+}
+
 impl Wire for NonZeroU32 {
     fn take(_alloc: Global, input: &mut Input<'_>) -> anyhow::Result<NonZeroU32> {
-        NonZeroU32::new(input.number()?).context("a number of the case is 0")
+        let number = u32::from_le_bytes(input.array::<4>()?);
+        NonZeroU32::new(number).context(NO_ZERO)
+    }
+}
+
+impl Wire for NonZeroU64 {
+    fn take(_alloc: Global, input: &mut Input<'_>) -> anyhow::Result<NonZeroU64> {
+        let number = u64::from_le_bytes(input.array::<8>()?);
+        NonZeroU64::new(number).context(NO_ZERO)
+    }
+}
+
+impl Wire for NonZeroI8 {
+    fn take(_alloc: Global, input: &mut Input<'_>) -> anyhow::Result<NonZeroI8> {
+        let number = i8::from_le_bytes(input.array::<1>()?);
+        NonZeroI8::new(number).context(NO_ZERO)
+    }
+}
+
+impl Wire for NonZeroI16 {
+    fn take(_alloc: Global, input: &mut Input<'_>) -> anyhow::Result<NonZeroI16> {
+        let number = i16::from_le_bytes(input.array::<2>()?);
+        NonZeroI16::new(number).context(NO_ZERO)
+    }
+}
+
+impl Wire for NonZeroI32 {
+    fn take(_alloc: Global, input: &mut Input<'_>) -> anyhow::Result<NonZeroI32> {
+        let number = i32::from_le_bytes(input.array::<4>()?);
+        NonZeroI32::new(number).context(NO_ZERO)
+    }
+}
+
+impl Wire for NonZeroI64 {
+    fn take(_alloc: Global, input: &mut Input<'_>) -> anyhow::Result<NonZeroI64> {
+        let number = i64::from_le_bytes(input.array::<8>()?);
+        NonZeroI64::new(number).context(NO_ZERO)
     }
 }
 
@@ -114,6 +169,12 @@ impl Wire for () {
 impl Wire for String {
     fn take(alloc: Global, input: &mut Input<'_>) -> anyhow::Result<String> {
         Ok(String::from_str(alloc, input.text()?)?)
+    }
+}
+
+impl Wire for Vec<u8> {
+    fn take(alloc: Global, input: &mut Input<'_>) -> anyhow::Result<Vec<u8>> {
+        Ok(input.bytes()?.to_vec(alloc)?)
     }
 }
 

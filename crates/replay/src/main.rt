@@ -23,9 +23,11 @@ use std::alloc::Global;
 use std::collections::BTreeMap;
 use std::io;
 use std::io::Write;
-use std::num::NonZeroU32;
+use std::num::{
+    NonZeroI8, NonZeroI16, NonZeroI32, NonZeroI64, NonZeroU8, NonZeroU16, NonZeroU32, NonZeroU64,
+};
 
-/// Runs a case of a map of numbers, `bool`, characters and `()`, by the name of its type.
+/// Runs a case of a map by the name of its type: here of numbers, `bool`, characters and `()`.
 fn of_numbers(
     alloc: Global,
     kind: &str,
@@ -48,9 +50,64 @@ fn of_numbers(
         "unit,unit,5" => native::<(), (), (), (), 5>(alloc, mode, case, out),
         "bool,u8,3" => built::<bool, u8, bool, u8, 3>(alloc, mode, case, out),
         "char,u16,2" => built::<char, u16, ArchivedChar, ArchivedU16, 2>(alloc, mode, case, out),
+        _ => of_non_zeros(alloc, kind, mode, case, out),
+    }
+}
+
+/// Runs a case of a map of numbers other than 0.
+fn of_non_zeros(
+    alloc: Global,
+    kind: &str,
+    mode: Mode,
+    case: &[u8],
+    out: &mut String,
+) -> anyhow::Result<()> {
+    match kind {
         "nonzero,u8,2" => {
             built::<NonZeroU32, u8, ArchivedNonZeroU32, u8, 2>(alloc, mode, case, out)
         }
+        "nonzero8,nonzeroi8,3" => {
+            sealed::<NonZeroU8, NonZeroI8, NonZeroU8, NonZeroI8, 3>(alloc, mode, case, out)
+        }
+        "nonzero16,nonzeroi16,2" => {
+            sealed::<NonZeroU16, NonZeroI16, ArchivedNonZeroU16, ArchivedNonZeroI16, 2>(
+                alloc, mode, case, out,
+            )
+        }
+        "nonzeroi64,nonzero64,5" => {
+            sealed::<NonZeroI64, NonZeroU64, ArchivedNonZeroI64, ArchivedNonZeroU64, 5>(
+                alloc, mode, case, out,
+            )
+        }
+        "nonzeroi32,u8,1" => {
+            native::<NonZeroI32, u8, ArchivedNonZeroI32, u8, 1>(alloc, mode, case, out)
+        }
+        _ => of_bytes(alloc, kind, mode, case, out),
+    }
+}
+
+/// Runs a case of a map with byte strings in it.
+fn of_bytes(
+    alloc: Global,
+    kind: &str,
+    mode: Mode,
+    case: &[u8],
+    out: &mut String,
+) -> anyhow::Result<()> {
+    match kind {
+        "bytes,u32,5" => sealed::<Vec<u8>, u32, ArchivedBytes, ArchivedU32, 5>(
+            alloc, mode, case, out,
+        ),
+        "bytes,bytes,3" => {
+            native::<Vec<u8>, Vec<u8>, ArchivedBytes, ArchivedBytes, 3>(alloc, mode, case, out)
+        }
+        "u32,pair(bytes,nonzero16),2" => native::<
+            u32,
+            (Vec<u8>, NonZeroU16),
+            ArchivedU32,
+            Entry<ArchivedBytes, ArchivedNonZeroU16>,
+            2,
+        >(alloc, mode, case, out),
         _ => of_others(alloc, kind, mode, case, out),
     }
 }

@@ -2,6 +2,7 @@
 
 use rkyv_btree::prelude::*;
 use std::alloc::AllocError;
+use std::num::{NonZeroI8, NonZeroU8};
 
 const DIGITS: [u8; 16] = *b"0123456789abcdef";
 
@@ -77,8 +78,57 @@ impl Shown for ArchivedChar {
     }
 }
 
+impl Shown for NonZeroU8 {
+    fn show(view: &View<'_, NonZeroU8>, out: &mut String) -> Result<(), AllocError> {
+        let number = view.to_native().get();
+        write!(out, "{number}")
+    }
+}
+
+impl Shown for NonZeroI8 {
+    fn show(view: &View<'_, NonZeroI8>, out: &mut String) -> Result<(), AllocError> {
+        let number = view.to_native().get();
+        write!(out, "{number}")
+    }
+}
+
+impl Shown for ArchivedNonZeroU16 {
+    fn show(view: &View<'_, ArchivedNonZeroU16>, out: &mut String) -> Result<(), AllocError> {
+        let number = view.to_native().get();
+        write!(out, "{number}")
+    }
+}
+
+impl Shown for ArchivedNonZeroI16 {
+    fn show(view: &View<'_, ArchivedNonZeroI16>, out: &mut String) -> Result<(), AllocError> {
+        let number = view.to_native().get();
+        write!(out, "{number}")
+    }
+}
+
 impl Shown for ArchivedNonZeroU32 {
     fn show(view: &View<'_, ArchivedNonZeroU32>, out: &mut String) -> Result<(), AllocError> {
+        let number = view.to_native().get();
+        write!(out, "{number}")
+    }
+}
+
+impl Shown for ArchivedNonZeroI32 {
+    fn show(view: &View<'_, ArchivedNonZeroI32>, out: &mut String) -> Result<(), AllocError> {
+        let number = view.to_native().get();
+        write!(out, "{number}")
+    }
+}
+
+impl Shown for ArchivedNonZeroU64 {
+    fn show(view: &View<'_, ArchivedNonZeroU64>, out: &mut String) -> Result<(), AllocError> {
+        let number = view.to_native().get();
+        write!(out, "{number}")
+    }
+}
+
+impl Shown for ArchivedNonZeroI64 {
+    fn show(view: &View<'_, ArchivedNonZeroI64>, out: &mut String) -> Result<(), AllocError> {
         let number = view.to_native().get();
         write!(out, "{number}")
     }
@@ -97,6 +147,14 @@ impl Shown for ArchivedText {
     fn show(view: &View<'_, ArchivedText>, out: &mut String) -> Result<(), AllocError> {
         out.push('x')?;
         show_bytes(view.as_str().as_bytes(), out)
+    }
+}
+
+/// Its bytes, after `x`.
+impl Shown for ArchivedBytes {
+    fn show(view: &View<'_, ArchivedBytes>, out: &mut String) -> Result<(), AllocError> {
+        out.push('x')?;
+        show_bytes(view.as_bytes(), out)
     }
 }
 

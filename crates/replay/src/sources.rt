@@ -7,7 +7,7 @@ use rkyv_btree::prelude::*;
 use rkyv_btree::source::{Fetch, SourceFault, UnverifiedSource};
 use rkyv_btree_base::layout;
 use std::alloc::Global;
-use std::num::NonZeroU32;
+use std::num::{NonZeroI8, NonZeroI32, NonZeroI64, NonZeroU8, NonZeroU16, NonZeroU32};
 
 /// Appends what a lookup in a source returns.
 fn show_found<V: Shown>(
@@ -101,6 +101,14 @@ pub(crate) fn lookup(
         "bool,u8,3" => by_number::<bool, bool, u8, 3>(alloc, case, out),
         "char,u16,2" => by_number::<char, ArchivedChar, ArchivedU16, 2>(alloc, case, out),
         "nonzero,u8,2" => by_number::<NonZeroU32, ArchivedNonZeroU32, u8, 2>(alloc, case, out),
+        "nonzero8,nonzeroi8,3" => by_number::<NonZeroU8, NonZeroU8, NonZeroI8, 3>(alloc, case, out),
+        "nonzero16,nonzeroi16,2" => {
+            by_number::<NonZeroU16, ArchivedNonZeroU16, ArchivedNonZeroI16, 2>(alloc, case, out)
+        }
+        "nonzeroi64,nonzero64,5" => {
+            by_number::<NonZeroI64, ArchivedNonZeroI64, ArchivedNonZeroU64, 5>(alloc, case, out)
+        }
+        "nonzeroi32,u8,1" => by_number::<NonZeroI32, ArchivedNonZeroI32, u8, 1>(alloc, case, out),
         "text,u32,1" => by_text::<ArchivedU32, 1>(alloc, case, out),
         "text,i32,5" => by_text::<ArchivedI32, 5>(alloc, case, out),
         _ => bail!("no such type of a source"),

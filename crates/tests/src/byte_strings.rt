@@ -1,10 +1,9 @@
-//! Byte strings, as values by themselves, keys and values.
+//! Byte strings beside native ones: how they compare, and lookups by them.
 
 use crate::lookups_types::are_found;
 use crate::same::{same, shown};
 use crate::views::hashed;
 use rkyv_btree::prelude::*;
-use std::collections::BTreeMap;
 use std::test::Fail;
 
 /// "b", 255, "b" and "ba", then the four byte strings.
@@ -31,22 +30,9 @@ fn byte_strings_compare_as_native_ones(rt: HostRuntime) {
 #[test]
 fn byte_strings_are_shown_as_slices(rt: HostRuntime) -> Result<(), Fail> {
     let last = View::<ArchivedBytes>::check(&STRINGS, 32).expect(&rt, "bytes");
-    let told = shown(rt.alloc(), &last)?;
-    same(&rt, told.as_str(), "[98, 97]");
+    let text = shown(rt.alloc(), &last)?;
+    same(&rt, text.as_str(), "[98, 97]");
     Ok(())
-}
-
-#[test]
-fn byte_strings_past_their_own_bytes_are_refused(rt: HostRuntime) {
-    // From position 0 on, one byte too many; from before the buffer on; and at a position that isn't a multiple of 4.
-    let long = [7u8, 7, 7, 7, 252, 255, 255, 255, 5, 0, 0, 0];
-    let refused = View::<ArchivedBytes>::check(&long, 4).err();
-    same(&rt, refused, Some(Refusal::BadEntry { pos: 4 }));
-    let before = [7u8, 7, 7, 7, 251, 255, 255, 255, 1, 0, 0, 0];
-    let refused = View::<ArchivedBytes>::check(&before, 4).err();
-    same(&rt, refused, Some(Refusal::BadEntry { pos: 4 }));
-    let refused = View::<ArchivedBytes>::check(&long, 2).err();
-    same(&rt, refused, Some(Refusal::Misaligned { pos: 2 }));
 }
 
 #[test]
@@ -59,22 +45,4 @@ fn byte_strings_are_found(rt: HostRuntime) -> Result<(), Fail> {
         (queries[3], 4),
     ];
     are_found::<&[u8], &[u8], ArchivedBytes>(&rt, rt.alloc(), &keys, &queries)
-}
-
-#[test]
-fn maps_of_byte_strings_come_back(rt: HostRuntime) -> Result<(), Fail> {
-    let alloc = rt.alloc();
-    sizes_fit::<Archived<BTreeMap<Vec<u8>, Vec<u8>>>>();
-    let mut map: BTreeMap<Vec<u8>, Vec<u8>> = BTreeMap::new(alloc);
-    for byte in [0u8, 127, 255] {
-        map.insert(
-            Vec::from_slice(alloc, &[byte])?,
-            Vec::from_slice(alloc, &[255, byte])?,
-        )?;
-    }
-    map.insert(Vec::new(alloc), Vec::new(alloc))?;
-    let bytes = to_archive(alloc, &map)?;
-    let back: BTreeMap<Vec<u8>, Vec<u8>> = from_archive(alloc, bytes.as_slice())?;
-    assert!(rt; back == map);
-    Ok(())
 }

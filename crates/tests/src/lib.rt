@@ -44,7 +44,6 @@ mod natives;
 #[cfg(test)]
 mod numbers;
 #[cfg(test)]
-mod other_than_0;
 #[cfg(test)]
 mod pairs;
 #[cfg(test)]
