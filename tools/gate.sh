@@ -1,10 +1,11 @@
 #!/usr/bin/env bash
-# The merge gate: the documents, the index of contracts, the reference and the header for C, against the repository, and the documents' pages against
-# each other; what makes a line of the record of refused wrong bodies invalid; rt ci; then the wrong bodies in the folders `wrong` of the crates, by
-# the record and a sample that is tried again; then what must not compile; then the programs as processes of their own, as each of two compilers built
-# them; then the growths of memory of such processes, each refused in turn; and last the bindings in C, Rust and Python, and the installed library.
-# The last line is rt ci's, 'N passed, M failed', in which the documents, their pages, the index, the reference, each wrong body, each function that
-# must not compile, the processes, the growths and each language count as one. The status is 0 where nothing failed. RT is rt's command, if not rt.
+# The merge gate: the documents, the index of contracts, the reference and the header for C, against the repository, and the documents' pages
+# against each other; what makes a line of the record of refused wrong bodies invalid; the impls that a script writes; rt ci; then the wrong bodies
+# in the folders `wrong` of the crates, by the record and a sample that is tried again; then what must not compile; then the programs as processes
+# of their own, as each of two compilers built them; then the growths of memory of such processes, each refused in turn; and last the bindings in C,
+# Rust and Python, and the installed library. The last line is rt ci's, 'N passed, M failed', in which the documents, their pages, the index, the
+# reference, each wrong body, each function that must not compile, the processes, the growths and each language count as one. The status is 0 where
+# nothing failed. RT is rt's command, if not rt.
 set -euo pipefail
 cd "$(dirname "${BASH_SOURCE[0]}")/.."
 read -ra rt <<< "${RT:-rt}"
@@ -31,6 +32,7 @@ count '([0-9]+) passed, ([0-9]+) failed' tools/index.py --check
 count '([0-9]+) passed, ([0-9]+) failed' tools/reference.py --check
 count '([0-9]+) passed, ([0-9]+) failed' tools/header.py
 count '([0-9]+) passed, ([0-9]+) failed' tools/record_test.py
+count '([0-9]+) passed, ([0-9]+) failed' tools/archived_test.py
 count '([0-9]+) passed, ([0-9]+) failed' "${rt[@]}" ci
 count '([0-9]+) refused, ([0-9]+) not' tools/edits.py --gate --after-ci
 count '([0-9]+) passed, ([0-9]+) failed' tools/must_not_compile.py

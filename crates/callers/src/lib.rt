@@ -12,3 +12,5 @@ pub mod reading;
 #[cfg(test)]
 mod tried;
 pub mod typed;
+pub mod weather;
+pub mod weather_archived;

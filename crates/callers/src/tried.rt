@@ -13,6 +13,7 @@ use crate::reading::{
     total_of_prefix, total_unverified,
 };
 use crate::typed::{are_prices, change_typed, name_of_celsius, price_typed, typed_archive_of};
+use crate::weather::Weather;
 use rkyv_btree::prelude::*;
 use std::alloc::Global;
 use std::collections::{BTreeMap, BTreeSet};
@@ -21,6 +22,8 @@ use std::io::Cursor;
 use std::test::Fail;
 
 type Numbers = Archived<BTreeSet<u32>>;
+
+type Stations = Archived<BTreeMap<u32, Weather>>;
 
 /// The archive of `apple 3` and `pear 5`.
 fn two(alloc: Global) -> Result<Vec<u8>, Fail> {
@@ -114,6 +117,27 @@ fn accounts_are_paid_into(rt: HostRuntime) -> Result<(), Fail> {
     let paid = ledger.get_native_by("ann").expect(&rt, "an account");
     assert_eq!(rt; paid.cents, 1050);
     assert_eq!(rt; (paid.flags, paid.branch), (1, 12));
+    Ok(())
+}
+
+#[test]
+fn weather_is_found(rt: HostRuntime) -> Result<(), Fail> {
+    let alloc = rt.alloc();
+    sizes_fit::<Stations>();
+    let mut stations: BTreeMap<u32, Weather> = BTreeMap::new(alloc);
+    let weather = Weather {
+        seconds: 60,
+        celsius: -5,
+        raining: false,
+        windy: true,
+    };
+    stations.insert(7, weather)?;
+    let bytes = to_archive(alloc, &stations)?;
+    let map = open::<Stations>(bytes.as_slice())?;
+    let found = map.get_native_by(7).expect(&rt, "a station");
+    assert_eq!(rt; (found.seconds, found.celsius), (60, -5));
+    assert!(rt; found.windy && !found.raining);
+    assert!(rt; map.get_native_by(8).is_none());
     Ok(())
 }
 
