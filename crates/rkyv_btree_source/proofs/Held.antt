@@ -18,3 +18,9 @@ pub in_piece : (b c : List ℕ) (piece : Piece) (place pos ahead len : ℕ) → 
 in_piece b c piece place pos ahead len h low start at =
     ap (λ n. bytes_at c n len) start
     ∙ (sym (within c piece.start piece.len ahead len low) ∙ (ap (λ l. take len (drop ahead l)) h.same ∙ (within b piece.pos piece.len ahead len low ∙ ap (λ n. bytes_at b n len) (sym at))))
+
+-- a part of what a block has is that of the source
+pub block_part : (c b : List ℕ) (pos all ahead len : ℕ) → bytes_at c 0 all ≡ bytes_at b pos all → ahead + len ≤ all → bytes_at c ahead len ≡ bytes_at b (pos + ahead) len
+block_part c b pos all ahead len same low =
+    let first : ahead ≡ 0 + ahead = omega arith in
+    ap (λ n. bytes_at c n len) first ∙ (sym (within c 0 all ahead len low) ∙ (ap (λ l. take len (drop ahead l)) same ∙ within b pos all ahead len low))

@@ -1,5 +1,6 @@
 -- The lemmas of lookups in a source of bytes.
 pub mod Brought
+pub mod ByteStrings
 pub mod Covered
 pub mod Faults
 pub mod Fitting

@@ -1,5 +1,5 @@
 -- What is known of the bytes of a source: nothing, all of them, or how many there are and those of some pieces.
-use Rattle.std.specs.Prelude.{◌≡◌, ℕ, ◌+◌, ◌≤◌, ◌<◌, List, length, Contains}
+use Rattle.std.specs.Prelude.{◌≡◌, ℕ, ◌+◌, ◌≤◌, List, length, Contains}
 use Rattle.rkyv_btree_portable.specs.Bytes.{bytes_at}
 use Rattle.rkyv_btree_source.specs.declared.piece.Piece.{Piece}
 use Rattle.rkyv_btree_source.specs.declared.piece.Missing.{Missing}

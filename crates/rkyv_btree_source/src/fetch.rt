@@ -16,6 +16,7 @@ use crate::fetch_pair::fetch_pair;
 use crate::node::place_of;
 use crate::reader::Reader;
 use crate::source::ReadAt;
+use rkyv_btree_portable::byte_string::ArchivedBytes;
 use rkyv_btree_portable::bytes::num32;
 use rkyv_btree_portable::check::{CheckBytes, Portable, Scalar};
 use rkyv_btree_portable::entry::Entry;
@@ -23,11 +24,13 @@ use rkyv_btree_portable::in_place::InPlace;
 use rkyv_btree_portable::little_endian::LittleEndian;
 use rkyv_btree_portable::refusal::Refusal;
 use rkyv_btree_portable::text::{ArchivedText, is_utf8};
+use rkyv_btree_view::view::View;
+use rkyv_btree_walk::shows::Shows;
 use rkyv_btree_writer::place::write_offset;
 use std::num::{NonZeroI8, NonZeroU8};
 
 /// An archived type whose values can be brought from a source into a lent buffer: numbers, truth values, characters, `()`, pairs of
-/// such, and text.
+/// such, texts and byte strings.
 pub trait Fetch: CheckBytes {
     /// How many bytes a value has outside its own, and how many it takes of a lent buffer.
     ghost lengths: { Lengths };
@@ -242,10 +245,10 @@ fn write_own(bytes: &mut [u8], place: u32, len: u32)
     back.copy_from_slice(&len.to_le_bytes());
 }
 
-impl Fetch for ArchivedText {
+impl Fetch for ArchivedBytes {
     ghost lengths = { text_lengths };
 
-    /// The text's bytes come first in `room`, and then its own bytes, whose offset leads to them.
+    /// The bytes come first in `room`, and then the byte string's own bytes, whose offset leads to them.
     fn fetch<S: ReadAt>(
         own_bytes: &[u8],
         pos: u32,
@@ -264,15 +267,33 @@ impl Fetch for ArchivedText {
             return Err(SourceFault::NoRoom { needed: place + 8 });
         }
         let (front, back) = room.split_at_mut(place as usize);
-        let text = &mut front[..len as usize];
-        match reader.read(start, text) {
+        match reader.read(start, &mut front[..len as usize]) {
             Ok(()) => {}
             Err(fault) => return Err(fault),
         }
-        if !is_utf8(text) {
-            return Err(SourceFault::Refused(Refusal::BadEntry { pos }));
-        }
         write_own(&mut back[..8], place as u32, len);
         Ok(place as u32)
+    }
+}
+
+impl Fetch for ArchivedText {
+    ghost lengths = { text_lengths };
+
+    /// Brings the byte string of the text, and tests that it is UTF-8.
+    fn fetch<S: ReadAt>(
+        own_bytes: &[u8],
+        pos: u32,
+        reader: &mut Reader<S>,
+        room: &mut [u8],
+    ) -> Result<u32, SourceFault<S::Error>> {
+        let place = match ArchivedBytes::fetch(own_bytes, pos, reader, room) {
+            Ok(place) => place,
+            Err(fault) => return Err(fault),
+        };
+        if is_utf8(View::<ArchivedBytes>::at(room, place).as_bytes()) {
+            Ok(place)
+        } else {
+            Err(SourceFault::Refused(Refusal::BadEntry { pos }))
+        }
     }
 }

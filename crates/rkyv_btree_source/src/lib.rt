@@ -2,6 +2,8 @@
 //! compares. It validates what it reads, and nothing else.
 #![tactic(auto)]
 
+pub mod block;
+pub mod cached;
 pub mod fault;
 pub mod fetch;
 mod fetch_pair;

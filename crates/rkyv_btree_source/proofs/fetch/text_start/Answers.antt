@@ -3,7 +3,7 @@ use Rattle.std.proofs.Common.{◌∙◌, ◌+◌, ap, arith, subst, sym, pos, �
 use Rattle.std.specs.Int.{cast_signed, w32}
 use Rattle.std.specs.Int.RustNames.{unsigned_abs}
 use Rattle.rkyv_btree_portable.specs.Bytes.{place_at}
-use Rattle.rkyv_btree_source.proofs.Texts.{leads_back, leads_on, is_near, own_count, own_place}
+use Rattle.rkyv_btree_source.proofs.ByteStrings.{leads_back, leads_on, is_near, own_count, own_place}
 use Rattle.rkyv_btree_unverified.proofs.Places.{is_natural, kept, not_behind}
 use Rattle.rkyv_btree_source.proofs.fetch.text_start.Goals as goal
 

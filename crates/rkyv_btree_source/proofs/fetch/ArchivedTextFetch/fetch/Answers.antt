@@ -1,46 +1,29 @@
--- A text is brought with own bytes that lead to it.
-use Rattle.std.proofs.Common.{◌≡◌, ◌∙◌, ◌+◌, ◌/◌, ◌*◌, ◌≤◌, ap, arith, length, take, sym}
-use Rattle.std.proofs.lemmas.List.{length-take}
-use Rattle.rkyv_btree_portable.specs.Bytes.{bytes_at, number_at}
-use Rattle.rkyv_btree_source.proofs.Texts.{brought_reads, brought_valid, refuses_odd, refuses_range, refuses_bytes, source_reads, source_valid}
+-- A text is brought as a byte string, which is UTF-8.
+use Rattle.std.proofs.Common.{◌≡◌, ◌∙◌, subst, sym, List, ℕ}
+use Rattle.std.specs.Prelude.{IsUtf8}
+use Rattle.rkyv_btree_portable.specs.Text.{read_text}
+use Rattle.rkyv_btree_source.proofs.Texts.{faulty_text, is_text, refuses_bytes}
 use Rattle.rkyv_btree_source.proofs.fetch.ArchivedTextFetch.fetch.Goals as goal
 
-pub returns-then-pos-ne0-clause-brings : goal.returns-then-pos-ne0-clause-brings
-returns-then-pos-ne0-clause-brings g c b e = refuses_odd b c.args.own_bytes.now c.args.pos (c.requires.part b e) c.requires.size c.if-pos-ne0.true
+pub returns-in-Err-clause-brings : goal.returns-in-Err-clause-brings
+returns-in-Err-clause-brings g c b e = faulty_text b 0 c.args.pos c.args.pos c.in-Err.fault (c.in-Err.ensures.brings b e)
 
-pub returns-in_default-clause-brings : goal.returns-in_default-clause-brings
-returns-in_default-clause-brings g c b e = refuses_range b c.args.own_bytes.now c.args.pos (c.requires.part b e) c.requires.size c.if-pos-ne0.false (c.in_default.ensures.none b (c.requires.part b e))
+pub returns-then-is_utf8-clause-valid : goal.returns-then-is_utf8-clause-valid
+returns-then-is_utf8-clause-valid g c =
+    let utf8 : IsUtf8 c.as_bytes.result.now = rw c.if-is_utf8.true at c.is_utf8.ensures in
+    let same : c.as_bytes.result.now ≡ read_text c.fetch.new.room c.in-Ok.place = cc in
+    is_text c.fetch.new.room c.in-Ok.place c.in-Ok.ensures.valid (subst (λ (t : List ℕ). IsUtf8 t) same utf8)
 
-pub returns-then-not-is_utf8-clause-brings : goal.returns-then-not-is_utf8-clause-brings
-returns-then-not-is_utf8-clause-brings g c b e =
-    let part = c.requires.part b e in
-    let front = c.split_at_mut-front.ensures.front_len in
-    let count : length (take c.num32-len.result c.split_at_mut-front.result.0.now) ≡ number_at c.args.own_bytes.now 4 4 = simp length-take (omega (arith, c.num32-len.ensures, c.from.ensures, front)) in
-    let is : c.read.new.part ≡ bytes_at b c.in-Some.start (number_at c.args.own_bytes.now 4 4) = c.in-Ok.ensures.gives b e ∙ ap (bytes_at b c.in-Some.start) count in
-    refuses_bytes b c.args.own_bytes.now c.args.pos part c.requires.size c.in-Some.start (number_at c.args.own_bytes.now 4 4) (c.in-Some.ensures.some b part) c.read.new.part is c.if-pos-ne0.false (rw c.if-not-is_utf8.true at c.is_utf8.ensures)
+pub returns-then-is_utf8-clause-brings : goal.returns-then-is_utf8-clause-brings
+returns-then-is_utf8-clause-brings g c b e =
+    let utf8 : IsUtf8 c.as_bytes.result.now = rw c.if-is_utf8.true at c.is_utf8.ensures in
+    let there : c.as_bytes.result.now ≡ read_text c.fetch.new.room c.in-Ok.place = cc in
+    let brought = c.in-Ok.ensures.brings b e in
+    (is_text b c.args.pos brought.0 (subst (λ (t : List ℕ). IsUtf8 t) (there ∙ brought.1) utf8), brought.1)
 
-pub returns-clause-valid : goal.returns-clause-valid
-returns-clause-valid g c =
-    let front = c.split_at_mut-front.ensures.front_len in
-    let back = c.split_at_mut-front.ensures.back_len in
-    let count : length (take c.num32-len.result c.split_at_mut-front.result.0.now) ≡ c.num32-len.result = simp length-take (omega (arith, c.from.ensures, front)) in
-    let size : length c.read.new.part ≡ c.num32-len.result = omega (arith, c.read.auto.part, count) in
-    let near : (c.from.result + 3) / 4 * 4 ≤ 2147483648 = omega (arith, c.in-Some.ensures.near, c.in-Some.ensures.before, c.num32-len.ensures, c.from.ensures) in
-    brought_valid c.read.new.part c.split_at_mut-front.result.0.now c.write_own.new.bytes c.split_at_mut-front.result.1.now ((c.from.result + 3) / 4 * 4) c.num32-len.result
-    front (omega (arith, c.from.ensures)) size (ap length c.write_own.ensures) (omega (arith, front, back, c.if-room-place.false)) (omega (arith, front, back, c.requires.short, c.if-room-place.false)) (omega arith) near c.write_own.ensures (rw c.if-not-is_utf8.false at c.is_utf8.ensures)
-
-pub returns-clause-brings : goal.returns-clause-brings
-returns-clause-brings g c b e =
-    let part = c.requires.part b e in
-    let front = c.split_at_mut-front.ensures.front_len in
-    let back = c.split_at_mut-front.ensures.back_len in
-    let count : length (take c.num32-len.result c.split_at_mut-front.result.0.now) ≡ c.num32-len.result = simp length-take (omega (arith, c.from.ensures, front)) in
-    let size : length c.read.new.part ≡ c.num32-len.result = omega (arith, c.read.auto.part, count) in
-    let near : (c.from.result + 3) / 4 * 4 ≤ 2147483648 = omega (arith, c.in-Some.ensures.near, c.in-Some.ensures.before, c.num32-len.ensures, c.from.ensures) in
-    let is : c.read.new.part ≡ bytes_at b c.in-Some.start (number_at c.args.own_bytes.now 4 4) = c.in-Ok.ensures.gives b e ∙ ap (bytes_at b c.in-Some.start) (count ∙ c.num32-len.ensures) in
-    let range = c.in-Some.ensures.some b part in (
-      source_valid b c.args.own_bytes.now c.args.pos part c.requires.size c.in-Some.start (number_at c.args.own_bytes.now 4 4) range c.read.new.part is c.if-pos-ne0.false c.in-Some.ensures.before (rw c.if-not-is_utf8.false at c.is_utf8.ensures),
-      brought_reads c.read.new.part c.split_at_mut-front.result.0.now c.write_own.new.bytes c.split_at_mut-front.result.1.now ((c.from.result + 3) / 4 * 4) c.num32-len.result
-          front (omega (arith, c.from.ensures)) size (ap length c.write_own.ensures) (omega (arith, front, back, c.if-room-place.false)) (omega (arith, front, back, c.requires.short, c.if-room-place.false)) (omega arith) near c.write_own.ensures (rw c.if-not-is_utf8.false at c.is_utf8.ensures)
-          ∙ sym (source_reads b c.args.own_bytes.now c.args.pos part c.requires.size c.in-Some.start (number_at c.args.own_bytes.now 4 4) range c.read.new.part is),
-    )
+pub returns-else-is_utf8-clause-brings : goal.returns-else-is_utf8-clause-brings
+returns-else-is_utf8-clause-brings g c b e =
+    let none : ¬ (IsUtf8 c.as_bytes.result.now) = rw c.if-is_utf8.false at c.is_utf8.ensures in
+    let there : c.as_bytes.result.now ≡ read_text c.fetch.new.room c.in-Ok.place = cc in
+    let brought = c.in-Ok.ensures.brings b e in
+    refuses_bytes b c.args.pos brought.0 (λ utf8. none (subst (λ (t : List ℕ). IsUtf8 t) (sym (there ∙ brought.1)) utf8))
