@@ -4,4 +4,5 @@ pub mod Stripping
 pub mod TypeHeader
 pub mod TypedWriting
 pub mod TypedOpening
+pub mod TypedSources
 pub mod TypedMaking

@@ -5,6 +5,7 @@ pub mod found_name;
 pub mod from_typed;
 pub mod header;
 mod non_zero_names;
+pub mod open_source;
 pub mod open_typed;
 pub mod to_typed;
 pub mod type_check;
