@@ -1,9 +1,10 @@
 #!/usr/bin/env python3
-"""Writes what a struct needs to be a key or a value of an archived map: tools/archived.py [--struct NAME] [--out FILE.rt] STRUCT.rt
+"""Writes what a type needs to be a key or a value of an archived map: tools/archived.py [--type NAME] [--out FILE.rt] TYPE.rt
 
-STRUCT.rt is a file in the folder src of a crate, with a struct NAME whose fields are public. Each field is of a type of SCALARS of structs.py, or a
-struct of the same file. The layout is that of `repr(C)` in rkyv 0.8: little-endian, each field aligned to its own alignment, and padding at the end to the
-greatest. Without --struct the struct is the one that is no other struct's field. The script writes three files of the crate:
+TYPE.rt is a file in the folder src of a crate, with an enum NAME without fields, or a struct NAME whose fields are public. Each field is of a type of
+SCALARS of structs.py, an array of bytes, or a struct or an enum of the same file. The layout is that of `repr(C)` in rkyv 0.8: little-endian, each field
+aligned to its own alignment, and padding at the end to the greatest. An enum is one byte: the place of the variant, from 0 on. Without --type the type is
+the one that is no field of a struct. The script writes three files of the crate:
 
 - src/NAME_archived.rt, or the file of --out: the impls
 - specs/NAME.antt: the layout, and the proof that bytes are read as the value of which they were written
@@ -21,7 +22,7 @@ import sys
 import textwrap
 
 from kit import RT
-from structs import NON_ZEROS, NUMBERS, SIGNED, Fault, Leaf, Node, Reader, layout_of, leaves, outer_struct
+from structs import NON_ZEROS, NUMBERS, SIGNED, Enum, Fault, Leaf, Node, Reader, layout_of, leaves, outer_type
 
 MADE = "by tools/archived.py"
 # words of definitions, which a name can't be without marks
@@ -75,12 +76,18 @@ class Definitions:
         return f"cast_signed {leaf.width} ({number})" if leaf.number in SIGNED else number
 
     def value(self, leaf):
+        if leaf.enum:
+            return f"{snake(leaf.type)}_of ({self.stored(leaf)})"
+        if leaf.count:
+            return f"elements {leaf.count} {leaf.at} {self.bytes}"
         if leaf.type == "bool":
             return f"nat_eq ({self.stored(leaf)}) 1"
         return f"{snake_of_non_zero(leaf)} ({self.stored(leaf)})" if leaf.type in NON_ZEROS else self.stored(leaf)
 
     def test(self, leaf):
         """The condition that the bytes of a field mean a value, or None."""
+        if leaf.enum:
+            return f"nat_lt ({self.stored(leaf)}) {len(leaf.enum.variants)}"
         if leaf.type == "bool":
             return f"nat_lt ({self.stored(leaf)}) 2"
         if leaf.type == "char":
@@ -93,6 +100,10 @@ class Definitions:
     def written(self, leaf):
         """The bytes of a field: a list, or one byte that isn't in a list yet, and whether it is one."""
         own = self.of(leaf)
+        if leaf.enum:
+            return f"{snake(leaf.type)}_number {own}", True
+        if leaf.count:
+            return f"elements {leaf.count} 0 {own}", False
         if leaf.type in NON_ZEROS:
             return f"{snake_of_non_zero(leaf)}_form.own_bytes {own}", False
         if leaf.type == "bool":
@@ -107,6 +118,10 @@ class Definitions:
     def fact(self, leaf):
         """What is known of a field in a program, or None."""
         own = self.of(leaf)
+        if leaf.enum:
+            return None
+        if leaf.count:
+            return f"length {own} ≡ {leaf.count}"
         if leaf.type in NON_ZEROS:
             return f"{snake_of_non_zero(leaf)}_form.IsIn {own}"
         if leaf.type == "char":
@@ -118,12 +133,14 @@ class Definitions:
     def back(self, leaf):
         """The proof that the bytes of a field are read as that field, at a point of the path."""
         own = self.of(leaf)
-        if leaf.type == "bool":
-            return f"back_bool {own} {self.i}"
+        if leaf.type == "bool" or leaf.enum:
+            return f"back_{snake(leaf.type)} {own} {self.i}"
         if self.fact(leaf) is None:
             return own
         known = [it for it in self.leaves if self.fact(it)]
         fact = self.is_in if len(known) == 1 else f"{self.is_in}.{known.index(leaf)}"
+        if leaf.count:
+            return f"all_elements {leaf.count} {own} {fact} {self.i}"
         if leaf.type == "i8":
             return f"to_z-of_z w8 {own} {fact} {self.i}"
         form = snake_of_non_zero(leaf) if leaf.type in NON_ZEROS else leaf.type
@@ -131,13 +148,15 @@ class Definitions:
 
     def valid(self, leaf):
         """The proof that the bytes of a field are a value."""
-        if leaf.type == "bool":
-            return f"valid_bool {self.of(leaf)}"
+        if leaf.type == "bool" or leaf.enum:
+            return f"valid_{snake(leaf.type)} {self.of(leaf)}"
         form = snake_of_non_zero(leaf) if leaf.type in NON_ZEROS else leaf.type
         return f"valid_of {form}_form {form}_faithful (omega arith) {self.of(leaf)}"
 
     def record(self, node, part, indent="    "):
-        """A record of a struct, with a line for each field."""
+        """A record of a struct, with a line for each field; an enum is its one part."""
+        if isinstance(node.struct, Enum):
+            return part(node.fields[0][1])
         rows = []
         for name, it in node.fields:
             rows.append(f"{indent}{marked(name)} = {part(it) if isinstance(it, Leaf) else self.record(it, part, indent + '  ')};")
@@ -187,19 +206,24 @@ class Definitions:
     def known(self):
         """What is known of a value in a program."""
         facts = [fact for fact in map(self.fact, self.leaves) if fact]
-        return broken([f"({it})" if " < " in it and len(facts) > 1 else it for it in facts], "×") or "Unit {0}"
+        return broken([f"({it})" if re.search(" [<≡] ", it) and len(facts) > 1 else it for it in facts], "×") or "Unit {0}"
 
     def places(self):
         """The comment that says where each field is."""
+        if isinstance(self.node.struct, Enum):
+            return [f"-- which bytes are a `{self.node.struct.name}`, and which one"]
         places = ", ".join(f"`{'.'.join(leaf.path)}` at {leaf.at}" for leaf in self.leaves)
         text = f"which bytes are a `{self.node.struct.name}`, and which one: {places}. Other bytes are padding, which is written as 0."
         return textwrap.wrap(text, 120, initial_indent="-- ", subsequent_indent="-- ")
 
     def body(self):
         name, low = self.node.struct.name, self.names.low
-        helpers = [text for kinds, text in HELPERS if any(self.test(leaf) and (leaf.type == "bool") == kinds for leaf in self.leaves)]
+        helpers = [text for is_needed, text in HELPERS if any(map(is_needed, self.leaves))]
         parts = list(self.parts())
+        arrays = [ELEMENTS] if any(leaf.count for leaf in self.leaves) else []
         return "\n".join([
+            *arrays,
+            *[numbers_of(it) for it in enums_of(self.leaves)],
             *parts,
             *self.places(),
             f"abbrev pub {low}_layout : PlainLayout {name}",
@@ -213,6 +237,7 @@ class Definitions:
             "}",
             "",
             *helpers,
+            *[proofs_of(it) for it in enums_of(self.leaves)],
             f"-- the bytes of a `{name}` are so many, are a value, and are that one",
             f"pub {low}_lawful : IsPlainLayout {low}_layout",
             *([f"unfolding {' '.join(map(self.names.part, self.node.parts))}"] if parts else []),
@@ -227,12 +252,20 @@ class Definitions:
             "",
         ])
 
+    def declared(self):
+        """Yields the imports of the type and of its enums."""
+        enums = enums_of(self.leaves)
+        for it in [*([] if self.node.struct in enums else [self.node.struct]), *enums]:
+            yield f"use Rattle.{self.names.crate}.specs.declared.{self.names.declared(it.name)}.{{{it.name}}}"
+        for it in enums:
+            yield f"use Rattle.{self.names.crate}.specs.declared.{self.names.declared(it.name)}.TheVariants.{{{', '.join(map(marked, it.variants))}}}"
+
     def text(self):
         body = self.body()
         return "\n".join([
             f"-- A `{self.node.struct.name}` in {self.node.size} bytes. Made of src/{self.names.source} {MADE}.",
             *uses(body, DEFINED, "use"),
-            f"use Rattle.{self.names.crate}.specs.declared.{self.names.declared}.{{{self.node.struct.name}}}",
+            *self.declared(),
             "",
             body,
         ])
@@ -242,9 +275,64 @@ def snake_of_non_zero(leaf):
     return f"non_zero_{leaf.number}"
 
 
-# lemmas that the proof of a layout cites: those of truth values, and of other types with bytes that are no value
+def enums_of(fields):
+    """Returns the enums of fields, each once."""
+    return list({leaf.type: leaf.enum for leaf in fields if leaf.enum}.values())
+
+
+def numbers_of(enum):
+    """The definitions of an enum's numbers."""
+    name, low = enum.name, snake(enum.name)
+    *first, last = map(marked, enum.variants)
+    return "\n".join([
+        f"-- the number of a `{name}`: its place in the enum, from 0 on",
+        f"abbrev pub {low}_number : {name} → ℕ",
+        *[f"{low}_number {it} = {k}" for k, it in enumerate([*first, last])],
+        "",
+        f"-- the `{name}` with a number, or the last one",
+        f"abbrev pub {low}_of : ℕ → {name}",
+        f"{low}_of {'n' if first else '_'} =" + "".join(f"\n    if nat_eq n {k} then {it} else" for k, it in enumerate(first)) + f" {last}",
+        "",
+    ])
+
+
+def proofs_of(enum):
+    """The proof that an enum's numbers lead back to it."""
+    name, low = enum.name, snake(enum.name)
+    variants = list(map(marked, enum.variants))
+    return "\n".join([
+        f"-- the number of a `{name}` is one, and leads to it",
+        f"valid_{low} : (x : {name}) → IsTrue (nat_lt ({low}_number x) {len(variants)})",
+        *[f"valid_{low} {it} = refl" for it in variants],
+        "",
+        f"back_{low} : (x : {name}) → {low}_of ({low}_number x) ≡ x",
+        *[f"back_{low} {it} = refl" for it in variants],
+        "",
+    ])
+
+
+ELEMENTS = """\
+-- so many bytes from a position on
+abbrev pub elements : ℕ → ℕ → List ℕ → List ℕ
+elements zero at bytes = []
+elements (suc n) at bytes = slice_index bytes at ∷ elements n (suc at) bytes
+"""
+
+# lemmas that the proof of a layout cites: those of arrays, of truth values, and of other types with bytes that are no value
 HELPERS = [
-    (True, """\
+    (lambda leaf: leaf.count, """\
+-- the elements of an array are all of it
+all_elements : (count : ℕ) (bytes : List ℕ) → length bytes ≡ count → elements count 0 bytes ≡ bytes
+all_elements zero [] e = refl
+all_elements (suc n) (b ∷ bytes) e = ap (λ (rest : List ℕ). b ∷ rest) (shifted n 0 b bytes ∙ all_elements n bytes (omega (arith, e)))
+  where
+    shifted : (n at b : ℕ) (bytes : List ℕ) → elements n (suc at) (b ∷ bytes) ≡ elements n at bytes
+    shifted zero at b bytes = refl
+    shifted (suc n) at b bytes = ap (λ (rest : List ℕ). slice_index bytes at ∷ rest) (shifted n (suc at) b bytes)
+all_elements zero (b ∷ bytes) e = absurd (omega (arith, e))
+all_elements (suc n) [] e = absurd (omega (arith, e))
+"""),
+    (lambda leaf: leaf.type == "bool", """\
 -- the byte of a truth value is one, and is read as it
 valid_bool : (b : Bool) → IsTrue (nat_lt (from_bool b) 2)
 valid_bool true = refl
@@ -254,7 +342,7 @@ back_bool : (b : Bool) → nat_eq (from_bool b) 1 ≡ b
 back_bool true = refl
 back_bool false = refl
 """),
-    (False, """\
+    (lambda leaf: leaf.type == "char" or leaf.type in NON_ZEROS, """\
 -- the own bytes of a value are one
 valid_of : {X : Type 0} (form : NativeForm X) → IsFaithful form → form.plain.size < 2 ^ 32 → (x : X)
     → IsTrue (form.plain.is_value (bytes_at (form.own_bytes x) 0 form.plain.size))
@@ -270,9 +358,9 @@ ZERO_FORMS = [f"non_zero_{it}" for it in NON_ZEROS.values()]
 # the words of definitions and of clauses, by the module that has them
 DEFINED = [
     ("std.specs.Prelude", ["FitsSigned", "◌≡◌", "◌+◌", "◌≤◌", "◌<◌", "◌^◌", "◌∷◌", "◌++◌", "[]", "ℕ", "List", "Bool", "true", "false", "IsTrue", "◌&&◌",
-                           "nat_eq", "nat_lt", "length", "slice_index", "unsigned_abs"]),
+                           "nat_eq", "nat_lt", "length", "slice_index", "suc", "unsigned_abs", "zero", "if◌then◌else◌"]),
     ("std.specs.Int", ["to_le_bytes", "from_bool", "cast_signed", "cast_unsigned", "w8", "w16", "w32", "w64"]),
-    ("std.proofs.Common", ["refl", "arith"]),
+    ("std.proofs.Common", ["refl", "arith", "ap", "◌∙◌"]),
     ("std.proofs.Math.Utf8", ["scalar"]),
     ("std.proofs.lemmas.Bool", ["and_from"]),
     ("std.proofs.lemmas.Int", ["to_z-of_z"]),
@@ -293,7 +381,7 @@ def uses(body, table, word):
     there = set(re.findall(r"[^\s(){}\[\];.,«»]+|\[\]", re.sub(r"(?m)^ *(--|//).*$", "", body)))
     lines = []
     for module, names in table:
-        used = [name for name in names if (name.strip("◌") if name != "[]" else name) in there]
+        used = [name for name in names if re.sub("◌.*", "", name.lstrip("◌")) in there]
         if used:
             lines.append(f"{word} Rattle.{module}.{{{', '.join(used)}}}{';' * (word != 'use')}")
     return lines
@@ -315,9 +403,13 @@ class Impls:
 
     def stored(self, leaf):
         """The number that is stored in the bytes."""
-        return f"bytes[{leaf.at}]" if leaf.type in ("u8", "bool") else f"{leaf.number}_at(bytes, {leaf.at})"
+        return f"bytes[{leaf.at}]" if leaf.enum or leaf.type in ("u8", "bool") else f"{leaf.number}_at(bytes, {leaf.at})"
 
     def read(self, leaf):
+        if leaf.enum:
+            return f"{snake(leaf.type)}_of({self.stored(leaf)})"
+        if leaf.count:
+            return f"[{', '.join(f'bytes[{leaf.at + k}]' for k in range(leaf.count))}]"
         if leaf.type == "bool":
             return f"{self.stored(leaf)} == 1"
         if leaf.type == "char":
@@ -325,6 +417,8 @@ class Impls:
         return f"{snake_of_non_zero(leaf)}({self.stored(leaf)})" if leaf.type in NON_ZEROS else self.stored(leaf)
 
     def test(self, leaf):
+        if leaf.enum:
+            return f"{self.stored(leaf)} < {len(leaf.enum.variants)}"
         if leaf.type == "bool":
             return f"{self.stored(leaf)} < 2"
         if leaf.type == "char":
@@ -334,6 +428,10 @@ class Impls:
     def written(self, leaf):
         """The bytes of a field, and the line that names them, if one does."""
         own, name = ".".join([self.own, *leaf.path]), self.locals[leaf.path]
+        if leaf.enum:
+            return [f"{snake(leaf.type)}_number({own})"], None
+        if leaf.count:
+            return [f"{own}[{k}]" for k in range(leaf.count)], None
         if leaf.size == 1 and leaf.type not in NON_ZEROS:
             return [{"u8": own, "bool": f"u8::from({own})", "i8": f"{own}.cast_unsigned()"}[leaf.type]], None
         number = {"char": f"u32::from({own})"}.get(leaf.type, f"{own}.get()" if leaf.type in NON_ZEROS else own)
@@ -376,11 +474,15 @@ fn write_{part.start}(value: {name}, bytes: &mut [u8])
 """ for part in self.node.parts[1:] and self.node.parts)
 
     def literal(self, node):
+        if isinstance(node.struct, Enum):
+            return self.read(node.fields[0][1])
         rows = [f"{name}: {self.read(it) if isinstance(it, Leaf) else self.literal(it)}," for name, it in node.fields]
         return f"{node.struct.name} {{ {' '.join(rows)} }}"
 
     def structs(self, node):
-        return {node.struct.name}.union(*(self.structs(it) for _, it in node.fields if isinstance(it, Node)))
+        """The names of the struct, and of the structs and enums in it."""
+        inner = [self.structs(it) if isinstance(it, Node) else {it.type} if it.enum else set() for _, it in node.fields]
+        return {node.struct.name}.union(*inner)
 
     def body(self):
         name, low = self.node.struct.name, self.names.low
@@ -417,8 +519,10 @@ fn write_{part.start}(value: {name}, bytes: &mut [u8])
 
     def text(self):
         body = self.body()
-        helpers = "\n".join(filter(None, [self.writers(), helpers_of(body)]))
-        words = [f"{self.names.low}_layout", f"{self.names.low}_lawful", *map(self.names.part, self.node.parts[1:] and self.node.parts)]
+        enums = enums_of(self.leaves)
+        helpers = "\n".join(filter(None, [self.writers(), *map(converters_of, enums), helpers_of(body)]))
+        numbers = [f"{snake(it.name)}_{word}" for it in enums for word in ("number", "of")]
+        words = [f"{self.names.low}_layout", f"{self.names.low}_lawful", *numbers, *map(self.names.part, self.node.parts[1:] and self.node.parts)]
         clauses = "".join(re.findall(r"(?m)^ *(?:requires|ensures) .*$\n?", helpers))
         non_zeros = sorted({snake_of_non_zero(leaf) for leaf in self.leaves if leaf.type in NON_ZEROS})
         return "\n".join([
@@ -434,6 +538,29 @@ fn write_{part.start}(value: {name}, bytes: &mut [u8])
             body,
             helpers,
         ])
+
+
+def converters_of(enum):
+    """Returns the functions from an enum to its number and back."""
+    name, low = enum.name, snake(enum.name)
+    *first, last = enum.variants
+    numbers = " ".join(f"{name}::{it} => {k}," for k, it in enumerate(enum.variants))
+    variants = " ".join(f"{k} => {name}::{it}," for k, it in enumerate(first))
+    return f"""\
+/// Returns the place of a `{name}` in its enum, from 0 on.
+fn {low}_number(value: {name}) -> u8
+    ensures {{ result ≡ {low}_number value }}
+{{
+    match value {{ {numbers} }}
+}}
+
+/// Returns the `{name}` with a number, or the last one.
+fn {low}_of({'number' if first else '_number'}: u8) -> {name}
+    ensures {{ result ≡ {low}_of {'number' if first else '_number'} }}
+{{
+    {f'match number {{ {variants} _ => {name}::{last}, }}' if first else f'{name}::{last}'}
+}}
+"""
 
 
 def helpers_of(body):
@@ -495,9 +622,8 @@ class Names:
         """The name of the bytes of a part."""
         return f"{self.low}_bytes_{part.start}"
 
-    @property
-    def declared(self):
-        return ".".join([*self.steps, self.struct])
+    def declared(self, type):
+        return ".".join([*self.steps, type])
 
     @property
     def module(self):
@@ -547,19 +673,31 @@ def remaining(crate, out, fields):
         yield f"add {' '.join(missing)} to the line of {crate.name} in crates.txt"
 
 
+def check_names(type, enums):
+    """Fails if the definitions can't have the names of a type and of the enums in it."""
+    taken = {name for _, names in DEFINED for name in names} | {"Unit"}
+    for it in [type, *enums]:
+        if it.name in taken:
+            raise Fault(it.line, f"`{it.name}` is a word of definitions: give the type another name")
+    for it in enums:
+        for variant in it.variants:
+            if variant in taken or variant in {type.name, *(other.name for other in enums)}:
+                raise Fault(it.line, f"`{variant}` is a word of definitions, or the name of a type or of another variant: give the variant another name")
+            taken.add(variant)
+
+
 def main(words):
     parser = argparse.ArgumentParser(description=__doc__.split("\n", 1)[0])
-    parser.add_argument("--struct", help="the struct, if the file has several")
+    parser.add_argument("--type", help="the struct or enum, if the file has several")
     parser.add_argument("--out", help="the file of the impls, in the folder src", type=pathlib.Path)
-    parser.add_argument("source", help="the file of the struct", type=pathlib.Path)
+    parser.add_argument("source", help="the file of the type", type=pathlib.Path)
     options = parser.parse_args(words)
     try:
         crate = crate_of(options.source)
         file = Reader(options.source.read_text()).read()
-        struct = outer_struct(file, options.struct)
-        if any(struct.name in names for _, names in DEFINED):
-            raise Fault(struct.line, f"`{struct.name}` is a word of definitions: give the struct another name")
+        struct = outer_type(file, options.type)
         node = layout_of(file, struct)
+        check_names(struct, enums_of(leaves(node)))
         names = Names(crate.name, options.source.resolve().relative_to(crate / "src").as_posix(), snake(struct.name), struct.name)
         out = options.out or crate / "src" / f"{names.low}_archived.rt"
         for line in write_all(crate, out, names, node):

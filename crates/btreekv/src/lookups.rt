@@ -11,11 +11,18 @@ use btreekv_commands::opening::Texts;
 use btreekv_commands::program::run;
 use btreekv_commands::{opening, sourced};
 use clap::ArgMatches;
+use rkyv_btree_source::cached::CachedSource;
 use rkyv_btree_source::source::{ReadAt, SeekSource};
 use rkyv_btree_source::unverified_source::UnverifiedSource;
 use std::fs::File;
 use std::io::{BufRead, Read};
 use std::str::from_utf8;
+
+/// The number of blocks that the look-up of one key keeps, of 4 kilobytes each.
+const FEW_BLOCKS: usize = 16;
+
+/// The number of blocks that the look-ups of many keys keep.
+const MANY_BLOCKS: usize = 2048;
 
 /// Writes how much of an input was read, if the words ask for it.
 fn write_stats(system: &System<'_>, matches: &ArgMatches<'_>, read: u64, size: u64) {
@@ -51,7 +58,9 @@ fn get_in_parts(
     let Ok(key) = words::owned(alloc, matches, "KEY") else {
         return Err(ProgramFault::Memory);
     };
-    let mut source = SeekSource { file };
+    let Ok(mut source) = CachedSource::new(alloc, SeekSource { file }, FEW_BLOCKS) else {
+        return Err(ProgramFault::Memory);
+    };
     let Ok(size) = source.size() else {
         return Err(ProgramFault::InputFailed);
     };
@@ -174,7 +183,10 @@ fn get_keys(system: &System<'_>, matches: &ArgMatches<'_>, keys: &str) -> Result
     let path = matches.get_str("KEY").unwrap_or("");
     let file = system.open(path)?;
     if is_regular(&file) && !matches.get_flag("validate") {
-        return get_keys_in(system, matches, SeekSource { file }, keys);
+        return match CachedSource::new(system.alloc(), SeekSource { file }, MANY_BLOCKS) {
+            Ok(source) => get_keys_in(system, matches, source, keys),
+            Err(_) => Err(system.fail(Names::of_input(Some(path)), &ProgramFault::Memory)),
+        };
     }
     match validated(system, file) {
         Ok(bytes) => get_keys_in(system, matches, bytes.as_slice(), keys),

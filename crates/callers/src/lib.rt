@@ -9,6 +9,8 @@ pub mod merging;
 pub mod nested;
 pub mod pairs;
 pub mod reading;
+pub mod ticket;
+pub mod ticket_archived;
 #[cfg(test)]
 mod tried;
 pub mod typed;

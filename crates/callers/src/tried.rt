@@ -12,7 +12,10 @@ use crate::reading::{
     price_unverified, price_with, total, total_between, total_between_unverified, total_of,
     total_of_prefix, total_unverified,
 };
-use crate::typed::{are_prices, change_typed, name_of_celsius, price_typed, typed_archive_of};
+use crate::ticket::{Priority, Ticket};
+use crate::typed::{
+    are_prices, change_typed, name_of_celsius, price_in_source, price_typed, typed_archive_of,
+};
 use crate::weather::Weather;
 use rkyv_btree::prelude::*;
 use std::alloc::Global;
@@ -24,6 +27,8 @@ use std::test::Fail;
 type Numbers = Archived<BTreeSet<u32>>;
 
 type Stations = Archived<BTreeMap<u32, Weather>>;
+
+type Queue = Archived<BTreeMap<Ticket, u32>>;
 
 /// The archive of `apple 3` and `pear 5`.
 fn two(alloc: Global) -> Result<Vec<u8>, Fail> {
@@ -138,6 +143,26 @@ fn weather_is_found(rt: HostRuntime) -> Result<(), Fail> {
     assert_eq!(rt; (found.seconds, found.celsius), (60, -5));
     assert!(rt; found.windy && !found.raining);
     assert!(rt; map.get_native_by(8).is_none());
+    Ok(())
+}
+
+#[test]
+fn ticket_is_found(rt: HostRuntime) -> Result<(), Fail> {
+    let alloc = rt.alloc();
+    sizes_fit::<Queue>();
+    let mut queue: BTreeMap<Ticket, u32> = BTreeMap::new(alloc);
+    let mut ticket = Ticket {
+        hash: [7; 32],
+        priority: Priority::High,
+        opened: 60,
+        country: *b"is",
+    };
+    queue.insert(ticket, 3)?;
+    let bytes = to_archive(alloc, &queue)?;
+    let map = open::<Queue>(bytes.as_slice())?;
+    assert_eq!(rt; map.get_native_by(ticket), Some(3));
+    ticket.priority = Priority::Low;
+    assert_eq!(rt; map.get_native_by(ticket), None);
     Ok(())
 }
 
@@ -287,6 +312,8 @@ fn typed_files_are_opened(rt: HostRuntime) -> Result<(), Fail> {
     are_prices(bytes.as_slice())?;
     assert!(rt; are_prices(two(alloc)?.as_slice()).is_err());
     assert_eq!(rt; price_typed(bytes.as_slice(), "pear")?, Some(5));
+    assert_eq!(rt; price_in_source(alloc, bytes.as_slice(), "pear")?, Some(5));
+    assert!(rt; price_in_source(alloc, two(alloc)?.as_slice(), "pear").is_err());
     assert!(rt; change_typed(bytes.as_mut_slice(), "pear", 6)?);
     assert_eq!(rt; price_in(bytes.as_slice(), "pear")?, Some(6));
     assert_eq!(rt; name_of_celsius(alloc)?.as_str(), "<Celsius>");

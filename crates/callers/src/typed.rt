@@ -3,7 +3,8 @@ ghost use Rattle.std.specs.Prelude.{◌≡◌, ◌++◌, codes, string_bytes, If
 
 use crate::reading::Prices;
 use rkyv_btree::prelude::*;
-use rkyv_btree::typed::{NameOf, check_type};
+use rkyv_btree::source::CachedSource;
+use rkyv_btree::typed::{NameOf, check_type, open_typed_source};
 use std::alloc::{AllocError, Global};
 
 /// A temperature, whose archived type has a name of its own.
@@ -48,6 +49,22 @@ pub fn price_typed(bytes: &[u8], name: &str) -> anyhow::Result<Option<u64>> {
     sizes_fit::<Prices>();
     let map = open_typed_unverified::<Prices>(bytes)?;
     Ok(map.get_by(name)?.map(|price| price.to_native()))
+}
+
+/// The most bytes of a file that a lookup may read.
+const BUDGET: u64 = 65_536;
+
+/// Returns the price of a name in a typed file that isn't read whole.
+pub fn price_in_source(alloc: Global, file: &[u8], name: &str) -> anyhow::Result<Option<u64>> {
+    sizes_fit::<Prices>();
+    let mut room = [0u8; 4096];
+    let source = CachedSource::new(alloc, file, 4)?;
+    let mut prices = open_typed_source::<CachedSource<&[u8]>, Prices>(source, BUDGET, &mut room)?;
+    Ok(
+        prices
+            .get_by(name, &mut room)?
+            .map(|price| price.to_native()),
+    )
 }
 
 /// Validates a typed file and the order of its keys, and changes the price of a name. Returns whether it is there.

@@ -4,14 +4,15 @@ use crate::input::{Input, Wire};
 use crate::shown::Shown;
 use anyhow::{bail, ensure};
 use rkyv_btree::prelude::*;
-use rkyv_btree::source::{Fetch, SourceFault, UnverifiedSource};
+use rkyv_btree::source::{CachedSource, Fetch, ReadAt, SourceFault, UnverifiedSource};
 use rkyv_btree_base::layout;
 use std::alloc::Global;
+use std::convert::Infallible;
 use std::num::{NonZeroI8, NonZeroI32, NonZeroI64, NonZeroU8, NonZeroU16, NonZeroU32};
 
 /// Appends what a lookup in a source returns.
 fn show_found<V: Shown>(
-    found: Result<Option<View<'_, V>>, SourceFault<std::convert::Infallible>>,
+    found: Result<Option<View<'_, V>>, SourceFault<Infallible>>,
     out: &mut String,
 ) -> anyhow::Result<()> {
     match found {
@@ -28,30 +29,79 @@ fn show_found<V: Shown>(
     Ok(())
 }
 
+/// What a lookup in a source may read, how many bytes it is lent, and where the map is.
+#[derive(Clone, Copy)]
+struct Limits {
+    budget: u64,
+    lent: usize,
+    pos: u32,
+}
+
+/// Takes the limits of a case.
+fn take_limits(input: &mut Input<'_>) -> anyhow::Result<Limits> {
+    let budget = input.number()?;
+    let lent = input.number()?;
+    let pos = input.number()?;
+    Ok(Limits {
+        budget: u64::from(budget),
+        lent: lent as usize,
+        pos,
+    })
+}
+
+/// Returns how many bytes a lookup in a source reads, and what it returns.
+fn shown_in<
+    S: ReadAt<Error = Infallible> + Drop,
+    T: Drop,
+    K: Fetch + CompareWith<T>,
+    V: Fetch + Shown,
+    const E: usize,
+>(
+    alloc: Global,
+    source: S,
+    limits: Limits,
+    key: T,
+) -> anyhow::Result<String> {
+    ensure!(layout::fits::<K, V, E>(), "the map doesn't fit");
+    let mut room = [0u8; 4096];
+    let room = &mut room[..limits.lent.min(4096)];
+    let mut map =
+        UnverifiedSource::<S, ArchivedBTreeMap<K, V, E>>::new(source, limits.pos, limits.budget);
+    let mut found = String::new(alloc);
+    show_found(map.get_by(key, room), &mut found)?;
+    let read = limits.budget.saturating_sub(map.budget_left());
+    let mut shown = String::new(alloc);
+    write!(shown, "{read}{found}")?;
+    Ok(shown)
+}
+
+/// Looks up a key in a buffer as a source, and in the same with blocks that are kept.
+fn look_up<T: Copy + Drop, K: Fetch + CompareWith<T>, V: Fetch + Shown, const E: usize>(
+    alloc: Global,
+    buffer: &[u8],
+    limits: Limits,
+    key: T,
+    out: &mut String,
+) -> anyhow::Result<()> {
+    let shown = shown_in::<&[u8], T, K, V, E>(alloc, buffer, limits, key)?;
+    out.push_str(&shown)?;
+    let cached = CachedSource::new(alloc, buffer, 2)?;
+    if shown_in::<CachedSource<&[u8]>, T, K, V, E>(alloc, cached, limits, key)? != shown {
+        out.push_str(" CACHED DIFFERS")?;
+    }
+    Ok(())
+}
+
 /// Looks up a native key of a case in its buffer as a source, and counts the bytes that are read.
-fn by_number<N: Wire, K: Fetch + CompareWith<N>, V: Fetch + Shown, const E: usize>(
+fn by_number<N: Wire + Copy, K: Fetch + CompareWith<N>, V: Fetch + Shown, const E: usize>(
     alloc: Global,
     case: &[u8],
     out: &mut String,
 ) -> anyhow::Result<()> {
     let mut input = Input { rest: case };
-    let budget = input.number()?;
-    let len = input.number()?;
-    let pos = input.number()?;
+    let limits = take_limits(&mut input)?;
     let key = N::take(alloc, &mut input)?;
-    ensure!(layout::fits::<K, V, E>(), "the map doesn't fit");
-    let mut room = [0u8; 4096];
-    let room = &mut room[..(len as usize).min(4096)];
-    let mut map = UnverifiedSource::<&[u8], ArchivedBTreeMap<K, V, E>>::new(
-        input.rest,
-        pos,
-        u64::from(budget),
-    );
-    let mut shown = String::new(alloc);
-    show_found(map.get_by(key, room), &mut shown)?;
-    let read = u64::from(budget).saturating_sub(map.budget_left());
-    write!(out, "{read}{shown}")?;
-    Ok(())
+    look_up::<N, K, V, E>(alloc, input.rest, limits, key, out)
 }
 
 /// Does the same for a text.
@@ -61,23 +111,21 @@ fn by_text<V: Fetch + Shown, const E: usize>(
     out: &mut String,
 ) -> anyhow::Result<()> {
     let mut input = Input { rest: case };
-    let budget = input.number()?;
-    let len = input.number()?;
-    let pos = input.number()?;
+    let limits = take_limits(&mut input)?;
     let key = String::take(alloc, &mut input)?;
-    ensure!(layout::fits::<ArchivedText, V, E>(), "the map doesn't fit");
-    let mut room = [0u8; 4096];
-    let room = &mut room[..(len as usize).min(4096)];
-    let mut map = UnverifiedSource::<&[u8], ArchivedBTreeMap<ArchivedText, V, E>>::new(
-        input.rest,
-        pos,
-        u64::from(budget),
-    );
-    let mut shown = String::new(alloc);
-    show_found(map.get_by(key.as_str(), room), &mut shown)?;
-    let read = u64::from(budget).saturating_sub(map.budget_left());
-    write!(out, "{read}{shown}")?;
-    Ok(())
+    look_up::<&str, ArchivedText, V, E>(alloc, input.rest, limits, key.as_str(), out)
+}
+
+/// Does the same for a byte string.
+fn by_bytes<V: Fetch + Shown, const E: usize>(
+    alloc: Global,
+    case: &[u8],
+    out: &mut String,
+) -> anyhow::Result<()> {
+    let mut input = Input { rest: case };
+    let limits = take_limits(&mut input)?;
+    let key: Vec<u8> = Vec::take(alloc, &mut input)?;
+    look_up::<&[u8], ArchivedBytes, V, E>(alloc, input.rest, limits, key.as_slice(), out)
 }
 
 /// Looks up a native key of a case in its buffer, by the name of the map's type.
@@ -111,6 +159,7 @@ pub(crate) fn lookup(
         "nonzeroi32,u8,1" => by_number::<NonZeroI32, ArchivedNonZeroI32, u8, 1>(alloc, case, out),
         "text,u32,1" => by_text::<ArchivedU32, 1>(alloc, case, out),
         "text,i32,5" => by_text::<ArchivedI32, 5>(alloc, case, out),
+        "bytes,i32,5" => by_bytes::<ArchivedI32, 5>(alloc, case, out),
         _ => bail!("no such type of a source"),
     }
 }

@@ -121,6 +121,8 @@ pub mod set {
 
 /// Lookups in a source of bytes that isn't read whole, as a file.
 pub mod source {
+    pub use rkyv_btree_source::block::{BLOCK_LEN, Block};
+    pub use rkyv_btree_source::cached::CachedSource;
     pub use rkyv_btree_source::fault::SourceFault;
     pub use rkyv_btree_source::fetch::Fetch;
     pub use rkyv_btree_source::laws::takes_cover_reads;
@@ -150,6 +152,7 @@ pub mod typed {
     pub use rkyv_btree_typed::found_name::FoundName;
     pub use rkyv_btree_typed::from_typed::{FromTypedFault, from_typed_archive};
     pub use rkyv_btree_typed::header::{HeaderFault, header_of, type_name_of};
+    pub use rkyv_btree_typed::open_source::{TypedSourceFault, open_typed_source};
     pub use rkyv_btree_typed::open_typed::{
         open_typed, open_typed_mut, open_typed_strict, open_typed_strict_mut, open_typed_unverified,
     };

@@ -84,3 +84,8 @@ header_made name first second third fourth fifth count e1 e2 e3 e4 e5 counted =
     let start : second ≡ versioned 1 = e2 ∙ ap (λ z. z ++ to_le_bytes w16 1) e1 in
     let whole : fifth ≡ ((versioned 1 ++ len) ++ name) ++ zeros count = e5 ∙ ap (λ z. z ++ zeros count) (e4 ∙ ap (λ z. z ++ name) (e3 ∙ ap (λ z. z ++ len) start)) in
     whole ∙ (append_assoc (versioned 1 ++ len) name (zeros count) ∙ (append_assoc (versioned 1) len (name ++ zeros count) ∙ ap (λ n. versioned 1 ++ (len ++ (name ++ zeros n))) counted))
+
+-- bytes of which the first ones begin with a header begin with it
+pub header_of_first : (name bytes : List ℕ) (n : ℕ) → HasHeader name (take n bytes) → HasHeader name bytes
+header_of_first name bytes n h =
+    record { text = h.text; fits = h.fits; rest = h.rest ++ drop n bytes; parts = sym (take-append-drop n bytes) ∙ (ap (λ z. z ++ drop n bytes) h.parts ∙ append_assoc (header name) h.rest (drop n bytes)) }

@@ -1,7 +1,6 @@
 -- Opening sources of typed files.
 use Rattle.std.specs.Prelude.{◌≡◌, ℕ, ◌<◌, List, length, min, take}
 use Rattle.rkyv_btree_portable.specs.declared.refusal.Refusal.TheVariants.{TooLong}
-use Rattle.rkyv_btree_source.specs.declared.fault.SourceFault.{SourceFault}
 use Rattle.rkyv_btree_source.specs.declared.fault.SourceFault.TheVariants.{NoRoom, OverBudget, Read, Refused}
 use Rattle.rkyv_btree_typed.specs.TypedOpening.{IsMistyped}
 use Rattle.rkyv_btree_typed.specs.declared.open_source.TypedSourceFault.{TypedSourceFault}

@@ -10,7 +10,6 @@ ghost use Rattle.rkyv_btree_verify.specs.Map.{map_kind};
 
 use crate::type_check::{TypedRefusal, check_type};
 use crate::type_name::TypeName;
-use rkyv_btree_portable::check::Portable;
 use rkyv_btree_source::fault::SourceFault;
 use rkyv_btree_source::source::ReadAt;
 use rkyv_btree_source::unverified_source::UnverifiedSource;
@@ -59,20 +58,15 @@ impl<M: TypeName, E: Display + Drop> Error for TypedSourceFault<M, E> {}
 /// let mut room = [0u8; 256];
 /// let mut prices = open_typed_source::<SeekSource<File>, Prices>(source, BUDGET, &mut room)?;
 /// ```
-pub fn open_typed_source<
-    S: ReadAt + Drop,
-    K: Portable,
-    V: Portable,
-    M: ArchivedMap<Key = K, Mapped = V> + TypeName,
->(
+pub fn open_typed_source<S: ReadAt + Drop, M: ArchivedMap + TypeName>(
     source: S,
     budget: u64,
     lent: &mut [u8],
 ) -> Result<UnverifiedSource<S, M>, TypedSourceFault<M, S::Error>>
-    requires { IsTrue (are_fitting K.kind V.kind M.E) }
+    requires { IsTrue (are_fitting M.Key.kind M.Mapped.kind M.E) }
     ensures source { IfOk result (λ map. S.known map.reader.source ≡ S.known source) }
     ensures position { (b : List ℕ) → AreOf (S.known source) b →
-        IfOk result (λ map. map.pos ≡ own_at (map_kind K.kind V.kind M.E) b) }
+        IfOk result (λ map. map.pos ≡ own_at (map_kind M.Key.kind M.Mapped.kind M.E) b) }
     ensures typed { (b : List ℕ) → AreOf (S.known source) b →
         IfOk result (λ _. HasHeader (name_of M.term) b) }
     ensures refused { (b : List ℕ) → AreOf (S.known source) b → IfErr result
@@ -89,9 +83,11 @@ pub fn open_typed_source<
         Ok(size) => size,
         Err(fault) => return Err(TypedSourceFault::Source(fault)),
     };
-    let first = &mut lent[..size.min(lent.len() as u64) as usize];
-    if let Err(fault) = map.reader.read(0, first) {
-        return Err(TypedSourceFault::Source(fault));
+    let len = size.min(lent.len() as u64) as usize;
+    let first = &mut lent[..len];
+    match map.reader.read(0, first) {
+        Ok(()) => {}
+        Err(fault) => return Err(TypedSourceFault::Source(fault)),
     }
     match check_type::<M>(first) {
         Ok(()) => Ok(map),
