@@ -46,7 +46,7 @@ enum {
     RKYV_BTREE_NO_ROOM = 38
 };
 
-/* The types of the keys and the values of a map. */
+/* The types of the keys and the values of a map. tools/header.py --write writes this list. */
 enum {
     RKYV_BTREE_U32_TO_U32 = 1,
     RKYV_BTREE_U32_TO_U64 = 2,
@@ -56,7 +56,14 @@ enum {
     RKYV_BTREE_U64_TO_TEXT = 6,
     RKYV_BTREE_TEXT_TO_U32 = 7,
     RKYV_BTREE_TEXT_TO_U64 = 8,
-    RKYV_BTREE_TEXT_TO_TEXT = 9
+    RKYV_BTREE_TEXT_TO_TEXT = 9,
+    RKYV_BTREE_U32_TO_I64 = 10,
+    RKYV_BTREE_U64_TO_I64 = 11,
+    RKYV_BTREE_I64_TO_U32 = 12,
+    RKYV_BTREE_I64_TO_U64 = 13,
+    RKYV_BTREE_I64_TO_I64 = 14,
+    RKYV_BTREE_I64_TO_TEXT = 15,
+    RKYV_BTREE_TEXT_TO_I64 = 16
 };
 
 /* Why bytes were refused, or why entries have no archive. */
@@ -67,7 +74,8 @@ typedef struct {
     uint64_t allowed; /* the most that is allowed there, or 0 */
 } rkyv_btree_refusal;
 
-/* A key or a value: a number, or a text by its place in the buffer. Texts are UTF-8, without a final 0. */
+/* A key or a value: a number, or a text by its place in the buffer. Texts are UTF-8, without a final 0. A number of type i64 is cast to
+ * uint64_t, here and as a key or a value that a call takes. Keys of that type are ordered as int64_t. */
 typedef struct {
     uint64_t number; /* of a text 0 */
     uint32_t start;  /* of a number 0 */
@@ -86,8 +94,9 @@ typedef struct {
     uint32_t len;
 } rkyv_btree_piece;
 
-/* Keys or values one after the other, as a table has a column. Numbers have 4 or 8 bytes, as their type has, the least first. Texts are
- * UTF-8 in one buffer, and have offsets of 4 or 8 bytes: where each begins, and then where the last ends. */
+/* Keys or values one after the other, as a table has a column. Numbers have 4 or 8 bytes, as their type has, the least first; those
+ * with a sign are in two's complement. Texts are UTF-8 in one buffer, and have offsets of 4 or 8 bytes: where each begins, and then where
+ * the last ends. */
 typedef struct {
     const uint8_t *data; /* the numbers, or the bytes of all texts */
     size_t data_len;

@@ -12,16 +12,20 @@ HEAD = "The declarations of `include/rkyv_btree.h` and the types of `bindings/ty
 
 
 class Types:
-    """The types of keys and of values, each with its size, its alignment and the format of its numbers, and the codes of errors by what they name."""
+    """The types of keys and of values, and the codes of errors by what they name.
+
+    A type has its size, its alignment, the format of its numbers, and the step in which it came: maps of it have their numbers after those
+    of all types that came before it.
+    """
 
     def __init__(self, table):
         self.each = table["types"]
         self.codes = {"AT_POSITION": table["at_position"], "AT_ENTRY": table["at_entry"]}
 
     def pairs(self):
-        """Returns the names of both types of each map, with the name that the header has for them, in the order of its numbers."""
-        names = [each["name"] for each in self.each]
-        return [(key, value, f"{key}_TO_{value}".upper()) for key, value in itertools.product(names, names)]
+        """Returns the names of both types of each map, and the name that the header has for them, in the order of its numbers."""
+        pairs = sorted(itertools.product(self.each, self.each), key=lambda pair: max(each["step"] for each in pair))
+        return [(key["name"], value["name"], f"{key['name']}_TO_{value['name']}".upper()) for key, value in pairs]
 
 
 class Header:
@@ -71,7 +75,7 @@ def rust_types(types):
     cases = [f"        Type::{name.capitalize()} => " for name in names]
     lines = ["", "/// A type of keys or of values.", "#[derive(Clone, Copy, Debug, PartialEq, Eq)]", "pub enum Type {"]
     lines += [f"    {name.capitalize()}," for name in names] + ["}", "", "impl Type {"]
-    lines += ["    /// All types, in the order of the numbers of maps."]
+    lines += ["    /// All types."]
     lines += [f"    pub const ALL: [Type; {len(names)}] = [{', '.join(f'Type::{name.capitalize()}' for name in names)}];"]
     for doc, head, values in (
         ("its name", "name(self) -> &'static str", [f'"{name}"' for name in names]),

@@ -1,10 +1,10 @@
 #!/usr/bin/env python3
 """Compares include/rkyv_btree.h with the sources of crates/rkyv_btree_ffi and with the bindings: tools/header.py [--write]
 
-It compares the codes, the numbers of the types, the fields of the structs, and the prototypes: names, parameters and results. The
-declarations for Rust and for Python must be those that the header and bindings/types.json determine; --write writes them. It compares the types
-of bindings/types.json with the header's numbers and with the sizes of docs/FORMAT.md, and the version with that of the Rust crate and of the
-Python package. The last line is `1 passed, 0 failed`, or what differs and `0 passed, 1 failed`.
+It compares the codes, the fields of the structs, and the prototypes: names, parameters and results. The lists of the maps' types in the header,
+in the sources and in their contracts, and the declarations for Rust and for Python, must be those that bindings/types.json and the header
+determine; --write writes them. It compares the types of bindings/types.json with the sizes of docs/FORMAT.md, and the version with that of the
+Rust crate and of the Python package. The last line is `1 passed, 0 failed`, or what differs and `0 passed, 1 failed`.
 """
 import json
 import pathlib
@@ -15,11 +15,9 @@ import declarations
 
 ROOT = pathlib.Path(__file__).resolve().parent.parent
 CRATE = ROOT / "crates" / "rkyv_btree_ffi" / "src"
-HEADER = (ROOT / "include" / "rkyv_btree.h").read_text()
 TYPES = declarations.Types(json.loads((ROOT / "bindings" / "types.json").read_text()))
 # A piece is the library's own struct.
 PIECE = ROOT / "crates" / "rkyv_btree_source" / "src" / "piece.rt"
-SOURCE = "\n".join(path.read_text() for path in [*sorted(CRATE.glob("*.rt")), PIECE])
 
 # The codes of refusals are the fields of `refusal_of`, by the names of the cases.
 REFUSALS = {
@@ -34,6 +32,16 @@ STRUCTS = {
 }
 NUMBERS = {"u8": "uint8_t", "u32": "uint32_t", "u64": "uint64_t", "i64": "int64_t", "usize": "size_t"}
 RENAMED = {"map_type": "type", "buf": "data"}
+# Where the types of maps are listed by their numbers: the texts around the list, the text between two types, and how one is written.
+LISTS = {
+    "include/rkyv_btree.h": ("writes this list. */\nenum {\n", "\n};", ",\n", "    RKYV_BTREE_{name} = {number}"),
+    "crates/rkyv_btree_ffi/src/map_type.rt": (
+        "match number {\n", "\n            _ =>", "\n", "            {number} => (ItemType::{key}, ItemType::{value}),",
+    ),
+    "crates/rkyv_btree_ffi/specs/MapTypes.antt": (
+        "type_of n =\n", " None\n", "\n", "    if nat_eq n {number} then Some (typed {key} {value}) else",
+    ),
+}
 # How docs/FORMAT.md writes the size of a type that isn't in its table.
 WORDS = {"eight": "8"}
 
@@ -45,6 +53,27 @@ def differs(what, header, source):
         wrong.append(f"{what}: the header has {header}, the source {source}")
 
 
+def wants(place, text, by):
+    """Compares a file with the text that it must have, or writes it."""
+    path = ROOT / place
+    if "--write" in sys.argv[1:]:
+        path.write_text(text)
+    elif path.read_text() != text:
+        wrong.append(f"{place} isn't as {by} it: tools/header.py --write writes it")
+
+
+def lists():
+    """The types of maps by their numbers, in the header, in the source and in its contracts."""
+    types = [
+        {"number": number, "name": name, "key": key.capitalize(), "value": value.capitalize()}
+        for number, (key, value, name) in enumerate(TYPES.pairs(), 1)
+    ]
+    for place, (start, end, between, form) in LISTS.items():
+        before, _, rest = (ROOT / place).read_text().partition(start)
+        _, _, after = rest.partition(end)
+        wants(place, before + start + between.join(form.format(**each) for each in types) + end + after, "bindings/types.json determines")
+
+
 def plain(text):
     """Removes comments and clauses, and joins lines."""
     text = re.sub(r"/\*.*?\*/", " ", text, flags=re.S)
@@ -52,14 +81,12 @@ def plain(text):
 
 
 def constants():
-    """The codes and the numbers of the types."""
+    """The codes."""
     source = {name: int(number) for name, number in re.findall(r"pub const (\w+): u32 = (\d+);", SOURCE)}
     refusals = SOURCE[SOURCE.index("pub fn refusal_of") :]
     for case, number in re.findall(r"Refusal::(\w+)[^=]*=> \((\d+),", refusals):
         source[REFUSALS[case]] = int(number)
-    for number, case in re.findall(r"(\d+) => Some\(MapType::(\w+)\)", SOURCE):
-        source[re.sub(r"To", "_TO_", case).upper()] = int(number)
-    header = {name: int(number) for name, number in re.findall(r"RKYV_BTREE_(\w+) = (\d+)", HEADER)}
+    header = {name: int(number) for name, number in re.findall(r"RKYV_BTREE_(\w+) = (\d+)", HEADER) if "_TO_" not in name}
     differs("constants", sorted(header.items()), sorted(source.items()))
 
 
@@ -116,9 +143,7 @@ def prototypes():
 
 
 def types():
-    """The types of keys and of values: the number of each pair in the header, the codes, and the sizes that docs/FORMAT.md has."""
-    header = [(name, int(number)) for name, number in re.findall(r"RKYV_BTREE_(\w+_TO_\w+) = (\d+)", HEADER)]
-    differs("types", header, [(name, number) for number, (_, _, name) in enumerate(TYPES.pairs(), 1)])
+    """The types of keys and of values: the codes, and the sizes that docs/FORMAT.md has."""
     codes = set(re.findall(r"RKYV_BTREE_(\w+) = \d+", HEADER))
     differs("codes of bindings/types.json that aren't there", [], sorted(set().union(*TYPES.codes.values()) - codes))
     page = (ROOT / "docs" / "FORMAT.md").read_text()
@@ -136,11 +161,7 @@ def bindings():
     header = declarations.Header(HEADER)
     texts = {"rust/src/raw.rs": declarations.rust(header, TYPES), "python/rkyv_btree/_raw.py": declarations.python(header, TYPES)}
     for place, text in texts.items():
-        path = ROOT / "bindings" / place
-        if "--write" in sys.argv[1:]:
-            path.write_text(text)
-        elif path.read_text() != text:
-            wrong.append(f"bindings/{place} isn't as the header and bindings/types.json determine it: tools/header.py --write writes it")
+        wants(f"bindings/{place}", text, "the header and bindings/types.json determine")
 
 
 def versions():
@@ -156,6 +177,9 @@ def versions():
         differs(place, version, re.search(form, (ROOT / "bindings" / place).read_text(), re.M)[1])
 
 
+lists()
+HEADER = (ROOT / "include" / "rkyv_btree.h").read_text()
+SOURCE = "\n".join(path.read_text() for path in [*sorted(CRATE.glob("*.rt")), PIECE])
 constants()
 structs()
 prototypes()

@@ -17,9 +17,21 @@ _Static_assert(sizeof(rkyv_btree_column) == 40 && offsetof(rkyv_btree_column, of
 _Static_assert(sizeof(rkyv_btree_map) == 24 && offsetof(rkyv_btree_map, type) == 20, "map");
 _Static_assert(sizeof(rkyv_btree_edit) == 24 && offsetof(rkyv_btree_edit, type) == 20, "edit");
 _Static_assert(sizeof(rkyv_btree_cursor) == 284 && offsetof(rkyv_btree_cursor, path) == 28, "cursor");
-_Static_assert(RKYV_BTREE_U32_TO_U32 == 1 && RKYV_BTREE_TEXT_TO_TEXT == 9, "the types that the loops below go through");
 
-enum { MOST = 1000 };
+enum { MOST = 1000, LAST = RKYV_BTREE_TEXT_TO_I64, NO_TYPE = LAST + 1 };
+
+/* What the keys and the values of each type of maps are. */
+enum kind { NONE, U32, U64, I64, TEXT };
+static const struct {
+    enum kind key, value;
+} kinds[LAST + 1] = {
+    [RKYV_BTREE_U32_TO_U32] = {U32, U32},    [RKYV_BTREE_U32_TO_U64] = {U32, U64},    [RKYV_BTREE_U32_TO_I64] = {U32, I64},
+    [RKYV_BTREE_U32_TO_TEXT] = {U32, TEXT},  [RKYV_BTREE_U64_TO_U32] = {U64, U32},    [RKYV_BTREE_U64_TO_U64] = {U64, U64},
+    [RKYV_BTREE_U64_TO_I64] = {U64, I64},    [RKYV_BTREE_U64_TO_TEXT] = {U64, TEXT},  [RKYV_BTREE_I64_TO_U32] = {I64, U32},
+    [RKYV_BTREE_I64_TO_U64] = {I64, U64},    [RKYV_BTREE_I64_TO_I64] = {I64, I64},    [RKYV_BTREE_I64_TO_TEXT] = {I64, TEXT},
+    [RKYV_BTREE_TEXT_TO_U32] = {TEXT, U32},  [RKYV_BTREE_TEXT_TO_U64] = {TEXT, U64},  [RKYV_BTREE_TEXT_TO_I64] = {TEXT, I64},
+    [RKYV_BTREE_TEXT_TO_TEXT] = {TEXT, TEXT},
+};
 
 /* Of lengths, keys and positions one in so many is taken. */
 static unsigned step = 1;
@@ -28,8 +40,8 @@ static rkyv_btree_entry given[MOST];
 static uint8_t texts[64 * MOST];
 static size_t texts_len;
 
-static int has_texts_as_keys(uint32_t type) { return type > 6; }
-static int has_texts_as_values(uint32_t type) { return type % 3 == 0; }
+static int has_texts_as_keys(uint32_t type) { return kinds[type].key == TEXT; }
+static int has_texts_as_values(uint32_t type) { return kinds[type].value == TEXT; }
 
 static rkyv_btree_item text(const char *words, unsigned number) {
     rkyv_btree_item item = {0, (uint32_t)texts_len, 0};
@@ -43,12 +55,14 @@ static rkyv_btree_item number(uint64_t value) {
     return item;
 }
 
-/* Entries 0 to count - 1: the keys 2 * i or "key 0000i". */
+/* Entries 0 to count - 1: the keys 2 * i or "key 0000i". Keys with a sign are around 0, and values with a sign are below it. */
 static void give(uint32_t type, unsigned count) {
     texts_len = 0;
     for (unsigned i = 0; i < count; i++) {
-        given[i].key = has_texts_as_keys(type) ? text("key %05u", i) : number(2 * (uint64_t)i);
-        given[i].value = has_texts_as_values(type) ? text("value %u", i) : number(7 * (uint64_t)i);
+        int64_t first = kinds[type].key == I64 ? -2 * (int64_t)(count / 2) : 0;
+        int64_t value = kinds[type].value == I64 ? -7 * (int64_t)i : 7 * (int64_t)i;
+        given[i].key = has_texts_as_keys(type) ? text("key %05u", i) : number((uint64_t)(first + 2 * (int64_t)i));
+        given[i].value = has_texts_as_values(type) ? text("value %u", i) : number((uint64_t)value);
     }
 }
 
@@ -62,21 +76,22 @@ static uint8_t *build(uint32_t type, unsigned count, size_t *len) {
 }
 
 /* The entries as two columns: all keys, and then all values, each with its own texts and offsets of four or of eight bytes. */
-static rkyv_btree_column column(int is_text, int is_wide, unsigned count, int are_values, uint32_t offset_size, uint8_t *room, uint8_t *offsets) {
+static rkyv_btree_column column(enum kind kind, unsigned count, int are_values, uint32_t offset_size, uint8_t *room, uint8_t *offsets) {
+    const size_t width = kind == U32 ? 4 : 8;
     rkyv_btree_column all = {room, 0, NULL, 0, 0};
     for (unsigned i = 0; i < count; i++) {
         rkyv_btree_item item = are_values ? given[i].value : given[i].key;
         uint64_t start = all.data_len;
-        if (is_text) {
+        if (kind == TEXT) {
             memcpy(offsets + offset_size * i, &start, offset_size);
             memcpy(room + start, texts + item.start, item.len);
             all.data_len += item.len;
         } else {
-            memcpy(room + start, &item.number, is_wide ? 8 : 4);
-            all.data_len += is_wide ? 8 : 4;
+            memcpy(room + start, &item.number, width);
+            all.data_len += width;
         }
     }
-    if (is_text) {
+    if (kind == TEXT) {
         uint64_t end = all.data_len;
         memcpy(offsets + offset_size * count, &end, offset_size);
         all.offsets = offsets, all.offsets_len = offset_size * (count + 1), all.offset_size = offset_size;
@@ -90,8 +105,8 @@ static void columns(uint32_t type, unsigned count, const uint8_t *data, size_t d
     rkyv_btree_refusal why = {0};
     size_t len = 0;
     for (uint32_t size = 4; size <= 8; size += 4) {
-        rkyv_btree_column keys = column(has_texts_as_keys(type), type > 3, count, 0, size, key_room, key_offsets);
-        rkyv_btree_column values = column(has_texts_as_values(type), type % 3 == 2, count, 1, size, value_room, value_offsets);
+        rkyv_btree_column keys = column(kinds[type].key, count, 0, size, key_room, key_offsets);
+        rkyv_btree_column values = column(kinds[type].value, count, 1, size, value_room, value_offsets);
         assert(rkyv_btree_build_arrays(type, count, &keys, &values, out, sizeof out, &len, &why) == RKYV_BTREE_OK);
         assert(len == data_len && memcmp(out, data, len) == 0 && why.code == 0);
         assert(rkyv_btree_build_arrays_strict(type, count, &keys, &values, out, len - 1, &len, &why) == RKYV_BTREE_NO_ROOM);
@@ -243,7 +258,7 @@ static void edits(void) {
     rkyv_btree_map map = {0};
     rkyv_btree_entry entry = {0};
     size_t len = 0;
-    for (uint32_t type = 1; type <= 9; type++) {
+    for (uint32_t type = 1; type <= LAST; type++) {
         give(type, 100);
         uint8_t *data = build(type, 100, &len);
         rkyv_btree_edit edit = RKYV_BTREE_EDIT(data, len);
@@ -262,7 +277,7 @@ static void edits(void) {
             assert(get(&map, given[i].key, &entry) == RKYV_BTREE_OK && same(data, entry.value, given[i].value));
         }
         if (!has_texts_as_values(type)) assert(rkyv_btree_set_number(&edit, 1, 1) == RKYV_BTREE_NOT_FOUND);
-        if (type % 3 == 1) assert(rkyv_btree_set_number(&edit, 2, UINT64_MAX) == RKYV_BTREE_BAD_VALUE);
+        if (kinds[type].value == U32) assert(rkyv_btree_set_number(&edit, 2, UINT64_MAX) == RKYV_BTREE_BAD_VALUE);
         assert(rkyv_btree_open(&map, type, data, len, &why) == RKYV_BTREE_OK);
         for (unsigned i = 0; i < 100; i++) {
             assert(get(&map, given[i].key, &entry) == RKYV_BTREE_OK && same(data, entry.value, given[i].value));
@@ -284,19 +299,19 @@ static void misuse(void) {
     assert(rkyv_btree_first(&map, &cursor) == RKYV_BTREE_NOT_OPEN);
     assert(rkyv_btree_next(&map, &cursor, batch, 4, &written) == RKYV_BTREE_NOT_OPEN);
     assert(rkyv_btree_open(&map, 0, bad, 8, &why) == RKYV_BTREE_BAD_TYPE);
-    assert(rkyv_btree_open(&map, 10, bad, 8, &why) == RKYV_BTREE_BAD_TYPE);
+    assert(rkyv_btree_open(&map, NO_TYPE, bad, 8, &why) == RKYV_BTREE_BAD_TYPE);
     assert(rkyv_btree_open(&map, 1, NULL, 0, &why) == RKYV_BTREE_OUT_OF_RANGE && why.code == RKYV_BTREE_OUT_OF_RANGE);
     assert(rkyv_btree_open(&map, 1, bad, 8, &why) == RKYV_BTREE_OK); /* eight zeros are an empty map */
     assert(rkyv_btree_next(&map, &cursor, batch, 4, &written) == RKYV_BTREE_OK && written == 0);
     assert(rkyv_btree_find_number(0, bad, 8, 0, &entry, &why) == RKYV_BTREE_BAD_TYPE);
-    assert(rkyv_btree_find_text(10, bad, 8, NULL, 0, &entry, &why) == RKYV_BTREE_BAD_TYPE);
+    assert(rkyv_btree_find_text(NO_TYPE, bad, 8, NULL, 0, &entry, &why) == RKYV_BTREE_BAD_TYPE);
     assert(rkyv_btree_find_number(1, NULL, 0, 0, &entry, &why) == RKYV_BTREE_OUT_OF_RANGE && why.code == RKYV_BTREE_OUT_OF_RANGE);
     assert(rkyv_btree_find_number(1, bad, 8, 0, &entry, &why) == RKYV_BTREE_NOT_FOUND);
     rkyv_btree_item value = {0};
     const rkyv_btree_piece whole = {0, 0, 8};
     uint8_t buffer[512] = {0};
     assert(rkyv_btree_find_number_in(0, 8, &whole, 1, bad, 8, 0, buffer, 512, &value, &why) == RKYV_BTREE_BAD_TYPE);
-    assert(rkyv_btree_find_text_in(10, 8, &whole, 1, bad, 8, NULL, 0, buffer, 512, &value, &why) == RKYV_BTREE_BAD_TYPE);
+    assert(rkyv_btree_find_text_in(NO_TYPE, 8, &whole, 1, bad, 8, NULL, 0, buffer, 512, &value, &why) == RKYV_BTREE_BAD_TYPE);
     assert(rkyv_btree_find_number_in(1, 8, &whole, 1, bad, 8, 0, buffer, 512, &value, &why) == RKYV_BTREE_NOT_FOUND);
     assert(rkyv_btree_find_number_in(1, 8, &whole, 1, bad, 7, 0, buffer, 512, &value, &why) == RKYV_BTREE_MISSING && why.at == 0 && why.found == 8);
     assert(rkyv_btree_find_number_in(1, 1ull << 32, NULL, 0, NULL, 0, 0, buffer, 512, &value, &why) == RKYV_BTREE_TOO_LONG);
@@ -307,15 +322,15 @@ static void misuse(void) {
     assert(rkyv_btree_find_number_in(1, 7, NULL, 0, NULL, 0, 0, buffer, 512, &value, &why) == RKYV_BTREE_OUT_OF_RANGE);
     uint8_t other[8] = {1, 2, 3, 4, 5, 6, 7, 8};
     rkyv_btree_edit edit = RKYV_BTREE_EDIT(other, 8);
-    assert(rkyv_btree_open_edit(&edit, 0, &why) == RKYV_BTREE_BAD_TYPE && rkyv_btree_open_edit(&edit, 10, &why) == RKYV_BTREE_BAD_TYPE);
+    assert(rkyv_btree_open_edit(&edit, 0, &why) == RKYV_BTREE_BAD_TYPE && rkyv_btree_open_edit(&edit, NO_TYPE, &why) == RKYV_BTREE_BAD_TYPE);
     assert(rkyv_btree_open_edit(&edit, 1, &why) != RKYV_BTREE_OK);
     for (uint8_t i = 0; i < 8; i++) assert(other[i] == i + 1); /* a refused buffer is unchanged */
     memset(&why, 0xa5, sizeof why);
     const rkyv_btree_refusal before = why;
     const rkyv_btree_column none = {0};
-    assert(rkyv_btree_build(10, NULL, 0, NULL, 0, out, 8, &archive_len, &why) == RKYV_BTREE_BAD_TYPE);
+    assert(rkyv_btree_build(NO_TYPE, NULL, 0, NULL, 0, out, 8, &archive_len, &why) == RKYV_BTREE_BAD_TYPE);
     assert(rkyv_btree_build_arrays(0, 0, &none, &none, out, 8, &archive_len, &why) == RKYV_BTREE_BAD_TYPE);
-    assert(rkyv_btree_build_arrays_strict(10, 0, &none, &none, out, 8, &archive_len, &why) == RKYV_BTREE_BAD_TYPE);
+    assert(rkyv_btree_build_arrays_strict(NO_TYPE, 0, &none, &none, out, 8, &archive_len, &why) == RKYV_BTREE_BAD_TYPE);
     assert(rkyv_btree_build(1, NULL, 0, NULL, 0, out, 7, &archive_len, &why) == RKYV_BTREE_NO_ROOM && archive_len == 8);
     assert(rkyv_btree_build(1, NULL, 0, NULL, 0, out, 8, &archive_len, &why) == RKYV_BTREE_OK && archive_len == 8);
     assert(memcmp(&before, &why, sizeof why) == 0); /* where nothing is refused, no cause is written */
@@ -417,7 +432,7 @@ static void save(const char *name, uint32_t type) {
 
 int main(int count_of_words, char **words) {
     if (count_of_words > 1 && strcmp(words[1], "short") == 0) step = 31;
-    for (uint32_t type = 1; type <= 9; type++) {
+    for (uint32_t type = 1; type <= LAST; type++) {
         for (unsigned count = 0; count <= 220; count += step) one_type(type, count);
         if (step == 1) one_type(type, MOST);
         for (unsigned count = 0; count <= MOST; count += step + count / 3) pieces(type, count);

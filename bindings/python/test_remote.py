@@ -20,6 +20,7 @@ ENTRIES = {
     ("u32", "u32"): [(2 * n, n) for n in range(5000)],
     ("u32", "text"): [(2 * n, word) for n, word in enumerate(WORDS)],
     ("u64", "u64"): [(2**40 + 2 * n, n) for n in range(5000)],
+    ("i64", "i64"): [(2 * n - 5000, -n) for n in range(5000)],
     ("text", "u32"): [(word, n) for n, word in enumerate(WORDS)],
     ("text", "text"): [(word, word[::-1]) for word in WORDS],
 }
@@ -35,7 +36,7 @@ class Lookups(unittest.TestCase):
                 for key, value in wanted.items():
                     self.assertEqual(remote.get(key), value)
                 self.assertEqual(remote.get_many(wanted), wanted)
-                absent = ["", "zz", "\ud800"] if key_type == "text" else [1, 2**32 - 1, -1, 2**64]
+                absent = ["", "zz", "\ud800"] if key_type == "text" else [1, 2**32 - 1, -1, 2**64, -(2**64)]
                 for key in [*absent, None, b"a"]:
                     self.assertIsNone(remote.get(key))
                 self.assertEqual(remote.get(absent[0], 7), 7)

@@ -18,6 +18,7 @@ from rkyv_btree._raw import BAD_TYPE, NUMBERS, TYPES
 VALUES = {
     "u32": [0, 1, 7, 2**31, 2**32 - 1],
     "u64": [0, 5, 2**32, 2**63, 2**64 - 1],
+    "i64": [-(2**63), -1, 0, 2**32, 2**63 - 1],
     "text": ["", "a", "b\n\t", "ä", "𝄞 long enough for a text of its own"],
 }
 
@@ -46,6 +47,35 @@ class Maps(unittest.TestCase):
                     wanted = [e for e in entries if low <= e[0] < high]
                     self.assertEqual(list(found[low:high]), wanted)
 
+    def test_signed_keys(self):
+        entries = [(3 * n, -n) for n in range(-300, 300)]
+        data = build("i64", "i64", entries, strict=True)
+        found, wanted = Map(data, "i64", "i64", strict=True), dict(entries)
+        ends = [-(2**70), -(2**63), -901, -900, -1, 0, 1, 897, 2**63 - 1, 2**63, 2**70]
+        for key in [*range(-910, 910), *ends]:
+            self.assertEqual(found.get(key), wanted.get(key))
+            self.assertEqual(find(data, "i64", "i64", key), wanted.get(key))
+        for low in ends:
+            for high in ends:
+                self.assertEqual(list(found[low:high]), [entry for entry in entries if low <= entry[0] < high])
+        buffer = bytearray(data)
+        with Edit(buffer, "i64", "i64") as edit:
+            edit[-3] = -(2**63)
+            for value in (-(2**63) - 1, 2**63):
+                with self.assertRaises(Error):
+                    edit[-3] = value
+            with self.assertRaises(KeyError):
+                edit[-2] = 1
+            self.assertEqual(edit[-3], -(2**63))
+        keys, values = (array.array("q", column) for column in zip(*entries))
+        self.assertEqual(build_arrays("i64", "i64", keys, values), data)
+        for number in (-(2**63) - 1, 2**63):
+            with self.assertRaises(Error) as caught:
+                build("i64", "u32", [(0, 1), (number, 2)])
+            self.assertEqual(caught.exception.found, 1)
+        with self.assertRaises(TypeError):
+            build_arrays("i64", "i64", array.array("Q", [1]), array.array("q", [1]))
+
     def test_any_order(self):
         for key_type, value_type, entries in (
             ("u32", "u32", [(1, 1), (1, 2), (1, 3)]),
@@ -53,6 +83,7 @@ class Maps(unittest.TestCase):
             ("text", "u64", [("b", 1), ("a", 2), ("b", 3), ("", 4)]),
             ("text", "text", [("b", "1"), ("a", "2")]),
             ("u64", "u64", [(7919 * n % 1000, n) for n in range(2000)]),
+            ("i64", "i64", [(7919 * n % 1000 - 500, -n) for n in range(2000)]),
         ):
             keys, values = [list(part) for part in zip(*entries)]
             found = Map(build(key_type, value_type, entries), key_type, value_type)
@@ -421,7 +452,8 @@ class Maps(unittest.TestCase):
 
     def test_table_of_types(self):
         self.assertEqual(list(VALUES), list(TYPES))
-        self.assertEqual(list(NUMBERS), list(itertools.product(TYPES, TYPES)))
+        self.assertEqual(set(NUMBERS), set(itertools.product(TYPES, TYPES)))
+        self.assertEqual(list(NUMBERS.values()), list(range(1, len(NUMBERS) + 1)))
         for (key_type, value_type), number in NUMBERS.items():
             entry = VALUES[key_type][1], VALUES[value_type][1]
             data = build(key_type, value_type, [entry])

@@ -58,9 +58,14 @@ _FIRST_BATCH, _LAST_BATCH = 16, 1024
 _CHUNK = 8192
 
 
-# The six numbers of an entry: of the key, and then of the value, a number, where a text begins, and how many bytes it has.
-_ENTRY = struct.Struct("<QIIQII")
-_BATCHES = {room: ctypes.c_char * (_ENTRY.size * room) for room in (16, 64, 256, 1024)}
+# How the six numbers of an entry are read: of the key, and then of the value, a number, where a text begins, and how many bytes it has.
+def _entry_of(types: tuple[Type, Type]) -> struct.Struct:
+    return struct.Struct("<{}II{}II".format(*("q" if TYPES[kind][2] == "q" else "Q" for kind in types)))
+
+
+_ENTRIES = {types: _entry_of(types) for types in NUMBERS}
+_ENTRY_SIZE = ctypes.sizeof(_Entry)
+_BATCHES = {room: ctypes.c_char * (_ENTRY_SIZE * room) for room in (16, 64, 256, 1024)}
 
 
 class _PyBuffer(ctypes.Structure):
@@ -125,9 +130,17 @@ def _number_of(key_type: str, value_type: str) -> int:
     return NUMBERS[key_type, value_type]
 
 
-def _limit_of(key_type: str) -> int:
-    """Returns the least number that is past all numbers of a type."""
-    return 1 << 8 * TYPES[key_type][0]
+def _limits_of(kind: str) -> tuple[int, int]:
+    """Returns the least number of a type, and the least that is past all its numbers."""
+    size, _, form = TYPES[kind]
+    least = -(1 << 8 * size - 1) if form == "q" else 0
+    return least, least + (1 << 8 * size)
+
+
+def _number_in(number: int, kind: str) -> int:
+    """Returns the number of an item, which has a sign in two's complement if the type has one."""
+    least, limit = _limits_of(kind)
+    return number if number < limit else number + 2 * least
 
 
 def _checked(value: Any, is_text: bool, name: str) -> Any:
@@ -250,7 +263,7 @@ class Map(Mapping):
         number = _number_of(key_type, value_type)
         self._view, self._map, self._types = view, _Map(), (key_type, value_type)
         self._texts = (key_type == "text", value_type == "text")
-        self._limit = _limit_of(key_type)
+        self._least, self._limit = _limits_of(key_type)
         self._order: Union[bool, None] = None
         # What the keys that the map gives have, as long as their values are those of the map.
         self._token = object()
@@ -275,8 +288,8 @@ class Map(Mapping):
     def __exit__(self, *error: object) -> None:
         self.close()
 
-    def _read(self, item: _Item, is_text: bool) -> Value:
-        return self._data[item.start : item.start + item.len].decode() if is_text else item.number
+    def _read(self, item: _Item, kind: str) -> Value:
+        return self._data[item.start : item.start + item.len].decode() if kind == "text" else _number_in(item.number, kind)
 
     def _opened(self) -> _Map:
         """Returns the map as the library has it, while it is open."""
@@ -299,9 +312,9 @@ class Map(Mapping):
             text = key.encode("utf-8", "surrogatepass")
             code = _lib.get_text(opened, text, len(text), entry)
         else:
-            if not isinstance(key, int) or not 0 <= key < self._limit:
+            if not isinstance(key, int) or not self._least <= key < self._limit:
                 return None
-            code = _lib.get_number(opened, key, entry)
+            code = _lib.get_number(opened, key % 2**64, entry)
         return entry if code == OK else None
 
     def _gave(self, key: Any) -> bool:
@@ -335,7 +348,7 @@ class Map(Mapping):
         entry = self._find(key)
         if entry is None:
             raise KeyError(key)
-        return self._read(entry.value, self._texts[1])
+        return self._read(entry.value, self._types[1])
 
     def __iter__(self) -> Iterator[Key]:
         """Returns an iterator over the keys, in their order."""
@@ -367,12 +380,13 @@ class Map(Mapping):
         elif isinstance(low, str):
             text = low.encode("utf-8", "surrogatepass")
             _lib.seek_text(opened, text, len(text), cursor)
-        elif low < 2**64:
-            _lib.seek_number(opened, max(low, 0), cursor)
+        elif low < self._limit:
+            _lib.seek_number(opened, max(low, self._least) % 2**64, cursor)
         return self._entries(cursor, high)
 
     def _entries(self, cursor: _Cursor, high: Union[Key, None]) -> Iterator[tuple[Key, Value]]:
         opened, data, (keys_are_texts, values_are_texts) = self._opened(), self._data, self._texts
+        form = _ENTRIES[self._types]
         # Texts are compared as their bytes, as the archive's order is.
         limit = high.encode("utf-8", "surrogatepass") if isinstance(high, str) else high
         room, written = _FIRST_BATCH, _SIZE()
@@ -381,7 +395,7 @@ class Map(Mapping):
             code = _lib.next(self._opened(), cursor, batch, room, written)
             if code != OK:
                 raise Error(code)
-            entries = islice(_ENTRY.iter_unpack(batch), written.value)
+            entries = islice(form.iter_unpack(batch), written.value)
             for key, key_start, key_len, value, start, length in entries:
                 if self._map is not opened:
                     raise Error(NOT_OPEN)
@@ -450,13 +464,14 @@ class Edit(Map):
         """Overwrites the value of a key. Raises KeyError if the key isn't found, and Error if the value isn't of the map's type."""
         self._opened()
         _checked(value, False, "a value")
-        if not 0 <= value < 2**64:
+        least, limit = _limits_of(self._types[1])
+        if not least <= value < limit:
             raise Error(BAD_VALUE)
         if self._texts[0]:
             text = key.encode("utf-8", "surrogatepass") if isinstance(key, str) else None
-            code = NOT_FOUND if text is None else _lib.set_text(self._edit, text, len(text), value)
-        elif isinstance(key, int) and 0 <= key < self._limit:
-            code = _lib.set_number(self._edit, key, value)
+            code = NOT_FOUND if text is None else _lib.set_text(self._edit, text, len(text), value % 2**64)
+        elif isinstance(key, int) and self._least <= key < self._limit:
+            code = _lib.set_number(self._edit, key % 2**64, value % 2**64)
         else:
             code = NOT_FOUND
         if code == NOT_FOUND:
@@ -487,32 +502,33 @@ def find(data: Any, key_type: Type, value_type: Type, key: Key) -> Union[Value, 
             text = key.encode("utf-8", "surrogatepass")
             code = _lib.find_text(number, address, view.nbytes, text, len(text), entry, why)
         else:
-            if not isinstance(key, int) or not 0 <= key < _limit_of(key_type):
+            least, limit = _limits_of(key_type)
+            if not isinstance(key, int) or not least <= key < limit:
                 return None
-            code = _lib.find_number(number, address, view.nbytes, key, entry, why)
+            code = _lib.find_number(number, address, view.nbytes, key % 2**64, entry, why)
         if code == NOT_FOUND:
             return None
         if code != OK:
             raise Error(code, why.at, why.found, why.allowed)
         if value_type == "text":
             return ctypes.string_at(address + entry.value.start, entry.value.len).decode()
-        return entry.value.number
+        return _number_in(entry.value.number, value_type)
 
 
 class _Numbers:
     """A column of numbers, to which more are added."""
 
-    def __init__(self, code: str, name: str) -> None:
-        self.data, self.name = array(code), name
+    def __init__(self, kind: str, name: str) -> None:
+        self.data, self.kind, self.name = array(TYPES[kind][2]), kind, name
 
     def extend(self, numbers: list[Any], index: int) -> None:
         """Adds numbers, of which the first is that of the entry at `index`."""
         try:
             self.data.extend(numbers)
         except (OverflowError, TypeError):
-            limit = 1 << 8 * self.data.itemsize
+            least, limit = _limits_of(self.kind)
             for at, number in enumerate(numbers, index):
-                if not 0 <= _checked(number, False, self.name) < limit:
+                if not least <= _checked(number, False, self.name) < limit:
                     raise Error(BAD_ITEM, found=at) from None
             raise
 
@@ -587,7 +603,7 @@ def build(
         entries = entries.items()
 
     def started(kind: str, name: str) -> Union[_Numbers, _Texts]:
-        return _Texts(name) if kind == "text" else _Numbers(TYPES[kind][2], name)
+        return _Texts(name) if kind == "text" else _Numbers(kind, name)
 
     keys, values, count, rest = started(key_type, "a key"), started(value_type, "a value"), 0, iter(entries)
     while chunk := list(islice(rest, _CHUNK)):
@@ -613,7 +629,7 @@ class _Buffers:
             self.column = _Column(_address_of(data), data.nbytes, _address_of(offsets), offsets.nbytes, offsets.itemsize)
         else:
             numbers, size = self._view(given, name), TYPES[kind][0]
-            if numbers.itemsize != size or numbers.format.lstrip("@=<") not in "ILQ":
+            if numbers.itemsize != size or numbers.format.lstrip("@=<") not in ("lq" if TYPES[kind][2] == "q" else "ILQ"):
                 raise TypeError(f"{name} must be a buffer of {kind}, not of format {numbers.format!r}")
             self.count, self.bytes = len(numbers), numbers.nbytes
             self.column = _Column(_address_of(numbers), numbers.nbytes, None, 0, 0)

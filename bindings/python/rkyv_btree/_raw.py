@@ -39,12 +39,20 @@ U64_TO_TEXT = 6
 TEXT_TO_U32 = 7
 TEXT_TO_U64 = 8
 TEXT_TO_TEXT = 9
+U32_TO_I64 = 10
+U64_TO_I64 = 11
+I64_TO_U32 = 12
+I64_TO_U64 = 13
+I64_TO_I64 = 14
+I64_TO_TEXT = 15
+TEXT_TO_I64 = 16
 
-Type = Literal["u32", "u64", "text"]
+Type = Literal["u32", "u64", "i64", "text"]
 # Of each type its size and its alignment in an archive, and the format of its numbers. A text has none.
 TYPES = {
     "u32": (4, 4, "I"),
     "u64": (8, 8, "Q"),
+    "i64": (8, 8, "q"),
     "text": (8, 4, ""),
 }
 # The number of the type of a map, of the types of its keys and its values.
@@ -58,6 +66,13 @@ NUMBERS = {
     ("text", "u32"): TEXT_TO_U32,
     ("text", "u64"): TEXT_TO_U64,
     ("text", "text"): TEXT_TO_TEXT,
+    ("u32", "i64"): U32_TO_I64,
+    ("u64", "i64"): U64_TO_I64,
+    ("i64", "u32"): I64_TO_U32,
+    ("i64", "u64"): I64_TO_U64,
+    ("i64", "i64"): I64_TO_I64,
+    ("i64", "text"): I64_TO_TEXT,
+    ("text", "i64"): TEXT_TO_I64,
 }
 # The codes of errors that are at a position.
 AT_POSITION = (OUT_OF_RANGE, MISALIGNED, BAD_KIND, BAD_ENTRY, TOO_DEEP)

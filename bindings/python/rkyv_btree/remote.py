@@ -15,7 +15,7 @@ from collections import OrderedDict
 from collections.abc import AsyncIterator, Awaitable, Callable, Generator, Iterable, Iterator, Mapping
 from typing import Any, NamedTuple, TypeVar, Union
 
-from . import Error, Key, Type, Value, _checked, _lib, _limit_of, _number_of
+from . import Error, Key, Type, Value, _checked, _lib, _limits_of, _number_in, _number_of
 from ._nodes import LEVELS, ROOT, Item, Layout, Text, decoded, order_of
 from ._raw import (
     BAD_ITEM,
@@ -94,13 +94,13 @@ class _Search:
             if self.text is not None:
                 code = _lib.find_text_in(*where, self.text, len(self.text), room, len(room), value, why)
             else:
-                code = _lib.find_number_in(*where, self.key, room, len(room), value, why)
+                code = _lib.find_number_in(*where, self.key % 2**64, room, len(room), value, why)
             if code != NO_ROOM:
                 break
             remote._room = ctypes.create_string_buffer(why.found)
         if code == OK:
-            is_text = remote._texts[1]
-            self.value = room[value.start : value.start + value.len].decode() if is_text else value.number
+            kind = remote._types[1]
+            self.value = room[value.start : value.start + value.len].decode() if kind == "text" else _number_in(value.number, kind)
             return None
         if code in (NOT_FOUND, BAD_ITEM):
             return None
@@ -151,7 +151,7 @@ class _Lookups:
         if block < 1:
             raise ValueError("a block has at least one byte")
         self._size, self._number = size, _number_of(key_type, value_type)
-        self._texts, self._limit = (key_type == "text", value_type == "text"), _limit_of(key_type)
+        self._types, self._limits = (key_type, value_type), _limits_of(key_type)
         self._layout = Layout(key_type, value_type, size)
         self._block, self._most = block, max(cache // block, 2)
         self._blocks: OrderedDict[int, bytes] = OrderedDict()
@@ -172,7 +172,9 @@ class _Lookups:
         return top.pieces
 
     def _is_key(self, key: object) -> bool:
-        return isinstance(key, str) if self._texts[0] else isinstance(key, int) and 0 <= key < self._limit
+        if self._types[0] == "text":
+            return isinstance(key, str)
+        return isinstance(key, int) and self._limits[0] <= key < self._limits[1]
 
     def _find(self, keys: Iterable[Key]) -> _Fetching[dict[Key, Value]]:
         """Returns the values of the keys that are found. All lookups go on together, so that each block is fetched once for all of them."""
@@ -253,7 +255,7 @@ class _Lookups:
         """Returns a walk over the entries from `low` on and before `high`."""
         for bound in (low, high):
             if bound is not None:
-                _checked(bound, self._texts[0], "a bound of a range")
+                _checked(bound, self._types[0] == "text", "a bound of a range")
         return _Walk(low, high)
 
     def _next(self, walk: _Walk) -> _Fetching[list[tuple[Key, Value]]]:

@@ -1,5 +1,5 @@
 use crate::error::Error;
-use crate::field::sealed::Query;
+use crate::field::sealed::Passed;
 use crate::field::{AsKey, Field, Number};
 use crate::map::{type_number, Map};
 use crate::raw;
@@ -48,9 +48,9 @@ impl<'a, K: Field<'a>, V: Field<'a> + Number> Edit<'a, K, V> {
         // SAFETY: the map is open, and a text is borrowed during the call.
         let code = unsafe {
             raw::rkyv_btree_read_edit(&mut raw, &self.raw);
-            match key.query() {
-                Query::Number(number) => raw::rkyv_btree_get_number(&raw, number, &mut entry),
-                Query::Text(text) => raw::rkyv_btree_get_text(&raw, text.as_ptr(), text.len(), &mut entry),
+            match key.query().passed() {
+                Passed::Number(number) => raw::rkyv_btree_get_number(&raw, number, &mut entry),
+                Passed::Text(text) => raw::rkyv_btree_get_text(&raw, text.as_ptr(), text.len(), &mut entry),
             }
         };
         (code == raw::OK).then(|| V::narrowed(entry.value.number))
@@ -68,13 +68,13 @@ impl<'a, K: Field<'a>, V: Field<'a> + Number> Edit<'a, K, V> {
 
     /// Overwrites the value of a key, and returns whether it was found.
     pub fn set(&mut self, key: impl AsKey<K>, value: V) -> bool {
-        let code = match key.query() {
+        let code = match key.query().passed() {
             // SAFETY: the map is open.
-            Query::Number(number) => unsafe {
+            Passed::Number(number) => unsafe {
                 raw::rkyv_btree_set_number(&mut self.raw, number, value.widened())
             },
             // SAFETY: the map is open, and the text is borrowed during the call.
-            Query::Text(text) => unsafe {
+            Passed::Text(text) => unsafe {
                 raw::rkyv_btree_set_text(&mut self.raw, text.as_ptr(), text.len(), value.widened())
             },
         };

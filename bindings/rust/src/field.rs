@@ -1,10 +1,11 @@
 use crate::raw::{Column, Item, Type};
 
-/// A type of keys or of values: `u32`, `u64` or `&str`.
+/// A type of keys or of values: `u32`, `u64`, `i64` or `&str`.
 pub trait Field<'a>: Copy + sealed::Stored<'a> {}
 
 impl<'a> Field<'a> for u32 {}
 impl<'a> Field<'a> for u64 {}
+impl<'a> Field<'a> for i64 {}
 impl<'a> Field<'a> for &'a str {}
 
 /// What is looked up in a map with keys of type `K`: a number of that type, a text of any lifetime, or a reference to one of these.
@@ -12,6 +13,7 @@ pub trait AsKey<K>: sealed::Asked {}
 
 impl AsKey<u32> for u32 {}
 impl AsKey<u64> for u64 {}
+impl AsKey<i64> for i64 {}
 impl AsKey<&str> for str {}
 impl AsKey<&str> for String {}
 impl<K, Q: AsKey<K> + ?Sized> AsKey<K> for &Q {}
@@ -21,6 +23,7 @@ pub trait Number: sealed::Wide {}
 
 impl Number for u32 {}
 impl Number for u64 {}
+impl Number for i64 {}
 
 pub(crate) mod sealed {
     use super::{Column, Item, Type};
@@ -30,13 +33,32 @@ pub(crate) mod sealed {
     #[derive(Clone, Copy)]
     pub enum Query<'q> {
         Number(u64),
+        Signed(i64),
         Text(&'q str),
+    }
+
+    /// The same as C takes it: a number with a sign is in two's complement.
+    #[derive(Clone, Copy)]
+    pub enum Passed<'q> {
+        Number(u64),
+        Text(&'q [u8]),
+    }
+
+    impl<'q> Query<'q> {
+        pub fn passed(self) -> Passed<'q> {
+            match self {
+                Query::Number(number) => Passed::Number(number),
+                Query::Signed(number) => Passed::Number(number as u64),
+                Query::Text(text) => Passed::Text(text.as_bytes()),
+            }
+        }
     }
 
     /// A key or a value that is kept. Texts are compared as their bytes, as the order of an archive is.
     #[derive(Clone, Debug, PartialEq, Eq, PartialOrd, Ord)]
     pub enum Datum {
         Number(u64),
+        Signed(i64),
         Text(String),
     }
 
@@ -123,6 +145,12 @@ pub(crate) mod sealed {
         }
     }
 
+    impl Asked for i64 {
+        fn query(&self) -> Query<'_> {
+            Query::Signed(*self)
+        }
+    }
+
     impl Asked for str {
         fn query(&self) -> Query<'_> {
             Query::Text(self)
@@ -161,6 +189,16 @@ pub(crate) mod sealed {
         }
     }
 
+    impl Wide for i64 {
+        fn widened(self) -> u64 {
+            self as u64
+        }
+
+        fn narrowed(number: u64) -> i64 {
+            number as i64
+        }
+    }
+
     impl<'a> Stored<'a> for u32 {
         const TYPE: Type = Type::U32;
         type At<'s> = u32;
@@ -169,7 +207,7 @@ pub(crate) mod sealed {
         fn owned(datum: Datum) -> u32 {
             match datum {
                 Datum::Number(number) => u32::narrowed(number),
-                Datum::Text(_) => 0,
+                Datum::Signed(_) | Datum::Text(_) => 0,
             }
         }
 
@@ -189,13 +227,34 @@ pub(crate) mod sealed {
 
         fn owned(datum: Datum) -> u64 {
             match datum {
-                Datum::Number(number) => u64::narrowed(number),
-                Datum::Text(_) => 0,
+                Datum::Number(number) => number,
+                Datum::Signed(_) | Datum::Text(_) => 0,
             }
         }
 
         fn read(_data: &'a [u8], item: Item) -> u64 {
             item.number
+        }
+
+        fn put(self, cells: &mut Cells) {
+            cells.number(&self.to_le_bytes());
+        }
+    }
+
+    impl<'a> Stored<'a> for i64 {
+        const TYPE: Type = Type::I64;
+        type At<'s> = i64;
+        type Owned = i64;
+
+        fn owned(datum: Datum) -> i64 {
+            match datum {
+                Datum::Signed(number) => number,
+                Datum::Number(_) | Datum::Text(_) => 0,
+            }
+        }
+
+        fn read(_data: &'a [u8], item: Item) -> i64 {
+            item.number as i64
         }
 
         fn put(self, cells: &mut Cells) {
@@ -210,7 +269,7 @@ pub(crate) mod sealed {
 
         fn owned(datum: Datum) -> String {
             match datum {
-                Datum::Number(_) => String::new(),
+                Datum::Number(_) | Datum::Signed(_) => String::new(),
                 Datum::Text(text) => text,
             }
         }

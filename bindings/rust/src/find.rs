@@ -1,5 +1,5 @@
 use crate::error::Error;
-use crate::field::sealed::Query;
+use crate::field::sealed::Passed;
 use crate::field::{AsKey, Field};
 use crate::map::type_number;
 use crate::raw;
@@ -25,13 +25,13 @@ pub fn find<'a, K: Field<'a>, V: Field<'a>>(data: &'a [u8], key: impl AsKey<K>) 
     let mut entry = raw::Entry::default();
     let mut why = raw::Refusal::default();
     let kind = type_number::<K, V>();
-    let code = match key.query() {
+    let code = match key.query().passed() {
         // SAFETY: pointer and length are those of one slice.
-        Query::Number(number) => unsafe {
+        Passed::Number(number) => unsafe {
             raw::rkyv_btree_find_number(kind, data.as_ptr(), data.len(), number, &mut entry, &mut why)
         },
         // SAFETY: pointers and lengths are those of two slices, which are borrowed during the call.
-        Query::Text(text) => unsafe {
+        Passed::Text(text) => unsafe {
             raw::rkyv_btree_find_text(
                 kind,
                 data.as_ptr(),

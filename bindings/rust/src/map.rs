@@ -1,5 +1,5 @@
 use crate::error::Error;
-use crate::field::sealed::Query;
+use crate::field::sealed::{Passed, Query};
 use crate::field::{AsKey, Field};
 use crate::raw;
 use std::cmp::Ordering;
@@ -82,13 +82,13 @@ impl<'a, K: Field<'a>, V: Field<'a>> Map<'a, K, V> {
     /// Returns the value of a key. If the keys don't increase, a key may be there and not be found.
     pub fn get(&self, key: impl AsKey<K>) -> Option<V> {
         let mut entry = raw::Entry::default();
-        let code = match key.query() {
+        let code = match key.query().passed() {
             // SAFETY: the map is open.
-            Query::Number(number) => unsafe {
+            Passed::Number(number) => unsafe {
                 raw::rkyv_btree_get_number(&self.raw, number, &mut entry)
             },
             // SAFETY: the map is open, and the text is borrowed during the call.
-            Query::Text(text) => unsafe {
+            Passed::Text(text) => unsafe {
                 raw::rkyv_btree_get_text(&self.raw, text.as_ptr(), text.len(), &mut entry)
             },
         };
@@ -126,13 +126,13 @@ impl<'a, K: Field<'a>, V: Field<'a>> Map<'a, K, V> {
             Bound::Unbounded => unsafe {
                 raw::rkyv_btree_first(&self.raw, &mut cursor);
             },
-            Bound::Included(key) | Bound::Excluded(key) => match key.query() {
+            Bound::Included(key) | Bound::Excluded(key) => match key.query().passed() {
                 // SAFETY: the map is open.
-                Query::Number(number) => unsafe {
+                Passed::Number(number) => unsafe {
                     raw::rkyv_btree_seek_number(&self.raw, number, &mut cursor);
                 },
                 // SAFETY: the map is open, and the text is borrowed during the call.
-                Query::Text(text) => unsafe {
+                Passed::Text(text) => unsafe {
                     raw::rkyv_btree_seek_text(&self.raw, text.as_ptr(), text.len(), &mut cursor);
                 },
             },
@@ -295,6 +295,7 @@ pub struct Range<'a, K, V, Q, R> {
 fn compare(data: &[u8], key: raw::Item, query: Query<'_>) -> Ordering {
     match query {
         Query::Number(number) => key.number.cmp(&number),
+        Query::Signed(number) => (key.number as i64).cmp(&number),
         Query::Text(text) => {
             let start = key.start as usize;
             let bytes = data.get(start..start + key.len as usize).unwrap_or_default();

@@ -15,6 +15,7 @@ const ABSENT: i32 = 1;
 #[derive(Clone, Copy, Debug, PartialEq, Eq)]
 pub enum Cell {
     Number(u64),
+    Signed(i64),
     Text { start: i64, len: u32 },
 }
 
@@ -166,6 +167,7 @@ fn cells(kind: Type, pos: u64, data: &[u8], at: u64, len: u64) -> Vec<Cell> {
     let places = (0..len).map(|n| at + n * size);
     match kind {
         Type::U32 | Type::U64 => places.map(|place| Cell::Number(number(data, place, size))).collect(),
+        Type::I64 => places.map(|place| Cell::Signed(number(data, place, size) as i64)).collect(),
         Type::Text => places
             .map(|place| Cell::Text {
                 start: (pos + place) as i64 + i64::from(offset(data, place)),

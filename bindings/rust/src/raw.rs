@@ -34,24 +34,33 @@ pub const U64_TO_TEXT: u32 = 6;
 pub const TEXT_TO_U32: u32 = 7;
 pub const TEXT_TO_U64: u32 = 8;
 pub const TEXT_TO_TEXT: u32 = 9;
+pub const U32_TO_I64: u32 = 10;
+pub const U64_TO_I64: u32 = 11;
+pub const I64_TO_U32: u32 = 12;
+pub const I64_TO_U64: u32 = 13;
+pub const I64_TO_I64: u32 = 14;
+pub const I64_TO_TEXT: u32 = 15;
+pub const TEXT_TO_I64: u32 = 16;
 
 /// A type of keys or of values.
 #[derive(Clone, Copy, Debug, PartialEq, Eq)]
 pub enum Type {
     U32,
     U64,
+    I64,
     Text,
 }
 
 impl Type {
-    /// All types, in the order of the numbers of maps.
-    pub const ALL: [Type; 3] = [Type::U32, Type::U64, Type::Text];
+    /// All types.
+    pub const ALL: [Type; 4] = [Type::U32, Type::U64, Type::I64, Type::Text];
 
     /// Returns its name.
     pub const fn name(self) -> &'static str {
         match self {
             Type::U32 => "u32",
             Type::U64 => "u64",
+            Type::I64 => "i64",
             Type::Text => "text",
         }
     }
@@ -61,6 +70,7 @@ impl Type {
         match self {
             Type::U32 => (4, 4),
             Type::U64 => (8, 8),
+            Type::I64 => (8, 8),
             Type::Text => (8, 4),
         }
     }
@@ -78,6 +88,13 @@ pub const fn number_of(key: Type, value: Type) -> u32 {
         (Type::Text, Type::U32) => TEXT_TO_U32,
         (Type::Text, Type::U64) => TEXT_TO_U64,
         (Type::Text, Type::Text) => TEXT_TO_TEXT,
+        (Type::U32, Type::I64) => U32_TO_I64,
+        (Type::U64, Type::I64) => U64_TO_I64,
+        (Type::I64, Type::U32) => I64_TO_U32,
+        (Type::I64, Type::U64) => I64_TO_U64,
+        (Type::I64, Type::I64) => I64_TO_I64,
+        (Type::I64, Type::Text) => I64_TO_TEXT,
+        (Type::Text, Type::I64) => TEXT_TO_I64,
     }
 }
 

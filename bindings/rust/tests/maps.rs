@@ -60,7 +60,8 @@ fn refusals_are_errors() {
 fn all_types() {
     let numbers: Vec<u32> = (0..1000).map(|n| 7 * n).collect();
     let texts: Vec<String> = (0..1000).map(|n| format!("key {n:05}")).collect();
-    let mut bytes: Vec<Vec<u8>> = vec![Vec::new(); 9];
+    let signed: Vec<i64> = (0..1000).map(|n| i64::MIN + n * (i64::MAX / 500)).collect();
+    let mut bytes: Vec<Vec<u8>> = vec![Vec::new(); 16];
     let mut bytes = bytes.iter_mut();
     let all = 0..1000;
     given_back(&all.clone().map(|i| (numbers[i], numbers[i])).collect::<Vec<_>>(), bytes.next().unwrap());
@@ -71,7 +72,31 @@ fn all_types() {
     given_back(&all.clone().map(|i| (i as u64, &*texts[i])).collect::<Vec<_>>(), bytes.next().unwrap());
     given_back(&all.clone().map(|i| (&*texts[i], numbers[i])).collect::<Vec<_>>(), bytes.next().unwrap());
     given_back(&all.clone().map(|i| (&*texts[i], i as u64)).collect::<Vec<_>>(), bytes.next().unwrap());
-    given_back(&all.map(|i| (&*texts[i], &*texts[i])).collect::<Vec<_>>(), bytes.next().unwrap());
+    given_back(&all.clone().map(|i| (&*texts[i], &*texts[i])).collect::<Vec<_>>(), bytes.next().unwrap());
+    given_back(&all.clone().map(|i| (numbers[i], signed[i])).collect::<Vec<_>>(), bytes.next().unwrap());
+    given_back(&all.clone().map(|i| (i as u64, signed[i])).collect::<Vec<_>>(), bytes.next().unwrap());
+    given_back(&all.clone().map(|i| (signed[i], numbers[i])).collect::<Vec<_>>(), bytes.next().unwrap());
+    given_back(&all.clone().map(|i| (signed[i], i as u64)).collect::<Vec<_>>(), bytes.next().unwrap());
+    given_back(&all.clone().map(|i| (signed[i], !signed[999 - i])).collect::<Vec<_>>(), bytes.next().unwrap());
+    given_back(&all.clone().map(|i| (signed[i], &*texts[i])).collect::<Vec<_>>(), bytes.next().unwrap());
+    given_back(&all.map(|i| (&*texts[i], signed[i])).collect::<Vec<_>>(), bytes.next().unwrap());
+}
+
+#[test]
+fn signed_keys() {
+    let entries: Vec<(i64, i64)> = (-50..50).map(|n| (3 * n, -n)).collect();
+    let mut bytes = entries.iter().copied().collect::<Builder<i64, i64>>().build_strict().unwrap();
+    let std: BTreeMap<i64, i64> = entries.iter().copied().collect();
+    let map = Map::<i64, i64>::open_strict(&bytes).unwrap();
+    for key in (-155..155).chain([i64::MIN, i64::MAX]) {
+        assert_eq!(map.get(key), std.get(&key).copied());
+        assert_eq!(find::<i64, i64>(&bytes, key).unwrap(), std.get(&key).copied());
+        assert!(map.range(key..).eq(std.range(key..).map(|e| (*e.0, *e.1))));
+        assert!(map.range(-9..=key).eq(std.range(-9..=key.max(-9)).filter(|e| *e.0 <= key).map(|e| (*e.0, *e.1))));
+    }
+    let mut edit = Edit::<i64, i64>::open(&mut bytes).unwrap();
+    assert!(edit.set(-3, i64::MIN) && !edit.set(-2, 1));
+    assert_eq!((edit.get(-3), edit.get(3)), (Some(i64::MIN), Some(-1)));
 }
 
 #[test]

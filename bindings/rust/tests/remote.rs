@@ -68,6 +68,10 @@ fn all_types() {
     same::<u64, &str, _>(numbers().map(|n| (far(n), of(n))).collect::<Builder<_, _>>().build().unwrap().leak(), &wide);
     same::<&str, u32, _>(numbers().map(|n| (of(n), n)).collect::<Builder<_, _>>().build().unwrap().leak(), &words);
     same::<&str, u64, _>(numbers().map(|n| (of(n), far(n))).collect::<Builder<_, _>>().build().unwrap().leak(), &words);
+    let signed: Vec<i64> = (-3000..3001).step_by(131).chain([i64::MIN, i64::MAX]).collect();
+    let around = |n: u32| 2 * i64::from(n) - 3000;
+    same::<i64, i64, _>(numbers().map(|n| (around(n), -around(n))).collect::<Builder<_, _>>().build().unwrap().leak(), &signed);
+    same::<i64, &str, _>(numbers().map(|n| (around(n), of(n))).collect::<Builder<_, _>>().build().unwrap().leak(), &signed);
     same::<&str, &str, _>(numbers().map(|n| (of(n), of(n))).collect::<Builder<_, _>>().build().unwrap().leak(), &words);
 }
 
@@ -205,6 +209,17 @@ fn ranges() {
                 }
             }
         }
+    }
+}
+
+#[test]
+fn ranges_of_signed_numbers() {
+    let entries: Vec<(i64, i64)> = (-100..100).map(|n| (n, -n)).collect();
+    let data = entries.iter().copied().collect::<Builder<_, _>>().build_strict().unwrap();
+    let mut remote = counted(&data, 64, 2);
+    for low in [i64::MIN, -101, -100, -1, 0, 1, 99, 100] {
+        let found: Result<Vec<_>, _> = remote.range::<i64, i64, _>(low..50).collect();
+        assert_eq!(found.unwrap(), entries.iter().copied().filter(|entry| (low..50).contains(&entry.0)).collect::<Vec<_>>());
     }
 }
 

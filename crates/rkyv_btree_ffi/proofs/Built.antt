@@ -39,14 +39,18 @@ use Rattle.rkyv_btree_format.specs.OwnBytes.{IsArchiveOf}
 use Rattle.rkyv_btree_writer.specs.Writing.{Writing, Wrote, position, last_end}
 use Rattle.rkyv_btree_writing_laws.proofs.Accepting.{archive_length}
 use Rattle.rkyv_btree_writing_laws.proofs.TreeSerialised.{list_unserialised}
-use Rattle.rkyv_btree_ffi.specs.Building.{IsFirstBad, IsBuiltOf, IsUnbuiltOf, StopsWith, IsBuilt, IsUnbuilt, Archives, ArchivesColumns}
-use Rattle.rkyv_btree_ffi.specs.Items.{ItemType, Native, archival_of}
+use Rattle.rkyv_btree_ffi.specs.Building.{IsFirstBad, IsBuiltOf, IsUnbuiltOf, StopsWith, IsEntryOf, given, IsRowOf, row, Archives, ArchivesColumns}
+use Rattle.rkyv_btree_ffi.specs.Columns.{IsNativeCell}
+use Rattle.rkyv_btree_ffi.specs.Items.{Native, Resolver, archival_of, native_value, IsNative}
+use Rattle.rkyv_btree_ffi.specs.MapTypes.{key_kind, value_kind}
 use Rattle.rkyv_btree_ffi.specs.declared.building.BuildFault.{BuildFault}
 use Rattle.rkyv_btree_ffi.specs.declared.building.BuildFault.TheVariants.{BadItem, Unbuilt}
 use Rattle.rkyv_btree_ffi.specs.declared.column.BtreeColumn.{BtreeColumn}
 use Rattle.rkyv_btree_ffi.specs.declared.order.Order.{Order}
 use Rattle.rkyv_btree_ffi.specs.declared.order.Order.TheVariants.{Any, Increasing}
 use Rattle.rkyv_btree_ffi.specs.declared.item.BtreeEntry.{BtreeEntry}
+use Rattle.rkyv_btree_ffi.specs.declared.map_type.ItemType.{ItemType}
+use Rattle.rkyv_btree_ffi.specs.declared.map_type.ItemType.TheVariants.{U32, U64, I64, Text}
 use Rattle.rkyv_btree_ffi.specs.declared.map_type.MapType.{MapType}
 use Rattle.rkyv_btree_ffi.specs.mirror.Natives.{GivesBoth, native_meaning, NativesStop, TreeFault, NativeFault, AreGiven, ArchivesNatives, BuiltGiven, UnbuiltGiven}
 use Rattle.rkyv_btree_ffi.proofs.Never.{never_refused}
@@ -295,29 +299,44 @@ row_more IsOf GivesKey GivesValue len i natives x inside are good key value =
     let at : i ≡ get_or (range_with_len 0 len) i 0 = sym (row_at len i inside) in
     given_more IsOf GivesKey GivesValue (range_with_len 0 len) i 0 natives x (omega (arith, length-range_with_len 0 len, inside)) are (subst IsOf at good) (subst (λ (j : ℕ). GivesKey j x.0) at key) (subst (λ (j : ℕ). GivesValue j x.1) at value)
 
--- at the types of keys and values of a map's type, by what these are there
-module _ (t : MapType) (i j : ItemType) (order : Order) {E : Type 0} (IsOf : E → Type 0) (GivesKey : E → Native i → Type 0) (GivesValue : E → Native j → Type 0) (entries : List E) (cmp : Native i → Native i → Ordering)
-    (meant : E → (archival_of i).kind.Value × (archival_of j).kind.Value) (means : (e : E) (x : Native i × Native j) → GivesBoth IsOf GivesKey GivesValue e x → native_meaning (archival_of i) (archival_of j) x ≡ meant e)
-    (same : (x y : Native i) → cmp x y ≡ (archival_of i).kind.order ((archival_of i).meaning x) ((archival_of i).meaning y)) (no_key : (x : Native i) (at : ℕ) (f : EntryFault) → (archival_of i).Refuses x at f → ⊥) (no_value : (x : Native j) (at : ℕ) (f : EntryFault) → (archival_of j).Refuses x at f → ⊥) where
-  -- what the library builds of all native entries
-  abbrev Builds : List ℕ → Type 0
-  Builds bytes = IsBuiltOf IsOf meant (archival_of i).kind.order order entries (IsArchiveOf (map_kind (archival_of i).kind (archival_of j).kind 5) bytes)
+-- no native key or value refuses itself
+never : (i : ItemType) (x : Native i) (at : ℕ) (f : EntryFault) → (archival_of i).Refuses x at f → ⊥
+never U32 x at f h = h
+never U64 x at f h = h
+never I64 x at f h = h
+never Text x at f h = h
 
-  abbrev Ends : BuildFault → Type 0
-  Ends fault = IsUnbuiltOf IsOf meant (archival_of i).kind.order order entries (NativesStop (archival_of i) (archival_of j)) fault
+-- at the types of a map, whose native keys are ordered as what they mean
+module _ (t : MapType) (cmp : Native t.key → Native t.key → Ordering) (same : (x y : Native t.key) → cmp x y ≡ (key_kind t).order (native_value t.key x) (native_value t.key y)) (order : Order) where
+  abbrev Key : Archival (Native t.key) (Resolver t.key)
+  Key = archival_of t.key
 
-  abbrev IsGivenArchive : Vec ℕ Global → Type 0
-  IsGivenArchive x = BuiltGiven IsOf GivesKey GivesValue order entries (archival_of i).kind (archival_of j).kind (archival_of i) (archival_of j) cmp x.items
+  abbrev Value : Archival (Native t.value) (Resolver t.value)
+  Value = archival_of t.value
 
-  abbrev IsGivenFault : BuildFault → Type 0
-  IsGivenFault = UnbuiltGiven IsOf GivesKey GivesValue order entries (archival_of i) (archival_of j) cmp
+  module _ {E : Type 0} (IsOf : E → Type 0) (GivesKey : E → Native t.key → Type 0) (GivesValue : E → Native t.value → Type 0) (entries : List E) where
+    abbrev IsGivenArchive : Vec ℕ Global → Type 0
+    IsGivenArchive x = BuiltGiven IsOf GivesKey GivesValue order entries (key_kind t) (value_kind t) Key Value cmp x.items
 
-  pub archives : (texts : List ℕ) (es : List BtreeEntry) → ((bytes : List ℕ) → Builds bytes → IsBuilt t order texts es bytes) → ((fault : BuildFault) → Ends fault → IsUnbuilt t order texts es fault)
-      → (r : Result (Vec ℕ Global) BuildFault) → IfOk r IsGivenArchive → IfErr r IsGivenFault → Archives t order texts es r
-  archives texts es ok err (Ok x) h g = ok x.items (built_of IsOf GivesKey GivesValue (archival_of i) (archival_of j) cmp order entries meant means same no_key no_value (Ok x) h)
-  archives texts es ok err (Err fault) h g = err fault (unbuilt_of IsOf GivesKey GivesValue (archival_of i) (archival_of j) cmp order entries meant means same no_key no_value (Err fault) g)
+    abbrev IsGivenFault : BuildFault → Type 0
+    IsGivenFault = UnbuiltGiven IsOf GivesKey GivesValue order entries Key Value cmp
 
-  pub archives_columns : (keys values : BtreeColumn) (len : ℕ) → ((archive : Vec ℕ Global) → Builds archive.items → ArchivesColumns t order keys values len (Ok archive)) → ((fault : BuildFault) → Ends fault → ArchivesColumns t order keys values len (Err fault))
-      → (r : Result (Vec ℕ Global) BuildFault) → IfOk r IsGivenArchive → IfErr r IsGivenFault → ArchivesColumns t order keys values len r
-  archives_columns keys values len ok err (Ok x) h g = ok x (built_of IsOf GivesKey GivesValue (archival_of i) (archival_of j) cmp order entries meant means same no_key no_value (Ok x) h)
-  archives_columns keys values len ok err (Err fault) h g = err fault (unbuilt_of IsOf GivesKey GivesValue (archival_of i) (archival_of j) cmp order entries meant means same no_key no_value (Err fault) g)
+  -- what is built of entries
+  pub archives : (texts : List ℕ) (es : List BtreeEntry) (r : Result (Vec ℕ Global) BuildFault)
+      → IfOk r (IsGivenArchive (IsEntryOf t texts) (λ e. IsNative t.key texts e.key) (λ e. IsNative t.value texts e.value) es)
+      → IfErr r (IsGivenFault (IsEntryOf t texts) (λ e. IsNative t.key texts e.key) (λ e. IsNative t.value texts e.value) es)
+      → Archives t order texts es r
+  archives texts es (Ok x) h g =
+      built_of (IsEntryOf t texts) (λ e. IsNative t.key texts e.key) (λ e. IsNative t.value texts e.value) Key Value cmp order es (given t texts) (λ e x h. both h.0 h.1) same (never t.key) (never t.value) (Ok x) h
+  archives texts es (Err fault) h g =
+      unbuilt_of (IsEntryOf t texts) (λ e. IsNative t.key texts e.key) (λ e. IsNative t.value texts e.value) Key Value cmp order es (given t texts) (λ e x h. both h.0 h.1) same (never t.key) (never t.value) (Err fault) g
+
+  -- and of the rows of columns
+  pub archives_columns : (keys values : BtreeColumn) (len : ℕ) (r : Result (Vec ℕ Global) BuildFault)
+      → IfOk r (IsGivenArchive (IsRowOf t keys values) (IsNativeCell t.key keys) (IsNativeCell t.value values) (range_with_len 0 len))
+      → IfErr r (IsGivenFault (IsRowOf t keys values) (IsNativeCell t.key keys) (IsNativeCell t.value values) (range_with_len 0 len))
+      → ArchivesColumns t order keys values len r
+  archives_columns keys values len (Ok x) h g =
+      built_of (IsRowOf t keys values) (IsNativeCell t.key keys) (IsNativeCell t.value values) Key Value cmp order (range_with_len 0 len) (row t keys values) (λ e x h. both h.0 h.1) same (never t.key) (never t.value) (Ok x) h
+  archives_columns keys values len (Err fault) h g =
+      unbuilt_of (IsRowOf t keys values) (IsNativeCell t.key keys) (IsNativeCell t.value values) Key Value cmp order (range_with_len 0 len) (row t keys values) (λ e x h. both h.0 h.1) same (never t.key) (never t.value) (Err fault) g

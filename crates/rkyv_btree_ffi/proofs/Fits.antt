@@ -1,19 +1,26 @@
--- Nodes of maps of each type fit.
+-- Nodes of maps of each two types fit.
 use Rattle.std.proofs.Common.{IsTrue, refl}
 use Rattle.rkyv_btree_format.specs.Layout.{are_fitting, inner_size, len_at, node_size, values_at, keys_at, align, node_align}
 use Rattle.rkyv_btree_portable.specs.Rounding.{round_up}
-use Rattle.rkyv_btree_ffi.specs.MapTypes.{key_kind, value_kind}
-use Rattle.rkyv_btree_ffi.specs.declared.map_type.MapType.{MapType}
-use Rattle.rkyv_btree_ffi.specs.declared.map_type.MapType.TheVariants.{U32ToU32, U32ToU64, U32ToText, U64ToU32, U64ToU64, U64ToText, TextToU32, TextToU64, TextToText}
+use Rattle.rkyv_btree_ffi.specs.Items.{kind_at}
+use Rattle.rkyv_btree_ffi.specs.declared.map_type.ItemType.{ItemType}
+use Rattle.rkyv_btree_ffi.specs.declared.map_type.ItemType.TheVariants.{U32, U64, I64, Text}
 
-pub all_fit : (t : MapType) → IsTrue (are_fitting (key_kind t) (value_kind t) 5)
+pub all_fit : (key value : ItemType) → IsTrue (are_fitting (kind_at key) (kind_at value) 5)
 unfolding are_fitting inner_size len_at node_size values_at keys_at align node_align round_up
-all_fit U32ToU32 = refl
-all_fit U32ToU64 = refl
-all_fit U32ToText = refl
-all_fit U64ToU32 = refl
-all_fit U64ToU64 = refl
-all_fit U64ToText = refl
-all_fit TextToU32 = refl
-all_fit TextToU64 = refl
-all_fit TextToText = refl
+all_fit U32 U32 = refl
+all_fit U32 U64 = refl
+all_fit U32 I64 = refl
+all_fit U32 Text = refl
+all_fit U64 U32 = refl
+all_fit U64 U64 = refl
+all_fit U64 I64 = refl
+all_fit U64 Text = refl
+all_fit I64 U32 = refl
+all_fit I64 U64 = refl
+all_fit I64 I64 = refl
+all_fit I64 Text = refl
+all_fit Text U32 = refl
+all_fit Text U64 = refl
+all_fit Text I64 = refl
+all_fit Text Text = refl

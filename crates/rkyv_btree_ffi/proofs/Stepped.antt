@@ -1,6 +1,7 @@
 -- What a lookup in pieces gives C, by what the lookup in the source returns.
-use Rattle.std.proofs.Common.{◌≡◌, ◌∙◌, ◌+◌, ◌≤◌, ◌<◌, ◌++◌, ℕ, List, IfSome, Option, Some, None, Result, Ok, Err, ap, arith, drop, take, refl, subst, sym, length}
+use Rattle.std.proofs.Common.{◌≡◌, ◌∙◌, ◌+◌, ◌≤◌, ◌<◌, ◌++◌, ℕ, ℤ, List, IfSome, Option, Some, None, Result, Ok, Err, ap, arith, drop, take, refl, subst, sym, length}
 use Rattle.std.proofs.lemmas.List.{drop-append-le, take-append-le, length-append, length-drop}
+use Rattle.std.specs.Int.{w64, cast_unsigned}
 use Rattle.std.specs.declared.cmp.Ordering.{Ordering}
 use Rattle.rkyv_btree_format.specs.Read.{entry_at}
 use Rattle.rkyv_btree_portable.specs.Bytes.{bytes_at}
@@ -16,12 +17,13 @@ use Rattle.rkyv_btree_source.specs.declared.piece.Missing.{Missing}
 use Rattle.rkyv_btree_unverified.specs.Lookups.{LookupGives}
 use Rattle.rkyv_btree_unverified.specs.Steps.{misplaced}
 use Rattle.rkyv_btree_ffi.specs.Codes.{refusal_for}
-use Rattle.rkyv_btree_ffi.specs.Entries.{IsValue}
-use Rattle.rkyv_btree_ffi.specs.Items.{IsTextItem}
+use Rattle.rkyv_btree_ffi.specs.Items.{kind_at, IsItem, IsItemAt, IsNumberItem, IsTextItem}
 use Rattle.rkyv_btree_ffi.specs.MapTypes.{key_kind, value_kind}
 use Rattle.rkyv_btree_ffi.specs.Pieces.{Steps, StepsOf, IsLack, IsMissingPart, PutsValue}
 use Rattle.rkyv_btree_ffi.specs.declared.codes.BtreeRefusal.{BtreeRefusal}
 use Rattle.rkyv_btree_ffi.specs.declared.item.BtreeItem.{BtreeItem}
+use Rattle.rkyv_btree_ffi.specs.declared.map_type.ItemType.{ItemType}
+use Rattle.rkyv_btree_ffi.specs.declared.map_type.ItemType.TheVariants.{U32, U64, I64, Text}
 use Rattle.rkyv_btree_ffi.specs.declared.map_type.MapType.{MapType}
 
 -- bytes of the first part of a buffer
@@ -29,27 +31,35 @@ front : (first rest : List ℕ) (start len : ℕ) → start + len ≤ length fir
 front first rest start len inside =
     ap (take len) (drop-append-le start first rest (omega (arith, inside))) ∙ take-append-le len (drop start first) rest (omega (arith, inside, length-drop start first))
 
-pub text_in_front : (first rest value : List ℕ) (item : BtreeItem) → IsTextItem first value item → IsTextItem (first ++ rest) value item
+text_in_front : (first rest value : List ℕ) (item : BtreeItem) → IsTextItem first value item → IsTextItem (first ++ rest) value item
 text_in_front first rest value item h = record {
   number = h.number;
   inside = omega (arith, h.inside, length-append first rest);
   text = front first rest item.start item.len h.inside ∙ h.text;
 }
 
--- at a map's type, by what an item of a value is there
-pub steps_of : (t : MapType) (Shows : List ℕ → ℕ → BtreeItem → Type 0) (b buffer : List ℕ) (comparison : (key_kind t).Value → Ordering)
-    → ((first rest : List ℕ) (at : ℕ) (item : BtreeItem) (v : (value_kind t).Value) → Shows first at item → (value_kind t).read first at ≡ v → IsValue (first ++ rest) t v item)
-    → (r : Result (Option BtreeItem) (SourceFault Missing)) → Steps (key_kind t) (value_kind t) Shows (RefusesWhole (key_kind t)) (RefusesWhole (value_kind t)) b comparison buffer r → StepsOf t b comparison buffer r
-steps_of t Shows b buffer comparison value (Ok None) h = h
-steps_of t Shows b buffer comparison value (Ok (Some item)) h = record {
-  place = h.place;
-  returned = h.returned;
-  value = subst (λ (c : List ℕ). IsValue c t (entry_at (key_kind t) (value_kind t) 5 b h.place).1 item) (sym h.parts) (value h.first h.rest h.at item (entry_at (key_kind t) (value_kind t) 5 b h.place).1 h.shown h.same);
-}
-steps_of t Shows b buffer comparison value (Err (Refused error)) h = h
-steps_of t Shows b buffer comparison value (Err (Read part)) h = tt
-steps_of t Shows b buffer comparison value (Err (NoRoom needed)) h = tt
-steps_of t Shows b buffer comparison value (Err OverBudget) h = tt
+-- an item of the first part of a buffer
+in_front : (i : ItemType) (first rest : List ℕ) (at : ℕ) (item : BtreeItem) (value : (kind_at i).Value) → IsItemAt i first at item → (kind_at i).read first at ≡ value → IsItem i (first ++ rest) value item
+in_front U32 first rest at item value h same = subst (λ (v : ℕ). IsNumberItem v item) same h
+in_front U64 first rest at item value h same = subst (λ (v : ℕ). IsNumberItem v item) same h
+in_front I64 first rest at item value h same = subst (λ (v : ℤ). IsNumberItem (cast_unsigned w64 v) item) same h
+in_front Text first rest at item value h same = text_in_front first rest value item (subst (λ (v : List ℕ). IsTextItem first v item) same h)
+
+-- at a map's type
+pub steps_of : (t : MapType) (b buffer : List ℕ) (comparison : (key_kind t).Value → Ordering) (r : Result (Option BtreeItem) (SourceFault Missing))
+    → Steps (key_kind t) (value_kind t) (IsItemAt t.value) (RefusesWhole (key_kind t)) (RefusesWhole (value_kind t)) b comparison buffer r → StepsOf t b comparison buffer r
+steps_of t b buffer comparison (Ok None) h = h
+steps_of t b buffer comparison (Ok (Some item)) h =
+    let value = (entry_at (key_kind t) (value_kind t) 5 b h.place).1 in
+    record {
+      place = h.place;
+      returned = h.returned;
+      value = subst (λ (c : List ℕ). IsItem t.value c value item) (sym h.parts) (in_front t.value h.first h.rest h.at item value h.shown h.same);
+    }
+steps_of t b buffer comparison (Err (Refused error)) h = h
+steps_of t b buffer comparison (Err (Read part)) h = tt
+steps_of t b buffer comparison (Err (NoRoom needed)) h = tt
+steps_of t b buffer comparison (Err OverBudget) h = tt
 
 -- the position of the map is that of the last eight bytes
 module _ (K V : Kind) (b : List ℕ) (comparison : K.Value → Ordering) (KR VR : List ℕ → ℕ → ℕ → ℕ → Refusal → Type 0) (here at : ℕ) (same : here ≡ at) where

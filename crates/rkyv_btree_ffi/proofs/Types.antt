@@ -6,36 +6,37 @@ use Rattle.std.specs.Option.{option_map}
 use Rattle.rkyv_btree_format.specs.Read.{entry_at}
 use Rattle.rkyv_btree_ffi.specs.Batches.{AreShown, IsEither as IsEitherPlace}
 use Rattle.rkyv_btree_ffi.specs.Editing.{narrow}
-use Rattle.rkyv_btree_ffi.specs.Entries.{comparison_with, by_number, by_text, IsKey, IsValue, AreEntries, IsEither, IsBatch}
-use Rattle.rkyv_btree_ffi.specs.MapTypes.{key_kind, value_kind}
+use Rattle.rkyv_btree_ffi.specs.Entries.{comparison_at, by_number_at, by_text_at, comparison_with, by_number, by_text, IsKey, IsValue, AreEntries, IsEither, IsBatch}
+use Rattle.rkyv_btree_ffi.specs.MapTypes.{typed, key_kind, value_kind}
 use Rattle.rkyv_btree_ffi.specs.declared.item.BtreeItem.{BtreeItem}
 use Rattle.rkyv_btree_ffi.specs.declared.item.BtreeEntry.{BtreeEntry}
 use Rattle.rkyv_btree_ffi.specs.declared.map_type.MapType.{MapType}
-use Rattle.rkyv_btree_ffi.specs.declared.map_type.MapType.TheVariants.{U32ToU32, U32ToU64, U32ToText, U64ToU32, U64ToU64, U64ToText, TextToU32, TextToU64, TextToText}
-use Rattle.rkyv_btree_ffi.specs.declared.query.Query.TheVariants.{Number, Text}
+use Rattle.rkyv_btree_ffi.specs.declared.map_type.ItemType.{ItemType}
+use Rattle.rkyv_btree_ffi.specs.declared.map_type.ItemType.TheVariants.{U32, U64, I64, Text}
+use Rattle.rkyv_btree_ffi.specs.declared.query.Query.TheVariants.{Number, Text as TextQuery}
+
+-- a type of maps, by the type of its keys
+pub with_key : (t : MapType) (i : ItemType) → t.key ≡ i → t ≡ typed i t.value
+with_key t i is = ap (λ (k : ItemType). typed k t.value) is
 
 -- what comparing a number gives, and a text
-pub number_is : (t : MapType) (n : ℕ) → comparison_with t (Number n) ≡ by_number t n
-number_is U32ToU32 n = refl
-number_is U32ToU64 n = refl
-number_is U32ToText n = refl
-number_is U64ToU32 n = refl
-number_is U64ToU64 n = refl
-number_is U64ToText n = refl
-number_is TextToU32 n = refl
-number_is TextToU64 n = refl
-number_is TextToText n = refl
+number_at : (i : ItemType) (n : ℕ) → comparison_at i (Number n) ≡ by_number_at i n
+number_at U32 n = refl
+number_at U64 n = refl
+number_at I64 n = refl
+number_at Text n = refl
 
-pub text_is : (t : MapType) (text : Bor (List ℕ)) → comparison_with t (Text text) ≡ by_text t text.now
-text_is U32ToU32 text = refl
-text_is U32ToU64 text = refl
-text_is U32ToText text = refl
-text_is U64ToU32 text = refl
-text_is U64ToU64 text = refl
-text_is U64ToText text = refl
-text_is TextToU32 text = refl
-text_is TextToU64 text = refl
-text_is TextToText text = refl
+pub number_is : (t : MapType) (n : ℕ) → comparison_with t (Number n) ≡ by_number t n
+number_is t n = number_at t.key n
+
+text_at : (i : ItemType) (text : Bor (List ℕ)) → comparison_at i (TextQuery text) ≡ by_text_at i text.now
+text_at U32 text = refl
+text_at U64 text = refl
+text_at I64 text = refl
+text_at Text text = refl
+
+pub text_is : (t : MapType) (text : Bor (List ℕ)) → comparison_with t (TextQuery text) ≡ by_text t text.now
+text_is t text = text_at t.key text
 
 -- a number of 32 bits has its four own bytes
 pub narrow_is : (value : ℕ) → value < 4294967296 → narrow value ≡ Some (to_le_bytes w32 value)

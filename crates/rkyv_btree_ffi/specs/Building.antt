@@ -16,7 +16,7 @@ use Rattle.rkyv_btree_format.specs.OwnBytes.{IsArchiveOf}
 use Rattle.rkyv_btree_writer.specs.Writing.{Writing}
 use Rattle.rkyv_btree_ffi.specs.Columns.{IsCell, cell_value}
 use Rattle.rkyv_btree_ffi.specs.Items.{IsOfType, item_value, Native, native_value, archival_of}
-use Rattle.rkyv_btree_ffi.specs.MapTypes.{key_type, value_type, key_kind, value_kind, kind_of}
+use Rattle.rkyv_btree_ffi.specs.MapTypes.{key_kind, value_kind, kind_of}
 use Rattle.rkyv_btree_ffi.specs.declared.building.BuildFault.{BuildFault}
 use Rattle.rkyv_btree_ffi.specs.declared.building.BuildFault.TheVariants.{BadItem, Unbuilt}
 use Rattle.rkyv_btree_ffi.specs.declared.codes.BtreeRefusal.{BtreeRefusal}
@@ -66,27 +66,27 @@ module _ {E A B : Type 0} (IsOf : E → Type 0) (meaning : E → A × B) (key_or
 module _ (t : MapType) (texts : List ℕ) where
   -- an entry that C hands in is of the map's type
   abbrev pub IsEntryOf : BtreeEntry → Type 0
-  IsEntryOf e = IsOfType (key_type t) texts e.key × IsOfType (value_type t) texts e.value
+  IsEntryOf e = IsOfType t.key texts e.key × IsOfType t.value texts e.value
 
   -- the key and the value that it is
   abbrev pub given : BtreeEntry → (key_kind t).Value × (value_kind t).Value
-  given e = (item_value (key_type t) texts e.key, item_value (value_type t) texts e.value)
+  given e = (item_value t.key texts e.key, item_value t.value texts e.value)
 
 module _ (t : MapType) (keys values : BtreeColumn) where
   -- two columns have an entry of the map's type at an index
   abbrev pub IsRowOf : ℕ → Type 0
-  IsRowOf i = IsCell (key_type t) keys i × IsCell (value_type t) values i
+  IsRowOf i = IsCell t.key keys i × IsCell t.value values i
 
   -- the key and the value there
   abbrev pub row : ℕ → (key_kind t).Value × (value_kind t).Value
-  row i = (cell_value (key_type t) keys i, cell_value (value_type t) values i)
+  row i = (cell_value t.key keys i, cell_value t.value values i)
 
 -- the library stops with a fault when it archives native entries that mean these
 abbrev pub Stops : (t : MapType) → List ((key_kind t).Value × (value_kind t).Value) → Fault AllocError → Type 0
 Stops t entries fault =
-    (natives : List (Native (key_type t) × Native (value_type t)))
-    × (map (λ x. (native_value (key_type t) x.0, native_value (value_type t) x.1)) natives ≡ entries)
-    × StopsWith (archival_of (key_type t)) (archival_of (value_type t)) natives fault
+    (natives : List (Native t.key × Native t.value))
+    × (map (λ x. (native_value t.key x.0, native_value t.value x.1)) natives ≡ entries)
+    × StopsWith (archival_of t.key) (archival_of t.value) natives fault
 
 -- the bytes are the archive of the entries that C hands in
 abbrev pub IsBuilt : MapType → Order → List ℕ → List BtreeEntry → List ℕ → Type 0

@@ -1,8 +1,11 @@
 -- Keys or values that C has one after the other, as columns.
 use Rattle.std.specs.Prelude.{◌≡◌, ℕ, ◌+◌, ◌-◌, ◌*◌, ◌≤◌, List, length, IsUtf8, ◌⊎◌}
+use Rattle.std.specs.Int.{w64, cast_signed}
 use Rattle.rkyv_btree_portable.specs.Bytes.{bytes_at, number_at}
-use Rattle.rkyv_btree_ffi.specs.Items.{ItemType, narrow, wide, text, kind_at, Native, native_value}
+use Rattle.rkyv_btree_ffi.specs.Items.{kind_at, Native, native_value}
 use Rattle.rkyv_btree_ffi.specs.declared.column.BtreeColumn.{BtreeColumn}
+use Rattle.rkyv_btree_ffi.specs.declared.map_type.ItemType.{ItemType}
+use Rattle.rkyv_btree_ffi.specs.declared.map_type.ItemType.TheVariants.{U32, U64, I64, Text}
 
 module _ (c : BtreeColumn) (i : ℕ) where
   -- where the text at an index begins, and where the text before it ends
@@ -26,15 +29,17 @@ pub record IsText (c : BtreeColumn) (i : ℕ) : Type 0 where
 
 -- the column has a key or a value of the type at an index
 abbrev pub IsCell : ItemType → BtreeColumn → ℕ → Type 0
-IsCell narrow c i = 4 * i + 4 ≤ length c.buf.now
-IsCell wide c i = 8 * i + 8 ≤ length c.buf.now
-IsCell text c i = IsText c i
+IsCell U32 c i = 4 * i + 4 ≤ length c.buf.now
+IsCell U64 c i = 8 * i + 8 ≤ length c.buf.now
+IsCell I64 c i = 8 * i + 8 ≤ length c.buf.now
+IsCell Text c i = IsText c i
 
 -- the key or the value that it is
 abbrev pub cell_value : (t : ItemType) → BtreeColumn → ℕ → (kind_at t).Value
-cell_value narrow c i = number_at c.buf.now (4 * i) 4
-cell_value wide c i = number_at c.buf.now (8 * i) 8
-cell_value text c i = text_in c i
+cell_value U32 c i = number_at c.buf.now (4 * i) 4
+cell_value U64 c i = number_at c.buf.now (8 * i) 8
+cell_value I64 c i = cast_signed w64 (number_at c.buf.now (8 * i) 8)
+cell_value Text c i = text_in c i
 
 abbrev pub IsNativeCell : (t : ItemType) → BtreeColumn → ℕ → Native t → Type 0
 IsNativeCell t c i native = native_value t native ≡ cell_value t c i

@@ -1,82 +1,62 @@
 -- What C is given of the entries of a map: of a lookup, and of a batch.
 use Rattle.std.specs.Prelude.{◌≡◌, ℕ, ◌≤◌, ◌<◌, List, [], ◌∷◌, ◌++◌, length, take, Option, Some, None}
 use Rattle.std.specs.Cmp.Lexicographic.{slice_cmp}
-use Rattle.std.specs.Ordering.{nat_cmp}
+use Rattle.std.specs.Int.{w64, cast_signed}
+use Rattle.std.specs.Ordering.{nat_cmp, int_cmp}
 use Rattle.std.specs.declared.cmp.Ordering.{Ordering}
 use Rattle.std.specs.declared.cmp.Ordering.TheVariants.{Less}
 use Rattle.std.specs.declared.ops.Bound.TheVariants.{Included, Unbounded}
 use Rattle.rkyv_btree_walk.specs.Bounds.{IsRun, IsWithin}
 use Rattle.rkyv_btree_view.specs.Lookup.{found_at}
-use Rattle.rkyv_btree_ffi.specs.Items.{IsNumberItem, IsTextItem}
+use Rattle.rkyv_btree_ffi.specs.Items.{kind_at, IsItem}
 use Rattle.rkyv_btree_ffi.specs.MapTypes.{key_kind, value_kind, entries_at}
-use Rattle.rkyv_btree_ffi.specs.Queries.{number_comparison, text_comparison}
+use Rattle.rkyv_btree_ffi.specs.Queries.{number_comparison, signed_comparison, text_comparison}
 use Rattle.rkyv_btree_ffi.specs.declared.item.BtreeItem.{BtreeItem}
 use Rattle.rkyv_btree_ffi.specs.declared.item.BtreeEntry.{BtreeEntry}
 use Rattle.rkyv_btree_ffi.specs.declared.query.Query.{Query}
 use Rattle.rkyv_btree_ffi.specs.declared.map_type.MapType.{MapType}
-use Rattle.rkyv_btree_ffi.specs.declared.map_type.MapType.TheVariants.{U32ToU32, U32ToU64, U32ToText, U64ToU32, U64ToU64, U64ToText}
-use Rattle.rkyv_btree_ffi.specs.declared.map_type.MapType.TheVariants.{TextToU32, TextToU64, TextToText}
+use Rattle.rkyv_btree_ffi.specs.declared.map_type.ItemType.{ItemType}
+use Rattle.rkyv_btree_ffi.specs.declared.map_type.ItemType.TheVariants.{U32, U64, I64, Text}
 
--- what comparing a query with a key gives
-abbrev pub comparison_with : (t : MapType) → Query → (key_kind t).Value → Ordering
-comparison_with U32ToU32 = number_comparison
-comparison_with U32ToU64 = number_comparison
-comparison_with U32ToText = number_comparison
-comparison_with U64ToU32 = number_comparison
-comparison_with U64ToU64 = number_comparison
-comparison_with U64ToText = number_comparison
-comparison_with TextToU32 = text_comparison
-comparison_with TextToU64 = text_comparison
-comparison_with TextToText = text_comparison
+-- what comparing a query with a key of a type gives
+abbrev pub comparison_at : (i : ItemType) → Query → (kind_at i).Value → Ordering
+comparison_at U32 = number_comparison
+comparison_at U64 = number_comparison
+comparison_at I64 = signed_comparison
+comparison_at Text = text_comparison
 
--- what comparing a number with a key gives; it is before every text
-abbrev pub by_number : (t : MapType) → ℕ → (key_kind t).Value → Ordering
-by_number U32ToU32 n = nat_cmp n
-by_number U32ToU64 n = nat_cmp n
-by_number U32ToText n = nat_cmp n
-by_number U64ToU32 n = nat_cmp n
-by_number U64ToU64 n = nat_cmp n
-by_number U64ToText n = nat_cmp n
-by_number TextToU32 n = λ key. Less
-by_number TextToU64 n = λ key. Less
-by_number TextToText n = λ key. Less
+-- what comparing a number with a key gives; it is before every text. Among keys with a sign it is in two's complement
+abbrev pub by_number_at : (i : ItemType) → ℕ → (kind_at i).Value → Ordering
+by_number_at U32 n = nat_cmp n
+by_number_at U64 n = nat_cmp n
+by_number_at I64 n = int_cmp (cast_signed w64 n)
+by_number_at Text n = λ key. Less
 
 -- what comparing a text with a key gives; it is before every number
+abbrev pub by_text_at : (i : ItemType) → List ℕ → (kind_at i).Value → Ordering
+by_text_at U32 text = λ key. Less
+by_text_at U64 text = λ key. Less
+by_text_at I64 text = λ key. Less
+by_text_at Text text = slice_cmp nat_cmp text
+
+-- the same of the keys of a map
+abbrev pub comparison_with : (t : MapType) → Query → (key_kind t).Value → Ordering
+comparison_with t = comparison_at t.key
+
+abbrev pub by_number : (t : MapType) → ℕ → (key_kind t).Value → Ordering
+by_number t = by_number_at t.key
+
 abbrev pub by_text : (t : MapType) → List ℕ → (key_kind t).Value → Ordering
-by_text U32ToU32 text = λ key. Less
-by_text U32ToU64 text = λ key. Less
-by_text U32ToText text = λ key. Less
-by_text U64ToU32 text = λ key. Less
-by_text U64ToU64 text = λ key. Less
-by_text U64ToText text = λ key. Less
-by_text TextToU32 text = slice_cmp nat_cmp text
-by_text TextToU64 text = slice_cmp nat_cmp text
-by_text TextToText text = slice_cmp nat_cmp text
+by_text t = by_text_at t.key
 
 module _ (b : List ℕ) where
   -- an item is this key
   abbrev pub IsKey : (t : MapType) → (key_kind t).Value → BtreeItem → Type 0
-  IsKey U32ToU32 key item = IsNumberItem key item
-  IsKey U32ToU64 key item = IsNumberItem key item
-  IsKey U32ToText key item = IsNumberItem key item
-  IsKey U64ToU32 key item = IsNumberItem key item
-  IsKey U64ToU64 key item = IsNumberItem key item
-  IsKey U64ToText key item = IsNumberItem key item
-  IsKey TextToU32 key item = IsTextItem b key item
-  IsKey TextToU64 key item = IsTextItem b key item
-  IsKey TextToText key item = IsTextItem b key item
+  IsKey t key item = IsItem t.key b key item
 
   -- an item is this value
   abbrev pub IsValue : (t : MapType) → (value_kind t).Value → BtreeItem → Type 0
-  IsValue U32ToU32 value item = IsNumberItem value item
-  IsValue U32ToU64 value item = IsNumberItem value item
-  IsValue U32ToText value item = IsTextItem b value item
-  IsValue U64ToU32 value item = IsNumberItem value item
-  IsValue U64ToU64 value item = IsNumberItem value item
-  IsValue U64ToText value item = IsTextItem b value item
-  IsValue TextToU32 value item = IsNumberItem value item
-  IsValue TextToU64 value item = IsNumberItem value item
-  IsValue TextToText value item = IsTextItem b value item
+  IsValue t value item = IsItem t.value b value item
 
 module _ (t : MapType) (b : List ℕ) where
   -- C has this entry

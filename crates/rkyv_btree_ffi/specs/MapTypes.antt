@@ -3,52 +3,40 @@ use Rattle.std.specs.Prelude.{◌≡◌, ℕ, List, Option, Some, None, nat_eq, 
 use Rattle.rkyv_btree_portable.specs.Kind.{Kind}
 use Rattle.rkyv_btree_verify.specs.Map.{map_kind}
 use Rattle.rkyv_btree_format.specs.Read.{read_map}
-use Rattle.rkyv_btree_ffi.specs.Items.{ItemType, narrow, wide, text, kind_at}
+use Rattle.rkyv_btree_ffi.specs.Items.{kind_at}
+use Rattle.rkyv_btree_ffi.specs.declared.map_type.ItemType.{ItemType}
+use Rattle.rkyv_btree_ffi.specs.declared.map_type.ItemType.TheVariants.{U32, U64, I64, Text}
 use Rattle.rkyv_btree_ffi.specs.declared.map_type.MapType.{MapType}
-use Rattle.rkyv_btree_ffi.specs.declared.map_type.MapType.TheVariants.{U32ToU32, U32ToU64, U32ToText, U64ToU32, U64ToU64, U64ToText}
-use Rattle.rkyv_btree_ffi.specs.declared.map_type.MapType.TheVariants.{TextToU32, TextToU64, TextToText}
+
+-- the type of maps with keys and values of two types
+abbrev pub typed : ItemType → ItemType → MapType
+typed key value = record { key = key; value = value }
 
 -- the type with a number
 abbrev pub type_of : ℕ → Option MapType
 type_of n =
-    if nat_eq n 1 then Some U32ToU32 else
-    if nat_eq n 2 then Some U32ToU64 else
-    if nat_eq n 3 then Some U32ToText else
-    if nat_eq n 4 then Some U64ToU32 else
-    if nat_eq n 5 then Some U64ToU64 else
-    if nat_eq n 6 then Some U64ToText else
-    if nat_eq n 7 then Some TextToU32 else
-    if nat_eq n 8 then Some TextToU64 else
-    if nat_eq n 9 then Some TextToText else None
-
--- the types of its keys and of its values
-abbrev pub key_type : MapType → ItemType
-key_type U32ToU32 = narrow
-key_type U32ToU64 = narrow
-key_type U32ToText = narrow
-key_type U64ToU32 = wide
-key_type U64ToU64 = wide
-key_type U64ToText = wide
-key_type TextToU32 = text
-key_type TextToU64 = text
-key_type TextToText = text
-
-abbrev pub value_type : MapType → ItemType
-value_type U32ToU32 = narrow
-value_type U32ToU64 = wide
-value_type U32ToText = text
-value_type U64ToU32 = narrow
-value_type U64ToU64 = wide
-value_type U64ToText = text
-value_type TextToU32 = narrow
-value_type TextToU64 = wide
-value_type TextToText = text
+    if nat_eq n 1 then Some (typed U32 U32) else
+    if nat_eq n 2 then Some (typed U32 U64) else
+    if nat_eq n 3 then Some (typed U32 Text) else
+    if nat_eq n 4 then Some (typed U64 U32) else
+    if nat_eq n 5 then Some (typed U64 U64) else
+    if nat_eq n 6 then Some (typed U64 Text) else
+    if nat_eq n 7 then Some (typed Text U32) else
+    if nat_eq n 8 then Some (typed Text U64) else
+    if nat_eq n 9 then Some (typed Text Text) else
+    if nat_eq n 10 then Some (typed U32 I64) else
+    if nat_eq n 11 then Some (typed U64 I64) else
+    if nat_eq n 12 then Some (typed I64 U32) else
+    if nat_eq n 13 then Some (typed I64 U64) else
+    if nat_eq n 14 then Some (typed I64 I64) else
+    if nat_eq n 15 then Some (typed I64 Text) else
+    if nat_eq n 16 then Some (typed Text I64) else None
 
 abbrev pub key_kind : MapType → Kind
-key_kind t = kind_at (key_type t)
+key_kind t = kind_at t.key
 
 abbrev pub value_kind : MapType → Kind
-value_kind t = kind_at (value_type t)
+value_kind t = kind_at t.value
 
 -- maps of a type, with five entries a node
 abbrev pub kind_of : MapType → Kind

@@ -19,7 +19,8 @@ use Rattle.rkyv_btree_ffi.specs.MapTypes.{key_kind, value_kind}
 use Rattle.rkyv_btree_ffi.specs.declared.codes.BtreeRefusal.{BtreeRefusal}
 use Rattle.rkyv_btree_ffi.specs.declared.item.BtreeItem.{BtreeItem}
 use Rattle.rkyv_btree_ffi.specs.declared.map_type.MapType.{MapType}
-use Rattle.rkyv_btree_ffi.specs.declared.map_type.MapType.TheVariants.{U32ToU32, U32ToU64, U32ToText, U64ToU32, U64ToU64, U64ToText, TextToU32, TextToU64, TextToText}
+use Rattle.rkyv_btree_ffi.specs.declared.map_type.ItemType.{ItemType}
+use Rattle.rkyv_btree_ffi.specs.declared.map_type.ItemType.TheVariants.{U32, U64, I64, Text}
 
 module _ (K V : Kind) (ShowsValue : List ℕ → ℕ → BtreeItem → Type 0) (KRefuses VRefuses : List ℕ → ℕ → ℕ → ℕ → Refusal → Type 0)
     (b : List ℕ) (comparison : K.Value → Ordering) where
@@ -85,27 +86,17 @@ pub record IsMissingPart (known : Known) (why : BtreeRefusal) : Type 0 where
   pub len : why.found ≡ part.len
 
 -- a number, or a text, is a key of the type
-abbrev pub IsNumberKey : MapType → ℕ → Type 0
-IsNumberKey U32ToU32 n = n < 4294967296
-IsNumberKey U32ToU64 n = n < 4294967296
-IsNumberKey U32ToText n = n < 4294967296
-IsNumberKey U64ToU32 n = Unit {0}
-IsNumberKey U64ToU64 n = Unit {0}
-IsNumberKey U64ToText n = Unit {0}
-IsNumberKey TextToU32 n = ⊥
-IsNumberKey TextToU64 n = ⊥
-IsNumberKey TextToText n = ⊥
+abbrev pub IsNumberKey : ItemType → ℕ → Type 0
+IsNumberKey U32 n = n < 4294967296
+IsNumberKey U64 n = Unit {0}
+IsNumberKey I64 n = Unit {0}
+IsNumberKey Text n = ⊥
 
-abbrev pub IsTextKey : MapType → List ℕ → Type 0
-IsTextKey U32ToU32 text = ⊥
-IsTextKey U32ToU64 text = ⊥
-IsTextKey U32ToText text = ⊥
-IsTextKey U64ToU32 text = ⊥
-IsTextKey U64ToU64 text = ⊥
-IsTextKey U64ToText text = ⊥
-IsTextKey TextToU32 text = IsUtf8 text
-IsTextKey TextToU64 text = IsUtf8 text
-IsTextKey TextToText text = IsUtf8 text
+abbrev pub IsTextKey : ItemType → List ℕ → Type 0
+IsTextKey U32 text = ⊥
+IsTextKey U64 text = ⊥
+IsTextKey I64 text = ⊥
+IsTextKey Text text = IsUtf8 text
 
 -- a value is written, or the code that there is none, or why it isn't known, or that the key is none of the type
 abbrev pub PutsValue : Option (Result (Option BtreeItem) (SourceFault Missing)) → BtreeItem → BtreeItem → BtreeRefusal → BtreeRefusal → ℕ → Type 0

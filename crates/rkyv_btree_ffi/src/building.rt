@@ -11,6 +11,8 @@ ghost use Rattle.rkyv_btree_writer.specs.Archiving.{Serialises};
 ghost use Rattle.rkyv_btree_writing_laws.specs.Whole.{fresh};
 ghost use Rattle.rkyv_btree_ffi.specs.Building.{Archives, ArchivesColumns, Puts};
 ghost use Rattle.rkyv_btree_ffi.specs.Building.{cause_of as cause_for, code_of as code_for, index_of as index_for};
+ghost use Rattle.rkyv_btree_ffi.specs.Columns.{IsCell, IsNativeCell};
+ghost use Rattle.rkyv_btree_ffi.specs.Items.{archival_of, kind_at, IsNative, IsOfType};
 ghost use Rattle.rkyv_btree_ffi.specs.MapTypes.{type_of, IfType};
 ghost use Rattle.rkyv_btree_ffi.specs.declared.order.Order.{Order};
 ghost use Rattle.rkyv_btree_ffi.specs.declared.order.Order.TheVariants.{Any, Increasing};
@@ -24,11 +26,12 @@ use crate::codes::{
 use crate::column::BtreeColumn;
 use crate::given::{Given, native, native_row};
 use crate::item::BtreeEntry;
-use crate::map_type::MapType;
+use crate::map_type::{ItemType, MapType};
 use crate::order::Order;
 use rkyv_btree_archive::build::{BTreeMapResolver, written_maps_are_held};
 use rkyv_btree_archive::build_map::BuildMap;
 use rkyv_btree_portable::numbers::{ArchivedU32, ArchivedU64};
+use rkyv_btree_portable::signed::ArchivedI64;
 use rkyv_btree_portable::text::ArchivedText;
 use rkyv_btree_types::map::ArchivedBTreeMap;
 use rkyv_btree_writer::fault::Fault;
@@ -240,6 +243,28 @@ fn archive<'t, K: Given<'t>, V: Given<'t>>(
     }
 }
 
+/// Returns the archive of entries with values of a type, whose keys must be in an order.
+fn archive_with<'t, K: Given<'t>>(
+    value_type: ItemType,
+    alloc: Global,
+    order: Order,
+    entries: &[BtreeEntry],
+    texts: &'t [u8],
+) -> Result<Vec<u8>, BuildFault>
+    requires { IsTrue (are_fitting K.kind (kind_at value_type) 5) }
+    ensures built { IfOk result (λ bytes.
+        BuiltGiven (IsOfBoth K.IsItem (IsOfType value_type) texts.now)
+        (λ e. K.Gives texts.now e.key) (λ e. IsNative value_type texts.now e.value) order
+        entries.now K.kind (kind_at value_type) K.Native.archival (archival_of value_type)
+        K.Native.cmp bytes.items) }
+    ensures unbuilt { IfErr result
+        (UnbuiltGiven (IsOfBoth K.IsItem (IsOfType value_type) texts.now)
+        (λ e. K.Gives texts.now e.key) (λ e. IsNative value_type texts.now e.value) order
+        entries.now K.Native.archival (archival_of value_type) K.Native.cmp) }
+{
+    at_type!(value_type, archive::<K>(alloc, order, entries, texts))
+}
+
 /// Returns the archive of the entries of a map of a type.
 fn archive_at(
     map_type: MapType,
@@ -250,7 +275,10 @@ fn archive_at(
 ) -> Result<Vec<u8>, BuildFault>
     ensures { Archives map_type order texts.now entries.now result }
 {
-    at_type!(map_type, archive(alloc, order, entries, texts))
+    at_type!(
+        map_type.key,
+        archive_with(map_type.value, alloc, order, entries, texts)
+    )
 }
 
 /// Returns the archive of the first entries of two columns, whose keys must be in an order.
@@ -278,6 +306,32 @@ fn archive_columns<'t, K: Given<'t>, V: Given<'t>>(
     }
 }
 
+/// Returns the archive of the first entries of two columns, the second of which has values of a type.
+fn archive_columns_with<'t, K: Given<'t>>(
+    value_type: ItemType,
+    alloc: Global,
+    order: Order,
+    keys: &BtreeColumn<'t>,
+    values: &BtreeColumn<'t>,
+    len: usize,
+) -> Result<Vec<u8>, BuildFault>
+    requires { IsTrue (are_fitting K.kind (kind_at value_type) 5) }
+    ensures built { IfOk result (λ bytes.
+        BuiltGiven (IsRow K.IsCell (IsCell value_type) keys.now values.now)
+        (K.CellGives keys.now) (IsNativeCell value_type values.now) order (range_with_len 0 len)
+        K.kind (kind_at value_type) K.Native.archival (archival_of value_type) K.Native.cmp
+        bytes.items) }
+    ensures unbuilt { IfErr result
+        (UnbuiltGiven (IsRow K.IsCell (IsCell value_type) keys.now values.now)
+        (K.CellGives keys.now) (IsNativeCell value_type values.now) order (range_with_len 0 len)
+        K.Native.archival (archival_of value_type) K.Native.cmp) }
+{
+    at_type!(
+        value_type,
+        archive_columns::<K>(alloc, order, keys, values, len)
+    )
+}
+
 /// Returns the archive of the first entries of the columns of a map of a type.
 fn archive_columns_at(
     map_type: MapType,
@@ -289,7 +343,10 @@ fn archive_columns_at(
 ) -> Result<Vec<u8>, BuildFault>
     ensures { ArchivesColumns map_type order keys.now values.now len result }
 {
-    at_type!(map_type, archive_columns(alloc, order, keys, values, len))
+    at_type!(
+        map_type.key,
+        archive_columns_with(map_type.value, alloc, order, keys, values, len)
+    )
 }
 
 /// Writes an archive, if there is room for it, and its length; or why there is none. Returns the code.

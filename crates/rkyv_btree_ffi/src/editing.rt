@@ -1,25 +1,28 @@
 //! Maps whose values C overwrites.
 ghost use Rattle.std.specs.Prelude.{◌≡◌, IsTrue, None, Some, if◌then◌else◌};
 ghost use Rattle.std.specs.Int.{w64, to_le_bytes};
-ghost use Rattle.rkyv_btree_portable.specs.Scalars.{u32_kind, u64_kind};
+ghost use Rattle.rkyv_btree_portable.specs.Scalars.{u32_kind, u64_kind, i64_kind};
 ghost use Rattle.rkyv_btree_verify.specs.Map.{map_kind};
 ghost use Rattle.rkyv_btree_portable.specs.Views.{stands};
 ghost use Rattle.rkyv_btree_view.specs.Lookup.{ByNative};
 ghost use Rattle.rkyv_btree_seal.specs.Places.{SetsFound};
-ghost use Rattle.rkyv_btree_ffi.specs.Editing.{narrow, SetsOwn, SetsValue};
+ghost use Rattle.rkyv_btree_ffi.specs.Editing.{narrow, own_of, SetsOwn, SetsValue};
 ghost use Rattle.rkyv_btree_ffi.specs.Entries.{comparison_with, by_number, by_text};
+ghost use Rattle.rkyv_btree_ffi.specs.Items.{kind_at};
 ghost use Rattle.rkyv_btree_ffi.specs.MapTypes.{type_of, kind_of, IfType};
 ghost use Rattle.rkyv_btree_ffi.specs.Opening.{Opens, IsOpenedEdit};
 
+use crate::at_type;
 use crate::codes::{BAD_TYPE, BAD_VALUE, BtreeRefusal, NOT_FOUND, NOT_OPEN, OK, refusal_of};
 use crate::handle::{BtreeEdit, BtreeMap};
 use crate::item::Shown;
-use crate::map_type::MapType;
+use crate::map_type::{ItemType, MapType};
 use crate::opening::opened_at;
 use crate::query::Query;
 use rkyv_btree_portable::in_place::InPlace;
 use rkyv_btree_portable::numbers::{ArchivedU32, ArchivedU64};
 use rkyv_btree_portable::refusal::Refusal;
+use rkyv_btree_portable::signed::ArchivedI64;
 use rkyv_btree_portable::text::ArchivedText;
 use rkyv_btree_seal::map_seal::MapSeal;
 use rkyv_btree_types::map::ArchivedBTreeMap;
@@ -134,6 +137,39 @@ fn set_wide<K: Shown>(buf: &mut [u8], pos: u32, query: &Query<'_>, value: u64) -
     written(set::<K, ArchivedU64>(buf, pos, query, value))
 }
 
+/// Overwrites a value of 64 bits with a sign, which is given in two's complement.
+fn set_signed<K: Shown>(buf: &mut [u8], pos: u32, query: &Query<'_>, value: u64) -> u32
+    requires { IsTrue (stands (map_kind K.kind i64_kind 5) buf.old pos) }
+    ensures sets { ByNative K.kind K.query_compared_at query.now (λ comparison.
+        SetsOwn K.kind i64_kind buf.old pos comparison (Some (to_le_bytes w64 value))
+        buf.new result) }
+    ensures stands { IsTrue (stands (map_kind K.kind i64_kind 5) buf.new pos) }
+{
+    written(set::<K, ArchivedI64>(buf, pos, query, value.cast_signed()))
+}
+
+/// Overwrites a value of the map at `pos`, with values of a type.
+fn set_with<K: Shown>(
+    value_type: ItemType,
+    buf: &mut [u8],
+    pos: u32,
+    query: &Query<'_>,
+    value: u64,
+) -> u32
+    requires { IsTrue (stands (map_kind K.kind (kind_at value_type) 5) buf.old pos) }
+    ensures sets { ByNative K.kind K.query_compared_at query.now (λ comparison.
+        SetsOwn K.kind (kind_at value_type) buf.old pos comparison (own_of value_type value)
+        buf.new result) }
+    ensures stands { IsTrue (stands (map_kind K.kind (kind_at value_type) 5) buf.new pos) }
+{
+    match value_type {
+        ItemType::U32 => set_narrow::<K>(buf, pos, query, value),
+        ItemType::U64 => set_wide::<K>(buf, pos, query, value),
+        ItemType::I64 => set_signed::<K>(buf, pos, query, value),
+        ItemType::Text => BAD_VALUE,
+    }
+}
+
 /// Overwrites a value of the map of a type.
 fn set_at(map_type: MapType, buf: &mut [u8], pos: u32, query: &Query<'_>, value: u64) -> u32
     requires { IsTrue (stands (kind_of map_type) buf.old pos) }
@@ -141,15 +177,10 @@ fn set_at(map_type: MapType, buf: &mut [u8], pos: u32, query: &Query<'_>, value:
         buf.new result }
     ensures stands { IsTrue (stands (kind_of map_type) buf.new pos) }
 {
-    match map_type {
-        MapType::U32ToU32 => set_narrow::<ArchivedU32>(buf, pos, query, value),
-        MapType::U32ToU64 => set_wide::<ArchivedU32>(buf, pos, query, value),
-        MapType::U64ToU32 => set_narrow::<ArchivedU64>(buf, pos, query, value),
-        MapType::U64ToU64 => set_wide::<ArchivedU64>(buf, pos, query, value),
-        MapType::TextToU32 => set_narrow::<ArchivedText>(buf, pos, query, value),
-        MapType::TextToU64 => set_wide::<ArchivedText>(buf, pos, query, value),
-        MapType::U32ToText | MapType::U64ToText | MapType::TextToText => BAD_VALUE,
-    }
+    at_type!(
+        map_type.key,
+        set_with(map_type.value, buf, pos, query, value)
+    )
 }
 
 /// Overwrites a value of an open map.

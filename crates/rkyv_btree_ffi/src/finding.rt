@@ -3,19 +3,22 @@ ghost use Rattle.std.specs.Prelude.{◌≡◌, ◌≢◌, ◌<◌, IsTrue, IfSom
 ghost use Rattle.rkyv_btree_format.specs.Layout.{are_fitting};
 ghost use Rattle.rkyv_btree_verify.specs.Map.{map_kind};
 ghost use Rattle.rkyv_btree_format.specs.OwnBytes.{IsArchiveOf, own_at};
+ghost use Rattle.rkyv_btree_portable.specs.Refusing.{RefusesWhole};
 ghost use Rattle.rkyv_btree_view.specs.Lookup.{ByNative};
 ghost use Rattle.rkyv_btree_ffi.specs.Entries.{comparison_with, by_number, by_text, LooksUp};
 ghost use Rattle.rkyv_btree_ffi.specs.Finding.{LookupReturns, IsFoundEntry, IsRefusal};
 ghost use Rattle.rkyv_btree_ffi.specs.Finding.{ShowsLookup, ShowsLookupOf, ShowsViews};
+ghost use Rattle.rkyv_btree_ffi.specs.Items.{kind_at, IsItemAt};
 ghost use Rattle.rkyv_btree_ffi.specs.MapTypes.{type_of, kind_of, IfType};
 
 use crate::at_type;
 use crate::codes::{BAD_TYPE, BtreeRefusal, NOT_FOUND, OK, refusal_of};
 use crate::item::{BtreeEntry, Shown};
-use crate::map_type::MapType;
+use crate::map_type::{ItemType, MapType};
 use crate::query::Query;
 use rkyv_btree_portable::numbers::{ArchivedU32, ArchivedU64};
 use rkyv_btree_portable::refusal::Refusal;
+use rkyv_btree_portable::signed::ArchivedI64;
 use rkyv_btree_portable::text::ArchivedText;
 use rkyv_btree_types::map::ArchivedBTreeMap;
 use rkyv_btree_unverified::laws::{lookups_are_determined, maps_are_searched};
@@ -64,6 +67,25 @@ fn lookup<K: Shown, V: Shown>(
     }
 }
 
+/// Returns the entry that a lookup of the query finds in bytes that nobody has validated, as a map with values of a type.
+///
+/// # Errors
+///
+/// The first fault in what the lookup reads.
+fn lookup_with<K: Shown>(
+    value_type: ItemType,
+    bytes: &[u8],
+    query: &Query<'_>,
+) -> Result<Option<BtreeEntry>, Refusal>
+    requires { IsTrue (are_fitting K.kind (kind_at value_type) 5) }
+    ensures { ByNative K.kind K.query_compared_at query.now (λ comparison.
+        ShowsLookup K.kind (kind_at value_type) K.ShowsAt (IsItemAt value_type) K.Refuses
+        (RefusesWhole (kind_at value_type)) bytes.now
+        (own_at (map_kind K.kind (kind_at value_type) 5) bytes.now) comparison result) }
+{
+    at_type!(value_type, lookup::<K>(bytes, query))
+}
+
 /// Returns the entry that a lookup of the query finds in bytes that nobody has validated, as a map of a type.
 ///
 /// # Errors
@@ -76,7 +98,7 @@ fn lookup_at(
 ) -> Result<Option<BtreeEntry>, Refusal>
     ensures { ShowsLookupOf map_type bytes.now (comparison_with map_type query.now) result }
 {
-    at_type!(map_type, lookup(bytes, query))
+    at_type!(map_type.key, lookup_with(map_type.value, bytes, query))
 }
 
 /// Writes an entry if there is one, and returns the code.

@@ -1,15 +1,17 @@
 //! Keys and values that C hands in.
 ghost use Rattle.std.specs.Prelude.{◌≡◌, ◌<◌, ℕ, List, IfSome, None};
 ghost use Rattle.rkyv_btree_ffi.specs.Columns.{IsCell as IsCellOf, IsNativeCell};
-ghost use Rattle.rkyv_btree_ffi.specs.Items.{narrow, wide, text as a_text, IsOfType, IsNative};
+ghost use Rattle.rkyv_btree_ffi.specs.Items.{IsOfType, IsNative};
 ghost use Rattle.rkyv_btree_ffi.specs.declared.column.BtreeColumn.{BtreeColumn as Column};
 ghost use Rattle.rkyv_btree_ffi.specs.declared.item.BtreeItem.{BtreeItem};
+ghost use Rattle.rkyv_btree_ffi.specs.declared.map_type.ItemType.TheVariants.{U32, U64, I64, Text};
 ghost use Rattle.rkyv_btree_ffi.specs.mirror.Natives.{IsOfBoth, IsRow};
 
 use crate::column::{BtreeColumn, narrow_at, text_at, wide_at};
 use crate::item::{BtreeEntry, BtreeItem, Shown};
 use rkyv_btree_archive::archive::{Archive, Serialize};
 use rkyv_btree_portable::numbers::{ArchivedU32, ArchivedU64};
+use rkyv_btree_portable::signed::ArchivedI64;
 use rkyv_btree_portable::text::ArchivedText;
 use rkyv_btree_writer::place::VecWriter;
 use std::alloc::Global;
@@ -49,13 +51,13 @@ pub trait Given<'t>: Shown {
 impl<'t> Given<'t> for ArchivedU32 {
     type Native = u32;
 
-    ghost IsItem = { IsOfType narrow };
+    ghost IsItem = { IsOfType U32 };
 
-    ghost Gives = { IsNative narrow };
+    ghost Gives = { IsNative U32 };
 
-    ghost IsCell = { IsCellOf narrow };
+    ghost IsCell = { IsCellOf U32 };
 
-    ghost CellGives = { IsNativeCell narrow };
+    ghost CellGives = { IsNativeCell U32 };
 
     fn given(_texts: &'t [u8], item: &BtreeItem) -> Option<u32> {
         match u32::try_from(item.number) {
@@ -72,13 +74,13 @@ impl<'t> Given<'t> for ArchivedU32 {
 impl<'t> Given<'t> for ArchivedU64 {
     type Native = u64;
 
-    ghost IsItem = { IsOfType wide };
+    ghost IsItem = { IsOfType U64 };
 
-    ghost Gives = { IsNative wide };
+    ghost Gives = { IsNative U64 };
 
-    ghost IsCell = { IsCellOf wide };
+    ghost IsCell = { IsCellOf U64 };
 
-    ghost CellGives = { IsNativeCell wide };
+    ghost CellGives = { IsNativeCell U64 };
 
     fn given(_texts: &'t [u8], item: &BtreeItem) -> Option<u64> {
         Some(item.number)
@@ -89,16 +91,39 @@ impl<'t> Given<'t> for ArchivedU64 {
     }
 }
 
+impl<'t> Given<'t> for ArchivedI64 {
+    type Native = i64;
+
+    ghost IsItem = { IsOfType I64 };
+
+    ghost Gives = { IsNative I64 };
+
+    ghost IsCell = { IsCellOf I64 };
+
+    ghost CellGives = { IsNativeCell I64 };
+
+    fn given(_texts: &'t [u8], item: &BtreeItem) -> Option<i64> {
+        Some(item.number.cast_signed())
+    }
+
+    fn cell(column: &BtreeColumn<'t>, index: usize) -> Option<i64> {
+        match wide_at(column.buf, index) {
+            Some(number) => Some(number.cast_signed()),
+            None => None,
+        }
+    }
+}
+
 impl<'t> Given<'t> for ArchivedText {
     type Native = &'t str;
 
-    ghost IsItem = { IsOfType a_text };
+    ghost IsItem = { IsOfType Text };
 
-    ghost Gives = { IsNative a_text };
+    ghost Gives = { IsNative Text };
 
-    ghost IsCell = { IsCellOf a_text };
+    ghost IsCell = { IsCellOf Text };
 
-    ghost CellGives = { IsNativeCell a_text };
+    ghost CellGives = { IsNativeCell Text };
 
     fn given(texts: &'t [u8], item: &BtreeItem) -> Option<&'t str> {
         let start = item.start as usize;

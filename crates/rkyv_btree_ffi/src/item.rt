@@ -1,10 +1,11 @@
 //! Keys and values as C has them.
 ghost use Rattle.std.specs.Prelude.{◌≡◌, ℕ, List};
+ghost use Rattle.std.specs.Int.{w64, cast_unsigned};
 ghost use Rattle.std.specs.declared.cmp.Ordering.{Ordering as Comparison};
-ghost use Rattle.rkyv_btree_portable.specs.Scalars.{u32_kind, u64_kind};
+ghost use Rattle.rkyv_btree_portable.specs.Scalars.{u32_kind, u64_kind, i64_kind};
 ghost use Rattle.rkyv_btree_portable.specs.Text.{text_kind};
 ghost use Rattle.rkyv_btree_ffi.specs.Items.{IsNumberItem, IsTextItem};
-ghost use Rattle.rkyv_btree_ffi.specs.Queries.{number_comparison, text_comparison};
+ghost use Rattle.rkyv_btree_ffi.specs.Queries.{number_comparison, signed_comparison, text_comparison};
 ghost use Rattle.rkyv_btree_ffi.specs.declared.item.BtreeItem.{BtreeItem};
 ghost use Rattle.rkyv_btree_ffi.specs.declared.query.Query.{Query};
 
@@ -12,6 +13,7 @@ use crate::query::Query;
 use rkyv_btree_portable::bytes::{num32, pointed_at};
 use rkyv_btree_portable::check::CheckBytes;
 use rkyv_btree_portable::numbers::{ArchivedU32, ArchivedU64};
+use rkyv_btree_portable::signed::ArchivedI64;
 use rkyv_btree_portable::text::ArchivedText;
 use rkyv_btree_view::compare::ViewOrd;
 use rkyv_btree_view::view::View;
@@ -21,7 +23,7 @@ use std::cmp::Ordering;
 #[repr(C)]
 #[derive(Clone, Copy, Debug, PartialEq, Eq)]
 pub struct BtreeItem {
-    /// The number. That of a text is 0.
+    /// The number, in two's complement if it has a sign. That of a text is 0.
     pub number: u64,
     /// The position of the text, or 0 for a number.
     pub start: u32,
@@ -91,6 +93,27 @@ impl Shown for ArchivedU64 {
     fn compare_query(query: &Query<'_>, view: &View<'_, ArchivedU64>) -> Ordering {
         match query {
             Query::Number(number) => (*number).cmp(&view.to_native()),
+            Query::Text(_) => Ordering::Less,
+        }
+    }
+}
+
+impl Shown for ArchivedI64 {
+    ghost ShowsAt = { λ b at item. IsNumberItem (cast_unsigned w64 (i64_kind.read b at)) item };
+
+    ghost query_compared_at = { λ query b at. signed_comparison query (i64_kind.read b at) };
+
+    fn item(view: &View<'_, ArchivedI64>) -> BtreeItem {
+        BtreeItem {
+            number: view.to_native().cast_unsigned(),
+            start: 0,
+            len: 0,
+        }
+    }
+
+    fn compare_query(query: &Query<'_>, view: &View<'_, ArchivedI64>) -> Ordering {
+        match query {
+            Query::Number(number) => (*number).cast_signed().cmp(&view.to_native()),
             Query::Text(_) => Ordering::Less,
         }
     }

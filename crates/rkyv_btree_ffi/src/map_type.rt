@@ -2,18 +2,20 @@
 ghost use Rattle.std.specs.Prelude.{◌≡◌};
 ghost use Rattle.rkyv_btree_ffi.specs.MapTypes.{type_of};
 
+/// A type of keys or of values.
+#[derive(Clone, Copy, Debug, PartialEq, Eq, Drop)]
+pub enum ItemType {
+    U32,
+    U64,
+    I64,
+    Text,
+}
+
 /// The types of the keys and the values of a map.
-#[derive(Clone, Copy, Debug, PartialEq, Eq)]
-pub enum MapType {
-    U32ToU32,
-    U32ToU64,
-    U32ToText,
-    U64ToU32,
-    U64ToU64,
-    U64ToText,
-    TextToU32,
-    TextToU64,
-    TextToText,
+#[derive(Clone, Copy, Debug, PartialEq, Eq, Drop)]
+pub struct MapType {
+    pub key: ItemType,
+    pub value: ItemType,
 }
 
 impl MapType {
@@ -21,17 +23,25 @@ impl MapType {
     pub fn from_number(number: u32) -> Option<MapType>
         ensures { result ≡ type_of number }
     {
-        match number {
-            1 => Some(MapType::U32ToU32),
-            2 => Some(MapType::U32ToU64),
-            3 => Some(MapType::U32ToText),
-            4 => Some(MapType::U64ToU32),
-            5 => Some(MapType::U64ToU64),
-            6 => Some(MapType::U64ToText),
-            7 => Some(MapType::TextToU32),
-            8 => Some(MapType::TextToU64),
-            9 => Some(MapType::TextToText),
-            _ => None,
-        }
+        let (key, value) = match number {
+            1 => (ItemType::U32, ItemType::U32),
+            2 => (ItemType::U32, ItemType::U64),
+            3 => (ItemType::U32, ItemType::Text),
+            4 => (ItemType::U64, ItemType::U32),
+            5 => (ItemType::U64, ItemType::U64),
+            6 => (ItemType::U64, ItemType::Text),
+            7 => (ItemType::Text, ItemType::U32),
+            8 => (ItemType::Text, ItemType::U64),
+            9 => (ItemType::Text, ItemType::Text),
+            10 => (ItemType::U32, ItemType::I64),
+            11 => (ItemType::U64, ItemType::I64),
+            12 => (ItemType::I64, ItemType::U32),
+            13 => (ItemType::I64, ItemType::U64),
+            14 => (ItemType::I64, ItemType::I64),
+            15 => (ItemType::I64, ItemType::Text),
+            16 => (ItemType::Text, ItemType::I64),
+            _ => return None,
+        };
+        Some(MapType { key, value })
     }
 }

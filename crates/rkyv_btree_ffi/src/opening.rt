@@ -4,6 +4,7 @@ ghost use Rattle.rkyv_btree_format.specs.Layout.{are_fitting};
 ghost use Rattle.rkyv_btree_verify.specs.Map.{map_kind};
 ghost use Rattle.rkyv_btree_format.specs.Read.{read_map};
 ghost use Rattle.rkyv_btree_portable.specs.Views.{stands};
+ghost use Rattle.rkyv_btree_ffi.specs.Items.{kind_at};
 ghost use Rattle.rkyv_btree_ffi.specs.MapTypes.{type_of, kind_of, entries_at, IfType};
 ghost use Rattle.rkyv_btree_ffi.specs.Opening.{IsOpened, Opens, OpensAs, OpensStrict};
 ghost use Rattle.rkyv_btree_ffi.specs.Opening.{OpensMap, OpensStrictMap};
@@ -11,12 +12,14 @@ ghost use Rattle.rkyv_btree_ffi.specs.Opening.{OpensMap, OpensStrictMap};
 use crate::at_type;
 use crate::codes::{BAD_TYPE, BtreeRefusal, NOT_OPEN, OK, refusal_of};
 use crate::handle::BtreeMap;
-use crate::map_type::MapType;
+use crate::item::Shown;
+use crate::map_type::{ItemType, MapType};
 use crate::order::Order;
 use rkyv_btree_convert::from_archive::open;
 use rkyv_btree_portable::check::CheckBytes;
 use rkyv_btree_portable::numbers::{ArchivedU32, ArchivedU64};
 use rkyv_btree_portable::refusal::Refusal;
+use rkyv_btree_portable::signed::ArchivedI64;
 use rkyv_btree_portable::text::ArchivedText;
 use rkyv_btree_strict::strict::open_strict;
 use rkyv_btree_types::map::ArchivedBTreeMap;
@@ -46,18 +49,34 @@ fn opened_strict<K: CheckBytes + ViewOrd, V: CheckBytes>(bytes: &[u8]) -> Result
     }
 }
 
+/// Returns the position of the map of a whole archive, with values of a type.
+fn opened_with<K: Shown>(value_type: ItemType, bytes: &[u8]) -> Result<u32, Refusal>
+    requires { IsTrue (are_fitting K.kind (kind_at value_type) 5) }
+    ensures { OpensMap K.kind (kind_at value_type) bytes.now result }
+{
+    at_type!(value_type, opened::<K>(bytes))
+}
+
+/// Returns the position of the map of a whole archive, with values of a type, if its keys increase.
+fn opened_strict_with<K: Shown>(value_type: ItemType, bytes: &[u8]) -> Result<u32, Refusal>
+    requires { IsTrue (are_fitting K.kind (kind_at value_type) 5) }
+    ensures { OpensStrictMap K.kind (kind_at value_type) bytes.now result }
+{
+    at_type!(value_type, opened_strict::<K>(bytes))
+}
+
 /// Returns the position of the map of a type of a whole archive.
 pub(crate) fn opened_at(map_type: MapType, bytes: &[u8]) -> Result<u32, Refusal>
     ensures { Opens map_type bytes.now result }
 {
-    at_type!(map_type, opened(bytes))
+    at_type!(map_type.key, opened_with(map_type.value, bytes))
 }
 
 /// Returns the position of the map of a type of a whole archive, if its keys increase.
 fn opened_strict_at(map_type: MapType, bytes: &[u8]) -> Result<u32, Refusal>
     ensures { OpensStrict map_type bytes.now result }
 {
-    at_type!(map_type, opened_strict(bytes))
+    at_type!(map_type.key, opened_strict_with(map_type.value, bytes))
 }
 
 /// Returns the position of the map of a type of a whole archive, if its keys are in an order.
@@ -146,12 +165,20 @@ fn count<K: CheckBytes, V: CheckBytes>(buf: &[u8], pos: u32) -> u32
     map.len() as u32
 }
 
+/// Returns the number of entries of the map at `pos`, with values of a type.
+fn count_with<K: Shown>(value_type: ItemType, buf: &[u8], pos: u32) -> u32
+    requires { IsTrue (stands (map_kind K.kind (kind_at value_type) 5) buf.now pos) }
+    ensures { result ≡ length (read_map K.kind (kind_at value_type) 5 buf.now pos) }
+{
+    at_type!(value_type, count::<K>(buf, pos))
+}
+
 /// Returns the number of entries of the map of a type at `pos`.
 fn count_at(map_type: MapType, buf: &[u8], pos: u32) -> u32
     requires { IsTrue (stands (kind_of map_type) buf.now pos) }
     ensures { result ≡ length (entries_at map_type buf.now pos) }
 {
-    at_type!(map_type, count(buf, pos))
+    at_type!(map_type.key, count_with(map_type.value, buf, pos))
 }
 
 /// Writes the number of entries of an open map.

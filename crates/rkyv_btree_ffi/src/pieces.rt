@@ -2,18 +2,22 @@
 ghost use Rattle.std.specs.Prelude.{◌≡◌, ◌<◌, ◌↔◌, ℕ, List, IfSome, IsTrue, Ok, None, length};
 ghost use Rattle.rkyv_btree_format.specs.Layout.{are_fitting};
 ghost use Rattle.rkyv_btree_source.specs.Known.{AreOf, pieces as held};
+ghost use Rattle.rkyv_btree_portable.specs.Refusing.{RefusesWhole};
 ghost use Rattle.rkyv_btree_view.specs.Lookup.{ByNative};
 ghost use Rattle.rkyv_btree_ffi.specs.Entries.{by_number, by_text};
 ghost use Rattle.rkyv_btree_ffi.specs.Finding.{LookupReturns, IsRefusal};
+ghost use Rattle.rkyv_btree_ffi.specs.Items.{kind_at, IsItemAt};
 ghost use Rattle.rkyv_btree_ffi.specs.MapTypes.{type_of, IfType};
 ghost use Rattle.rkyv_btree_ffi.specs.Pieces.{cause_for, IsFoundValue, IsLack, IsMissingPart, IsNumberKey, IsTextKey, PutsValue, Steps, StepsOf};
 
+use crate::at_type;
 use crate::codes::{BAD_ITEM, BAD_TYPE, BtreeRefusal, MISSING, NO_ROOM, NOT_FOUND, OK, refusal_of};
 use crate::item::{BtreeItem, Shown};
-use crate::map_type::MapType;
+use crate::map_type::{ItemType, MapType};
 use crate::reading::item_at;
 use rkyv_btree_portable::numbers::{ArchivedU32, ArchivedU64};
 use rkyv_btree_portable::refusal::Refusal;
+use rkyv_btree_portable::signed::ArchivedI64;
 use rkyv_btree_portable::text::ArchivedText;
 use rkyv_btree_source::fault::SourceFault;
 use rkyv_btree_source::fetch::Fetch;
@@ -78,6 +82,27 @@ fn step<T: Drop, K: Shown + Fetch + CompareWith<T>, V: Shown + Fetch>(
     }
 }
 
+/// Returns the value that a lookup of a native key finds in the pieces of an archive of a map with values of a type.
+///
+/// # Errors
+///
+/// As of `step`.
+fn step_with<T: Drop, K: Shown + Fetch + CompareWith<T>>(
+    value_type: ItemType,
+    source: Pieces<'_>,
+    key: T,
+    buffer: &mut [u8],
+) -> Stepped
+    requires { IsTrue (are_fitting K.kind (kind_at value_type) 5) }
+    ensures gives { (b : List ℕ) → AreOf (held source.entry.size source.entry.pieces.now source.entry.bytes.now) b →
+        ByNative K.kind K.compared_at key (λ comparison.
+        Steps K.kind (kind_at value_type) (IsItemAt value_type) K.Refuses
+        (RefusesWhole (kind_at value_type)) b comparison buffer.new result) }
+    ensures lacks { IsLack (held source.entry.size source.entry.pieces.now source.entry.bytes.now) (length buffer.old) result }
+{
+    at_type!(value_type, step::<T, K>(source, key, buffer))
+}
+
 /// Looks a number up in the pieces of an archive of a map of a type, or returns `None` if it is no key of the type.
 fn step_number(
     map_type: MapType,
@@ -85,26 +110,21 @@ fn step_number(
     key: u64,
     buffer: &mut [u8],
 ) -> Option<Stepped>
-    ensures key { IfSome result (λ _. IsNumberKey map_type key) }
+    ensures key { IfSome result (λ _. IsNumberKey map_type.key key) }
     ensures gives { IfSome result (λ found. (b : List ℕ) → AreOf (held source.entry.size source.entry.pieces.now source.entry.bytes.now) b →
         StepsOf map_type b (by_number map_type key) buffer.new found) }
     ensures lacks { IfSome result (IsLack (held source.entry.size source.entry.pieces.now source.entry.bytes.now) (length buffer.old)) }
-    ensures none { result ≡ None → IsNumberKey map_type key → ⊥ }
+    ensures none { result ≡ None → IsNumberKey map_type.key key → ⊥ }
 {
-    match (map_type, u32::try_from(key)) {
-        (MapType::U32ToU32, Ok(key)) => Some(step::<u32, ArchivedU32, ArchivedU32>(
-            source, key, buffer,
-        )),
-        (MapType::U32ToU64, Ok(key)) => Some(step::<u32, ArchivedU32, ArchivedU64>(
-            source, key, buffer,
-        )),
-        (MapType::U32ToText, Ok(key)) => Some(step::<u32, ArchivedU32, ArchivedText>(
-            source, key, buffer,
-        )),
-        (MapType::U64ToU32, _) => Some(step::<u64, ArchivedU64, ArchivedU32>(source, key, buffer)),
-        (MapType::U64ToU64, _) => Some(step::<u64, ArchivedU64, ArchivedU64>(source, key, buffer)),
-        (MapType::U64ToText, _) => Some(step::<u64, ArchivedU64, ArchivedText>(
-            source, key, buffer,
+    let value = map_type.value;
+    match (map_type.key, u32::try_from(key)) {
+        (ItemType::U32, Ok(key)) => Some(step_with::<u32, ArchivedU32>(value, source, key, buffer)),
+        (ItemType::U64, _) => Some(step_with::<u64, ArchivedU64>(value, source, key, buffer)),
+        (ItemType::I64, _) => Some(step_with::<i64, ArchivedI64>(
+            value,
+            source,
+            key.cast_signed(),
+            buffer,
         )),
         _ => None,
     }
@@ -117,19 +137,19 @@ fn step_text(
     key: &[u8],
     buffer: &mut [u8],
 ) -> Option<Stepped>
-    ensures key { IfSome result (λ _. IsTextKey map_type key.now) }
+    ensures key { IfSome result (λ _. IsTextKey map_type.key key.now) }
     ensures gives { IfSome result (λ found. (b : List ℕ) → AreOf (held source.entry.size source.entry.pieces.now source.entry.bytes.now) b →
         StepsOf map_type b (by_text map_type key.now) buffer.new found) }
     ensures lacks { IfSome result (IsLack (held source.entry.size source.entry.pieces.now source.entry.bytes.now) (length buffer.old)) }
-    ensures none { result ≡ None → IsTextKey map_type key.now → ⊥ }
+    ensures none { result ≡ None → IsTextKey map_type.key key.now → ⊥ }
 {
-    let Ok(key) = from_utf8(key) else {
-        return None;
-    };
-    match map_type {
-        MapType::TextToU32 => Some(step::<&str, ArchivedText, ArchivedU32>(source, key, buffer)),
-        MapType::TextToU64 => Some(step::<&str, ArchivedText, ArchivedU64>(source, key, buffer)),
-        MapType::TextToText => Some(step::<&str, ArchivedText, ArchivedText>(source, key, buffer)),
+    match (map_type.key, from_utf8(key)) {
+        (ItemType::Text, Ok(key)) => Some(step_with::<&str, ArchivedText>(
+            map_type.value,
+            source,
+            key,
+            buffer,
+        )),
         _ => None,
     }
 }
@@ -193,7 +213,7 @@ pub extern "C" fn rkyv_btree_find_number_in(
         0 < result → result < 10 → IsRefusal t b (by_number t key) refusal.new result) }
     ensures missing { result ≡ 21 → IsMissingPart (held size pieces.now buf.now) refusal.new }
     ensures room { result ≡ 38 → length buffer.old < refusal.new.found }
-    ensures bad_key { IfType map_type (λ t. (result ≡ 36) ↔ (IsNumberKey t key → ⊥)) }
+    ensures bad_key { IfType map_type (λ t. (result ≡ 36) ↔ (IsNumberKey t.key key → ⊥)) }
     ensures kept { 0 < result → value.new ≡ value.old }
     ensures no_type { type_of map_type ≡ None → result ≡ 17 }
 {
@@ -229,7 +249,7 @@ pub extern "C" fn rkyv_btree_find_text_in(
         0 < result → result < 10 → IsRefusal t b (by_text t key.now) refusal.new result) }
     ensures missing { result ≡ 21 → IsMissingPart (held size pieces.now buf.now) refusal.new }
     ensures room { result ≡ 38 → length buffer.old < refusal.new.found }
-    ensures bad_key { IfType map_type (λ t. (result ≡ 36) ↔ (IsTextKey t key.now → ⊥)) }
+    ensures bad_key { IfType map_type (λ t. (result ≡ 36) ↔ (IsTextKey t.key key.now → ⊥)) }
     ensures kept { 0 < result → value.new ≡ value.old }
     ensures no_type { type_of map_type ≡ None → result ≡ 17 }
 {

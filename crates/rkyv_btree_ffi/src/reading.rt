@@ -13,6 +13,7 @@ ghost use Rattle.std.specs.Prelude.{◌⊎◌};
 ghost use Rattle.std.specs.declared.ops.Bound.TheVariants.{Included, Unbounded};
 ghost use Rattle.rkyv_btree_ffi.specs.Batches.{AreShown, IsFoundAt};
 ghost use Rattle.rkyv_btree_ffi.specs.Entries.{comparison_with, by_number, by_text, FindsEntry, LooksUp, IsBatch, IsFrom};
+ghost use Rattle.rkyv_btree_ffi.specs.Items.{kind_at, IsItemAt};
 ghost use Rattle.rkyv_btree_ffi.specs.MapTypes.{type_of, kind_of, entries_at, IfType};
 ghost use Rattle.rkyv_btree_ffi.specs.CursorEntries.{cursor_places, cursor_entries, entries_left};
 ghost use Rattle.rkyv_btree_ffi.specs.CursorPlaces.{IsGood, IsPlace};
@@ -24,10 +25,11 @@ use crate::codes::{BAD_CURSOR, NOT_FOUND, NOT_OPEN, OK};
 use crate::cursor::{BtreeCursor, kept, walk_of};
 use crate::handle::BtreeMap;
 use crate::item::{BtreeEntry, BtreeItem, Shown};
-use crate::map_type::MapType;
+use crate::map_type::{ItemType, MapType};
 use crate::query::Query;
 use rkyv_btree_portable::check::Portable;
 use rkyv_btree_portable::numbers::{ArchivedU32, ArchivedU64};
+use rkyv_btree_portable::signed::ArchivedI64;
 use rkyv_btree_portable::text::ArchivedText;
 use rkyv_btree_types::map::ArchivedBTreeMap;
 use rkyv_btree_view::view::View;
@@ -117,12 +119,27 @@ pub(crate) fn fill<K: Shown, V: Shown>(
     written
 }
 
+/// Returns the entry that a search for the query finds in the map at `pos`, with values of a type.
+fn found_with<K: Shown>(
+    value_type: ItemType,
+    buf: &[u8],
+    pos: u32,
+    query: &Query<'_>,
+) -> Option<BtreeEntry>
+    requires { IsTrue (stands (map_kind K.kind (kind_at value_type) 5) buf.now pos) }
+    ensures { ByNative K.kind K.query_compared_at query.now (λ comparison.
+        IsFoundAt K.kind (kind_at value_type) K.ShowsAt (IsItemAt value_type) buf.now pos
+        comparison result) }
+{
+    at_type!(value_type, found::<K>(buf, pos, query))
+}
+
 /// Returns the entry that a search for the query finds in the map of a type at `pos`.
 fn found_at(map_type: MapType, buf: &[u8], pos: u32, query: &Query<'_>) -> Option<BtreeEntry>
     requires { IsTrue (stands (kind_of map_type) buf.now pos) }
     ensures { FindsEntry map_type buf.now pos (comparison_with map_type query.now) result }
 {
-    at_type!(map_type, found(buf, pos, query))
+    at_type!(map_type.key, found_with(map_type.value, buf, pos, query))
 }
 
 /// Writes the entry that a search for a query finds in an open map.
@@ -205,13 +222,42 @@ fn sought<K: Shown, V: Shown>(buf: &[u8], pos: u32, query: &Query<'_>) -> BtreeC
     kept(&walk)
 }
 
+/// Returns the cursor before the first entry of the map at `pos`, with values of a type.
+fn first_with<K: Shown>(value_type: ItemType, buf: &[u8], pos: u32) -> BtreeCursor
+    requires { IsTrue (stands (map_kind K.kind (kind_at value_type) 5) buf.now pos) }
+    ensures place { IsGood K.kind (kind_at value_type) buf.now pos result }
+    ensures all { cursor_entries K.kind (kind_at value_type) buf.now result
+        ≡ read_map K.kind (kind_at value_type) 5 buf.now pos }
+{
+    at_type!(value_type, first::<K>(buf, pos))
+}
+
+/// Returns the cursor before the first entry of the map at `pos`, with values of a type, whose key isn't less than a query.
+fn sought_with<K: Shown>(
+    value_type: ItemType,
+    buf: &[u8],
+    pos: u32,
+    query: &Query<'_>,
+) -> BtreeCursor
+    requires { IsTrue (stands (map_kind K.kind (kind_at value_type) 5) buf.now pos) }
+    ensures place { IsGood K.kind (kind_at value_type) buf.now pos result }
+    ensures run { IsRun (cursor_entries K.kind (kind_at value_type) buf.now result)
+        (read_map K.kind (kind_at value_type) 5 buf.now pos) }
+    ensures within { ByNative K.kind K.query_compared_at query.now (λ comparison.
+        IsWithin (Included comparison) Unbounded
+        (read_map K.kind (kind_at value_type) 5 buf.now pos)
+        (cursor_entries K.kind (kind_at value_type) buf.now result)) }
+{
+    at_type!(value_type, sought::<K>(buf, pos, query))
+}
+
 /// Returns the cursor before the first entry of the map of a type at `pos`.
 fn first_at(map_type: MapType, buf: &[u8], pos: u32) -> BtreeCursor
     requires { IsTrue (stands (kind_of map_type) buf.now pos) }
     ensures place { IsPlace map_type buf.now pos result }
     ensures all { entries_left map_type buf.now result ≡ entries_at map_type buf.now pos }
 {
-    at_type!(map_type, first(buf, pos))
+    at_type!(map_type.key, first_with(map_type.value, buf, pos))
 }
 
 /// Returns the cursor before the first entry of the map of a type at `pos` whose key isn't less than a query.
@@ -221,7 +267,7 @@ fn sought_at(map_type: MapType, buf: &[u8], pos: u32, query: &Query<'_>) -> Btre
     ensures from { IsFrom map_type buf.now pos (comparison_with map_type query.now)
         (entries_left map_type buf.now result) }
 {
-    at_type!(map_type, sought(buf, pos, query))
+    at_type!(map_type.key, sought_with(map_type.value, buf, pos, query))
 }
 
 /// Sets a cursor before the first entry of an open map.
@@ -320,6 +366,31 @@ fn batch<K: Shown, V: Shown>(
     Some(written)
 }
 
+/// Writes the next entries of a cursor of the map at `pos`, with values of a type.
+fn batch_with<K: Shown>(
+    value_type: ItemType,
+    buf: &[u8],
+    pos: u32,
+    cursor: &mut BtreeCursor,
+    out: &mut [BtreeEntry],
+) -> Option<usize>
+    requires { IsTrue (stands (map_kind K.kind (kind_at value_type) 5) buf.now pos) }
+    ensures room { IfSome result (λ written. written ≤ length out.new) }
+    ensures shown { IfSome result (λ written.
+        AreShown K.kind (kind_at value_type) K.ShowsAt (IsItemAt value_type) buf.now
+        (cursor_places K.kind (kind_at value_type) buf.now cursor.old) (take written out.new)
+        (cursor_places K.kind (kind_at value_type) buf.now cursor.new)) }
+    ensures last { IfSome result (λ written. written < length out.new →
+        cursor_places K.kind (kind_at value_type) buf.now cursor.new ≡ []) }
+    ensures place { IfSome result (λ _. IsGood K.kind (kind_at value_type) buf.now pos cursor.old
+        × IsGood K.kind (kind_at value_type) buf.now pos cursor.new) }
+    ensures none { result ≡ None →
+        (IsGood K.kind (kind_at value_type) buf.now pos cursor.old → ⊥)
+        × (cursor.new ≡ cursor.old) × (out.new ≡ out.old) }
+{
+    at_type!(value_type, batch::<K>(buf, pos, cursor, out))
+}
+
 /// Writes the next entries of a cursor of the map of a type at `pos`.
 fn batch_at(
     map_type: MapType,
@@ -337,7 +408,10 @@ fn batch_at(
     ensures none { result ≡ None → (IsPlace map_type buf.now pos cursor.old → ⊥)
         × (cursor.new ≡ cursor.old) × (out.new ≡ out.old) }
 {
-    at_type!(map_type, batch(buf, pos, cursor, out))
+    at_type!(
+        map_type.key,
+        batch_with(map_type.value, buf, pos, cursor, out)
+    )
 }
 
 /// Writes the next entries of a cursor of an open map, as many as there is room for, and their number.

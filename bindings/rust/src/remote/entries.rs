@@ -36,6 +36,7 @@ type Owned<'r, K, V> = (<K as Stored<'r>>::Owned, <V as Stored<'r>>::Owned);
 fn owned<Q: AsKey<K>, K>(bound: Bound<&Q>) -> Bound<Datum> {
     bound.map(|key| match key.query() {
         Query::Number(number) => Datum::Number(number),
+        Query::Signed(number) => Datum::Signed(number),
         Query::Text(text) => Datum::Text(text.to_owned()),
     })
 }
@@ -67,6 +68,7 @@ impl<'r, R: ReadRange, K: Field<'r>, V: Field<'r>> RemoteRange<'r, R, K, V> {
     fn datum(&mut self, cell: Cell) -> Result<Datum, RemoteError<R::Error>> {
         Ok(match cell {
             Cell::Number(number) => Datum::Number(number),
+            Cell::Signed(number) => Datum::Signed(number),
             Cell::Text { start, len } => {
                 let part = self.layout.text_at(start, len)?;
                 Datum::Text(decoded(part.start, self.part(part.clone())?)?)

@@ -1,6 +1,6 @@
 //! What one lookup has read so far, and its next step over that.
 use super::blocks::{Blocks, BEFORE};
-use crate::field::sealed::Query;
+use crate::field::sealed::{Passed, Query};
 use crate::raw;
 use std::ops::Range;
 
@@ -48,15 +48,15 @@ impl Pieces {
         let (places, places_len) = (self.places.as_ptr(), self.places.len());
         let (data, data_len) = (self.data.as_ptr(), self.data.len());
         let (buffer, buffer_len) = (room.as_mut_ptr(), room.len());
-        let code = match query {
+        let code = match query.passed() {
             // SAFETY: each pointer and its length are those of one slice, which is borrowed during the call; the room overlaps no other.
-            Query::Number(number) => unsafe {
+            Passed::Number(number) => unsafe {
                 raw::rkyv_btree_find_number_in(
                     kind, size, places, places_len, data, data_len, number, buffer, buffer_len, &mut value, &mut why,
                 )
             },
             // SAFETY: the same.
-            Query::Text(text) => unsafe {
+            Passed::Text(text) => unsafe {
                 raw::rkyv_btree_find_text_in(
                     kind,
                     size,

@@ -1,23 +1,42 @@
--- Each type has its own call.
+-- Each type of keys has its own call.
 use Rattle.std.proofs.Common.{refl}
-use Rattle.rkyv_btree_ffi.specs.Entries.{comparison_with}
-use Rattle.rkyv_btree_ffi.specs.declared.map_type.MapType.TheVariants.{U32ToU32, U32ToU64, U64ToU32, U64ToU64, TextToU32, TextToU64}
+use Rattle.rkyv_btree_ffi.specs.Entries.{comparison_at}
+use Rattle.rkyv_btree_ffi.proofs.Types.{with_key}
+use Rattle.rkyv_btree_ffi.specs.declared.map_type.ItemType.TheVariants.{U32, U64, I64, Text}
 use Rattle.rkyv_btree_ffi.proofs.editing.set_at.Goals as goal
 
-pub returns-in-U32ToU32-clause-sets : goal.returns-in-U32ToU32-clause-sets
-returns-in-U32ToU32-clause-sets c = rw c.in-U32ToU32.is (c.set_narrow.ensures.sets (comparison_with U32ToU32) (λ n b at. refl))
+pub set_with-requires : goal.set_with-requires
+set_with-requires c = rw (with_key c.args.map_type U32 c.in-U32.is) at c.requires
 
-pub returns-in-U32ToU64-clause-sets : goal.returns-in-U32ToU64-clause-sets
-returns-in-U32ToU64-clause-sets c = rw c.in-U32ToU64.is (c.set_wide.ensures.sets (comparison_with U32ToU64) (λ n b at. refl))
+pub returns-in-U32-clause-sets : goal.returns-in-U32-clause-sets
+returns-in-U32-clause-sets c = rw (with_key c.args.map_type U32 c.in-U32.is) (c.set_with.ensures.sets (comparison_at U32) (λ n b at. refl))
 
-pub returns-in-U64ToU32-clause-sets : goal.returns-in-U64ToU32-clause-sets
-returns-in-U64ToU32-clause-sets c = rw c.in-U64ToU32.is (c.set_narrow-in-U64ToU32.ensures.sets (comparison_with U64ToU32) (λ n b at. refl))
+pub returns-in-U32-clause-stands : goal.returns-in-U32-clause-stands
+returns-in-U32-clause-stands c = rw (with_key c.args.map_type U32 c.in-U32.is) c.set_with.ensures.stands
 
-pub returns-in-U64ToU64-clause-sets : goal.returns-in-U64ToU64-clause-sets
-returns-in-U64ToU64-clause-sets c = rw c.in-U64ToU64.is (c.set_wide-in-U64ToU64.ensures.sets (comparison_with U64ToU64) (λ n b at. refl))
+pub set_with-requires-in-U64 : goal.set_with-requires-in-U64
+set_with-requires-in-U64 c = rw (with_key c.args.map_type U64 c.in-U64.is) at c.requires
 
-pub returns-in-TextToU32-clause-sets : goal.returns-in-TextToU32-clause-sets
-returns-in-TextToU32-clause-sets c = rw c.in-TextToU32.is (c.set_narrow-in-TextToU32.ensures.sets (comparison_with TextToU32) (λ n b at. refl))
+pub returns-in-U64-clause-sets : goal.returns-in-U64-clause-sets
+returns-in-U64-clause-sets c = rw (with_key c.args.map_type U64 c.in-U64.is) (c.set_with-in-U64.ensures.sets (comparison_at U64) (λ n b at. refl))
 
-pub returns-in-TextToU64-clause-sets : goal.returns-in-TextToU64-clause-sets
-returns-in-TextToU64-clause-sets c = rw c.in-TextToU64.is (c.set_wide-in-TextToU64.ensures.sets (comparison_with TextToU64) (λ n b at. refl))
+pub returns-in-U64-clause-stands : goal.returns-in-U64-clause-stands
+returns-in-U64-clause-stands c = rw (with_key c.args.map_type U64 c.in-U64.is) c.set_with-in-U64.ensures.stands
+
+pub set_with-requires-in-I64 : goal.set_with-requires-in-I64
+set_with-requires-in-I64 c = rw (with_key c.args.map_type I64 c.in-I64.is) at c.requires
+
+pub returns-in-I64-clause-sets : goal.returns-in-I64-clause-sets
+returns-in-I64-clause-sets c = rw (with_key c.args.map_type I64 c.in-I64.is) (c.set_with-in-I64.ensures.sets (comparison_at I64) (λ n b at. refl))
+
+pub returns-in-I64-clause-stands : goal.returns-in-I64-clause-stands
+returns-in-I64-clause-stands c = rw (with_key c.args.map_type I64 c.in-I64.is) c.set_with-in-I64.ensures.stands
+
+pub set_with-requires-in-Text : goal.set_with-requires-in-Text
+set_with-requires-in-Text c = rw (with_key c.args.map_type Text c.in-Text.is) at c.requires
+
+pub returns-in-Text-clause-sets : goal.returns-in-Text-clause-sets
+returns-in-Text-clause-sets c = rw (with_key c.args.map_type Text c.in-Text.is) (c.set_with-in-Text.ensures.sets (comparison_at Text) (λ n b at. refl))
+
+pub returns-in-Text-clause-stands : goal.returns-in-Text-clause-stands
+returns-in-Text-clause-stands c = rw (with_key c.args.map_type Text c.in-Text.is) c.set_with-in-Text.ensures.stands

@@ -1,29 +1,28 @@
--- Each type has its own call.
+-- Each type of keys has its own call.
+use Rattle.rkyv_btree_ffi.proofs.Types.{with_key}
+use Rattle.rkyv_btree_ffi.specs.declared.map_type.ItemType.TheVariants.{U32, U64, I64, Text}
 use Rattle.rkyv_btree_ffi.proofs.opening.count_at.Goals as goal
 
-pub returns-in-U32ToU32 : goal.returns-in-U32ToU32
-returns-in-U32ToU32 c = rw c.in-U32ToU32.is c.count.ensures
+pub count_with-requires : goal.count_with-requires
+count_with-requires c = rw (with_key c.args.map_type U32 c.in-U32.is) at c.requires
 
-pub returns-in-U32ToU64 : goal.returns-in-U32ToU64
-returns-in-U32ToU64 c = rw c.in-U32ToU64.is c.count-in-U32ToU64.ensures
+pub returns-in-U32 : goal.returns-in-U32
+returns-in-U32 c = rw (with_key c.args.map_type U32 c.in-U32.is) (c.count_with.ensures)
 
-pub returns-in-U32ToText : goal.returns-in-U32ToText
-returns-in-U32ToText c = rw c.in-U32ToText.is c.count-in-U32ToText.ensures
+pub count_with-requires-in-U64 : goal.count_with-requires-in-U64
+count_with-requires-in-U64 c = rw (with_key c.args.map_type U64 c.in-U64.is) at c.requires
 
-pub returns-in-U64ToU32 : goal.returns-in-U64ToU32
-returns-in-U64ToU32 c = rw c.in-U64ToU32.is c.count-in-U64ToU32.ensures
+pub returns-in-U64 : goal.returns-in-U64
+returns-in-U64 c = rw (with_key c.args.map_type U64 c.in-U64.is) (c.count_with-in-U64.ensures)
 
-pub returns-in-U64ToU64 : goal.returns-in-U64ToU64
-returns-in-U64ToU64 c = rw c.in-U64ToU64.is c.count-in-U64ToU64.ensures
+pub count_with-requires-in-I64 : goal.count_with-requires-in-I64
+count_with-requires-in-I64 c = rw (with_key c.args.map_type I64 c.in-I64.is) at c.requires
 
-pub returns-in-U64ToText : goal.returns-in-U64ToText
-returns-in-U64ToText c = rw c.in-U64ToText.is c.count-in-U64ToText.ensures
+pub returns-in-I64 : goal.returns-in-I64
+returns-in-I64 c = rw (with_key c.args.map_type I64 c.in-I64.is) (c.count_with-in-I64.ensures)
 
-pub returns-in-TextToU32 : goal.returns-in-TextToU32
-returns-in-TextToU32 c = rw c.in-TextToU32.is c.count-in-TextToU32.ensures
+pub count_with-requires-in-Text : goal.count_with-requires-in-Text
+count_with-requires-in-Text c = rw (with_key c.args.map_type Text c.in-Text.is) at c.requires
 
-pub returns-in-TextToU64 : goal.returns-in-TextToU64
-returns-in-TextToU64 c = rw c.in-TextToU64.is c.count-in-TextToU64.ensures
-
-pub returns-in-TextToText : goal.returns-in-TextToText
-returns-in-TextToText c = rw c.in-TextToText.is c.count-in-TextToText.ensures
+pub returns-in-Text : goal.returns-in-Text
+returns-in-Text c = rw (with_key c.args.map_type Text c.in-Text.is) (c.count_with-in-Text.ensures)

@@ -1,58 +1,29 @@
--- Each type has its own call.
+-- Each type of keys has its own call.
 use Rattle.rkyv_btree_ffi.proofs.Fits.{all_fit}
-use Rattle.rkyv_btree_ffi.specs.declared.map_type.MapType.TheVariants.{U32ToU32, U32ToU64, U32ToText, U64ToU32, U64ToU64, U64ToText, TextToU32, TextToU64, TextToText}
+use Rattle.rkyv_btree_ffi.proofs.Types.{with_key}
+use Rattle.rkyv_btree_ffi.specs.declared.map_type.ItemType.TheVariants.{U32, U64, I64, Text}
 use Rattle.rkyv_btree_ffi.proofs.opening.opened_strict_at.Goals as goal
 
-pub opened_strict-requires : goal.opened_strict-requires
-opened_strict-requires c = all_fit U32ToU32
+pub opened_strict_with-requires : goal.opened_strict_with-requires
+opened_strict_with-requires c = all_fit U32 c.args.map_type.value
 
-pub returns-in-U32ToU32 : goal.returns-in-U32ToU32
-returns-in-U32ToU32 c = rw c.in-U32ToU32.is c.opened_strict.ensures
+pub returns-in-U32 : goal.returns-in-U32
+returns-in-U32 c = rw (with_key c.args.map_type U32 c.in-U32.is) (c.opened_strict_with.ensures)
 
-pub opened_strict-requires-in-U32ToU64 : goal.opened_strict-requires-in-U32ToU64
-opened_strict-requires-in-U32ToU64 c = all_fit U32ToU64
+pub opened_strict_with-requires-in-U64 : goal.opened_strict_with-requires-in-U64
+opened_strict_with-requires-in-U64 c = all_fit U64 c.args.map_type.value
 
-pub returns-in-U32ToU64 : goal.returns-in-U32ToU64
-returns-in-U32ToU64 c = rw c.in-U32ToU64.is c.opened_strict-in-U32ToU64.ensures
+pub returns-in-U64 : goal.returns-in-U64
+returns-in-U64 c = rw (with_key c.args.map_type U64 c.in-U64.is) (c.opened_strict_with-in-U64.ensures)
 
-pub opened_strict-requires-in-U32ToText : goal.opened_strict-requires-in-U32ToText
-opened_strict-requires-in-U32ToText c = all_fit U32ToText
+pub opened_strict_with-requires-in-I64 : goal.opened_strict_with-requires-in-I64
+opened_strict_with-requires-in-I64 c = all_fit I64 c.args.map_type.value
 
-pub returns-in-U32ToText : goal.returns-in-U32ToText
-returns-in-U32ToText c = rw c.in-U32ToText.is c.opened_strict-in-U32ToText.ensures
+pub returns-in-I64 : goal.returns-in-I64
+returns-in-I64 c = rw (with_key c.args.map_type I64 c.in-I64.is) (c.opened_strict_with-in-I64.ensures)
 
-pub opened_strict-requires-in-U64ToU32 : goal.opened_strict-requires-in-U64ToU32
-opened_strict-requires-in-U64ToU32 c = all_fit U64ToU32
+pub opened_strict_with-requires-in-Text : goal.opened_strict_with-requires-in-Text
+opened_strict_with-requires-in-Text c = all_fit Text c.args.map_type.value
 
-pub returns-in-U64ToU32 : goal.returns-in-U64ToU32
-returns-in-U64ToU32 c = rw c.in-U64ToU32.is c.opened_strict-in-U64ToU32.ensures
-
-pub opened_strict-requires-in-U64ToU64 : goal.opened_strict-requires-in-U64ToU64
-opened_strict-requires-in-U64ToU64 c = all_fit U64ToU64
-
-pub returns-in-U64ToU64 : goal.returns-in-U64ToU64
-returns-in-U64ToU64 c = rw c.in-U64ToU64.is c.opened_strict-in-U64ToU64.ensures
-
-pub opened_strict-requires-in-U64ToText : goal.opened_strict-requires-in-U64ToText
-opened_strict-requires-in-U64ToText c = all_fit U64ToText
-
-pub returns-in-U64ToText : goal.returns-in-U64ToText
-returns-in-U64ToText c = rw c.in-U64ToText.is c.opened_strict-in-U64ToText.ensures
-
-pub opened_strict-requires-in-TextToU32 : goal.opened_strict-requires-in-TextToU32
-opened_strict-requires-in-TextToU32 c = all_fit TextToU32
-
-pub returns-in-TextToU32 : goal.returns-in-TextToU32
-returns-in-TextToU32 c = rw c.in-TextToU32.is c.opened_strict-in-TextToU32.ensures
-
-pub opened_strict-requires-in-TextToU64 : goal.opened_strict-requires-in-TextToU64
-opened_strict-requires-in-TextToU64 c = all_fit TextToU64
-
-pub returns-in-TextToU64 : goal.returns-in-TextToU64
-returns-in-TextToU64 c = rw c.in-TextToU64.is c.opened_strict-in-TextToU64.ensures
-
-pub opened_strict-requires-in-TextToText : goal.opened_strict-requires-in-TextToText
-opened_strict-requires-in-TextToText c = all_fit TextToText
-
-pub returns-in-TextToText : goal.returns-in-TextToText
-returns-in-TextToText c = rw c.in-TextToText.is c.opened_strict-in-TextToText.ensures
+pub returns-in-Text : goal.returns-in-Text
+returns-in-Text c = rw (with_key c.args.map_type Text c.in-Text.is) (c.opened_strict_with-in-Text.ensures)

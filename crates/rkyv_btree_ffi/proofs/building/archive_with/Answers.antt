@@ -1,0 +1,27 @@
+-- Each type of values has its own call.
+use Rattle.std.proofs.Common.{refl}
+use Rattle.rkyv_btree_ffi.proofs.building.archive_with.Goals as goal
+
+pub archive-requires : goal.archive-requires
+archive-requires g c = λ k. ((refl, tt), rw c.in-U32.is at c.requires)
+
+pub returns-in-U32 : goal.returns-in-U32
+returns-in-U32 g c = rw c.in-U32.is (record { built = c.archive.ensures.built; unbuilt = c.archive.ensures.unbuilt })
+
+pub archive-requires-in-U64 : goal.archive-requires-in-U64
+archive-requires-in-U64 g c = λ k. ((refl, tt), rw c.in-U64.is at c.requires)
+
+pub returns-in-U64 : goal.returns-in-U64
+returns-in-U64 g c = rw c.in-U64.is (record { built = c.archive-in-U64.ensures.built; unbuilt = c.archive-in-U64.ensures.unbuilt })
+
+pub archive-requires-in-I64 : goal.archive-requires-in-I64
+archive-requires-in-I64 g c = λ k. ((refl, tt), rw c.in-I64.is at c.requires)
+
+pub returns-in-I64 : goal.returns-in-I64
+returns-in-I64 g c = rw c.in-I64.is (record { built = c.archive-in-I64.ensures.built; unbuilt = c.archive-in-I64.ensures.unbuilt })
+
+pub archive-requires-in-Text : goal.archive-requires-in-Text
+archive-requires-in-Text g c = λ k. ((refl, tt), rw c.in-Text.is at c.requires)
+
+pub returns-in-Text : goal.returns-in-Text
+returns-in-Text g c = rw c.in-Text.is (record { built = c.archive-in-Text.ensures.built; unbuilt = c.archive-in-Text.ensures.unbuilt })

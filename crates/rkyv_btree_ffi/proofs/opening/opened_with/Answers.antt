@@ -1,0 +1,26 @@
+-- Each type of values has its own call.
+use Rattle.rkyv_btree_ffi.proofs.opening.opened_with.Goals as goal
+
+pub opened-requires : goal.opened-requires
+opened-requires g c = rw c.in-U32.is at c.requires
+
+pub returns-in-U32 : goal.returns-in-U32
+returns-in-U32 g c = rw c.in-U32.is (c.opened.ensures)
+
+pub opened-requires-in-U64 : goal.opened-requires-in-U64
+opened-requires-in-U64 g c = rw c.in-U64.is at c.requires
+
+pub returns-in-U64 : goal.returns-in-U64
+returns-in-U64 g c = rw c.in-U64.is (c.opened-in-U64.ensures)
+
+pub opened-requires-in-I64 : goal.opened-requires-in-I64
+opened-requires-in-I64 g c = rw c.in-I64.is at c.requires
+
+pub returns-in-I64 : goal.returns-in-I64
+returns-in-I64 g c = rw c.in-I64.is (c.opened-in-I64.ensures)
+
+pub opened-requires-in-Text : goal.opened-requires-in-Text
+opened-requires-in-Text g c = rw c.in-Text.is at c.requires
+
+pub returns-in-Text : goal.returns-in-Text
+returns-in-Text g c = rw c.in-Text.is (c.opened-in-Text.ensures)

@@ -1,0 +1,26 @@
+-- Each type of values has its own call.
+use Rattle.rkyv_btree_ffi.proofs.reading.found_with.Goals as goal
+
+pub found-requires : goal.found-requires
+found-requires g c = rw c.in-U32.is at c.requires
+
+pub returns-in-U32 : goal.returns-in-U32
+returns-in-U32 g c = rw c.in-U32.is (c.found.ensures)
+
+pub found-requires-in-U64 : goal.found-requires-in-U64
+found-requires-in-U64 g c = rw c.in-U64.is at c.requires
+
+pub returns-in-U64 : goal.returns-in-U64
+returns-in-U64 g c = rw c.in-U64.is (c.found-in-U64.ensures)
+
+pub found-requires-in-I64 : goal.found-requires-in-I64
+found-requires-in-I64 g c = rw c.in-I64.is at c.requires
+
+pub returns-in-I64 : goal.returns-in-I64
+returns-in-I64 g c = rw c.in-I64.is (c.found-in-I64.ensures)
+
+pub found-requires-in-Text : goal.found-requires-in-Text
+found-requires-in-Text g c = rw c.in-Text.is at c.requires
+
+pub returns-in-Text : goal.returns-in-Text
+returns-in-Text g c = rw c.in-Text.is (c.found-in-Text.ensures)

@@ -1,0 +1,26 @@
+-- Each type of values has its own call.
+use Rattle.rkyv_btree_ffi.proofs.reading.sought_with.Goals as goal
+
+pub sought-requires : goal.sought-requires
+sought-requires g c = rw c.in-U32.is at c.requires
+
+pub returns-in-U32 : goal.returns-in-U32
+returns-in-U32 g c = rw c.in-U32.is (record { place = c.sought.ensures.place; run = c.sought.ensures.run; within = c.sought.ensures.within })
+
+pub sought-requires-in-U64 : goal.sought-requires-in-U64
+sought-requires-in-U64 g c = rw c.in-U64.is at c.requires
+
+pub returns-in-U64 : goal.returns-in-U64
+returns-in-U64 g c = rw c.in-U64.is (record { place = c.sought-in-U64.ensures.place; run = c.sought-in-U64.ensures.run; within = c.sought-in-U64.ensures.within })
+
+pub sought-requires-in-I64 : goal.sought-requires-in-I64
+sought-requires-in-I64 g c = rw c.in-I64.is at c.requires
+
+pub returns-in-I64 : goal.returns-in-I64
+returns-in-I64 g c = rw c.in-I64.is (record { place = c.sought-in-I64.ensures.place; run = c.sought-in-I64.ensures.run; within = c.sought-in-I64.ensures.within })
+
+pub sought-requires-in-Text : goal.sought-requires-in-Text
+sought-requires-in-Text g c = rw c.in-Text.is at c.requires
+
+pub returns-in-Text : goal.returns-in-Text
+returns-in-Text g c = rw c.in-Text.is (record { place = c.sought-in-Text.ensures.place; run = c.sought-in-Text.ensures.run; within = c.sought-in-Text.ensures.within })
