@@ -46,7 +46,7 @@ enum {
     RKYV_BTREE_NO_ROOM = 38
 };
 
-/* The types of the keys and the values of a map. tools/header.py --write writes this list. */
+/* The types of the keys and the values of a map. A set is a map whose values have no bytes. tools/header.py --write writes this list. */
 enum {
     RKYV_BTREE_U32_TO_U32 = 1,
     RKYV_BTREE_U32_TO_U64 = 2,
@@ -63,7 +63,11 @@ enum {
     RKYV_BTREE_I64_TO_U64 = 13,
     RKYV_BTREE_I64_TO_I64 = 14,
     RKYV_BTREE_I64_TO_TEXT = 15,
-    RKYV_BTREE_TEXT_TO_I64 = 16
+    RKYV_BTREE_TEXT_TO_I64 = 16,
+    RKYV_BTREE_U32_SET = 26,
+    RKYV_BTREE_U64_SET = 27,
+    RKYV_BTREE_I64_SET = 28,
+    RKYV_BTREE_TEXT_SET = 29
 };
 
 /* Why bytes were refused, or why entries have no archive. */
@@ -75,7 +79,8 @@ typedef struct {
 } rkyv_btree_refusal;
 
 /* A key or a value: a number, or a text by its place in the buffer. Texts are UTF-8, without a final 0. A number of type i64 is cast to
- * uint64_t, here and as a key or a value that a call takes. Keys of that type are ordered as int64_t. */
+ * uint64_t, here and as a key or a value that a call takes. Keys of that type are ordered as int64_t. The value of an entry of a set is
+ * all zeros where a call writes it, and isn't read where a call takes it. */
 typedef struct {
     uint64_t number; /* of a text 0 */
     uint32_t start;  /* of a number 0 */
@@ -96,7 +101,7 @@ typedef struct {
 
 /* Keys or values one after the other, as a table has a column. Numbers have 4 or 8 bytes, as their type has, the least first; those
  * with a sign are in two's complement. Texts are UTF-8 in one buffer, and have offsets of 4 or 8 bytes: where each begins, and then where
- * the last ends. */
+ * the last ends. Of the values of a set no field is read. */
 typedef struct {
     const uint8_t *data; /* the numbers, or the bytes of all texts */
     size_t data_len;
@@ -191,7 +196,8 @@ uint32_t rkyv_btree_open_edit(rkyv_btree_edit *edit, uint32_t type, rkyv_btree_r
  * this again. */
 uint32_t rkyv_btree_read_edit(rkyv_btree_map *map, const rkyv_btree_edit *edit);
 
-/* Overwrites the value of the entry with a key. RKYV_BTREE_BAD_VALUE if the values are texts, or narrower than the value. */
+/* Overwrites the value of the entry with a key. RKYV_BTREE_BAD_VALUE if the values are no numbers, or narrower than the
+ * value. */
 uint32_t rkyv_btree_set_number(rkyv_btree_edit *edit, uint64_t key, uint64_t value);
 uint32_t rkyv_btree_set_text(rkyv_btree_edit *edit, const uint8_t *key, size_t key_len, uint64_t value);
 

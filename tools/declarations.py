@@ -15,17 +15,20 @@ class Types:
     """The types of keys and of values, and the codes of errors by what they name.
 
     A type has its size, its alignment, the format of its numbers, and the step in which it came: maps of it have their numbers after those
-    of all types that came before it.
+    of all types that came before it. A set is a map to the empty type, which only values have.
     """
 
     def __init__(self, table):
-        self.each = table["types"]
+        self.each, self.empty, self.first_set = table["types"], table["empty"], table["first_set"]
         self.codes = {"AT_POSITION": table["at_position"], "AT_ENTRY": table["at_entry"]}
 
-    def pairs(self):
-        """Returns the names of both types of each map, and the name that the header has for them, in the order of its numbers."""
+    def maps(self):
+        """Returns of each type of maps its number, the names of both types, and the name that the header has for it."""
         pairs = sorted(itertools.product(self.each, self.each), key=lambda pair: max(each["step"] for each in pair))
-        return [(key["name"], value["name"], f"{key['name']}_TO_{value['name']}".upper()) for key, value in pairs]
+        named = [(key["name"], value["name"]) for key, value in pairs]
+        maps = [(number, key, value, f"{key}_TO_{value}".upper()) for number, (key, value) in enumerate(named, 1)]
+        keys = [each["name"] for each in self.each]
+        return maps + [(number, key, self.empty["name"], f"{key}_SET".upper()) for number, key in enumerate(keys, self.first_set)]
 
 
 class Header:
@@ -71,20 +74,21 @@ def short(kind):
 
 def rust_types(types):
     """The lines for Rust that the types determine."""
-    names = [each["name"] for each in types.each]
+    every = [*types.each, types.empty]
+    names = [each["name"] for each in every]
     cases = [f"        Type::{name.capitalize()} => " for name in names]
     lines = ["", "/// A type of keys or of values.", "#[derive(Clone, Copy, Debug, PartialEq, Eq)]", "pub enum Type {"]
     lines += [f"    {name.capitalize()}," for name in names] + ["}", "", "impl Type {"]
-    lines += ["    /// All types."]
-    lines += [f"    pub const ALL: [Type; {len(names)}] = [{', '.join(f'Type::{name.capitalize()}' for name in names)}];"]
     for doc, head, values in (
         ("its name", "name(self) -> &'static str", [f'"{name}"' for name in names]),
-        ("its size and its alignment in an archive", "layout(self) -> (u64, u64)", [f"({each['size']}, {each['align']})" for each in types.each]),
+        ("its size and its alignment in an archive", "layout(self) -> (u64, u64)", [f"({each['size']}, {each['align']})" for each in every]),
     ):
         lines += ["", f"    /// Returns {doc}.", f"    pub const fn {head} {{", "        match self {"]
         lines += [f"    {case}{value}," for case, value in zip(cases, values)] + ["        }", "    }"]
-    lines += ["}", "", "/// Returns the number of the type of a map.", "pub const fn number_of(key: Type, value: Type) -> u32 {", "    match (key, value) {"]
-    lines += [f"        (Type::{key.capitalize()}, Type::{value.capitalize()}) => {name}," for key, value, name in types.pairs()] + ["    }", "}", ""]
+    lines += ["}", "", "/// Returns the number of the type of a map. No map has keys of the empty type.", "pub const fn number_of(key: Type, value: Type) -> u32 {"]
+    lines += ["    match (key, value) {"]
+    lines += [f"        (Type::{key.capitalize()}, Type::{value.capitalize()}) => {name}," for _, key, value, name in types.maps()]
+    lines += ["        (Type::Empty, _) => 0,", "    }", "}", ""]
     for name, codes in types.codes.items():
         lines += [f"/// The codes of errors that are at {'a position' if name == 'AT_POSITION' else 'an entry'}."]
         lines += [f"pub const {name}: [u32; {len(codes)}] = [{', '.join(codes)}];"]
@@ -120,8 +124,10 @@ def python_types(types):
     names = ", ".join(f'"{each["name"]}"' for each in types.each)
     lines = ["", f"Type = Literal[{names}]", "# Of each type its size and its alignment in an archive, and the format of its numbers. A text has none."]
     lines += ["TYPES = {"] + [f'    "{each["name"]}": ({each["size"]}, {each["align"]}, "{each["format"]}"),' for each in types.each] + ["}"]
+    lines += ["# The same of the values of a set, which have no bytes."]
+    lines += [f'EMPTY = "{types.empty["name"]}"', f'LAYOUTS = {{**TYPES, EMPTY: ({types.empty["size"]}, {types.empty["align"]}, "")}}']
     lines += ["# The number of the type of a map, of the types of its keys and its values."]
-    lines += ["NUMBERS = {"] + [f'    ("{key}", "{value}"): {name},' for key, value, name in types.pairs()] + ["}"]
+    lines += ["NUMBERS = {"] + [f'    ("{key}", "{value}"): {name},' for _, key, value, name in types.maps()] + ["}"]
     for name, codes in types.codes.items():
         lines += [f"# The codes of errors that are at {'a position' if name == 'AT_POSITION' else 'an entry'}."]
         lines += [f"{name} = ({', '.join(codes)})"]

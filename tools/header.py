@@ -42,6 +42,8 @@ LISTS = {
         "type_of n =\n", " None\n", "\n", "    if nat_eq n {number} then Some (typed {key} {value}) else",
     ),
 }
+# The archived types that have other names.
+ARCHIVED = {"empty": "()"}
 # How docs/FORMAT.md writes the size of a type that isn't in its table.
 WORDS = {"eight": "8"}
 
@@ -65,8 +67,7 @@ def wants(place, text, by):
 def lists():
     """The types of maps by their numbers, in the header, in the source and in its contracts."""
     types = [
-        {"number": number, "name": name, "key": key.capitalize(), "value": value.capitalize()}
-        for number, (key, value, name) in enumerate(TYPES.pairs(), 1)
+        {"number": number, "name": name, "key": key.capitalize(), "value": value.capitalize()} for number, key, value, name in TYPES.maps()
     ]
     for place, (start, end, between, form) in LISTS.items():
         before, _, rest = (ROOT / place).read_text().partition(start)
@@ -86,7 +87,8 @@ def constants():
     refusals = SOURCE[SOURCE.index("pub fn refusal_of") :]
     for case, number in re.findall(r"Refusal::(\w+)[^=]*=> \((\d+),", refusals):
         source[REFUSALS[case]] = int(number)
-    header = {name: int(number) for name, number in re.findall(r"RKYV_BTREE_(\w+) = (\d+)", HEADER) if "_TO_" not in name}
+    named = {name for _, _, _, name in TYPES.maps()}
+    header = {name: int(number) for name, number in re.findall(r"RKYV_BTREE_(\w+) = (\d+)", HEADER) if name not in named}
     differs("constants", sorted(header.items()), sorted(source.items()))
 
 
@@ -147,10 +149,10 @@ def types():
     codes = set(re.findall(r"RKYV_BTREE_(\w+) = \d+", HEADER))
     differs("codes of bindings/types.json that aren't there", [], sorted(set().union(*TYPES.codes.values()) - codes))
     page = (ROOT / "docs" / "FORMAT.md").read_text()
-    for each in TYPES.each:
-        archived = f"Archived{each['name'].capitalize()}"
-        row = re.search(rf"^\|[^|]*`{archived}`[^|]*\|[^|]*\| (\d+) \| (\d+) \|", page, re.M)
-        words = re.search(rf"^`{archived}` is (\w+) bytes with alignment (\d+):", page, re.M)
+    for each in [*TYPES.each, TYPES.empty]:
+        archived = ARCHIVED.get(each["name"], f"Archived{each['name'].capitalize()}")
+        row = re.search(rf"^\|[^|]*`{re.escape(archived)}`[^|]*\|[^|]*\| (\d+) \| (\d+) \|", page, re.M)
+        words = re.search(rf"^`{re.escape(archived)}` is (\w+) bytes with alignment (\d+):", page, re.M)
         said = row.groups() if row else (WORDS.get(words[1]), words[2]) if words else None
         if said != (str(each["size"]), str(each["align"])):
             wrong.append(f"bindings/types.json has {each['size']} and {each['align']} as size and alignment of {each['name']}, docs/FORMAT.md {said}")

@@ -18,10 +18,10 @@ _Static_assert(sizeof(rkyv_btree_map) == 24 && offsetof(rkyv_btree_map, type) ==
 _Static_assert(sizeof(rkyv_btree_edit) == 24 && offsetof(rkyv_btree_edit, type) == 20, "edit");
 _Static_assert(sizeof(rkyv_btree_cursor) == 284 && offsetof(rkyv_btree_cursor, path) == 28, "cursor");
 
-enum { MOST = 1000, LAST = RKYV_BTREE_TEXT_TO_I64, NO_TYPE = LAST + 1 };
+enum { MOST = 1000, LAST = RKYV_BTREE_TEXT_SET, NO_TYPE = LAST + 1 };
 
-/* What the keys and the values of each type of maps are. */
-enum kind { NONE, U32, U64, I64, TEXT };
+/* What the keys and the values of each type of maps are. Some numbers before the last are no type's. */
+enum kind { NONE, U32, U64, I64, TEXT, EMPTY };
 static const struct {
     enum kind key, value;
 } kinds[LAST + 1] = {
@@ -30,7 +30,8 @@ static const struct {
     [RKYV_BTREE_U64_TO_I64] = {U64, I64},    [RKYV_BTREE_U64_TO_TEXT] = {U64, TEXT},  [RKYV_BTREE_I64_TO_U32] = {I64, U32},
     [RKYV_BTREE_I64_TO_U64] = {I64, U64},    [RKYV_BTREE_I64_TO_I64] = {I64, I64},    [RKYV_BTREE_I64_TO_TEXT] = {I64, TEXT},
     [RKYV_BTREE_TEXT_TO_U32] = {TEXT, U32},  [RKYV_BTREE_TEXT_TO_U64] = {TEXT, U64},  [RKYV_BTREE_TEXT_TO_I64] = {TEXT, I64},
-    [RKYV_BTREE_TEXT_TO_TEXT] = {TEXT, TEXT},
+    [RKYV_BTREE_TEXT_TO_TEXT] = {TEXT, TEXT}, [RKYV_BTREE_U32_SET] = {U32, EMPTY},      [RKYV_BTREE_U64_SET] = {U64, EMPTY},
+    [RKYV_BTREE_I64_SET] = {I64, EMPTY},     [RKYV_BTREE_TEXT_SET] = {TEXT, EMPTY},
 };
 
 /* Of lengths, keys and positions one in so many is taken. */
@@ -42,6 +43,7 @@ static size_t texts_len;
 
 static int has_texts_as_keys(uint32_t type) { return kinds[type].key == TEXT; }
 static int has_texts_as_values(uint32_t type) { return kinds[type].value == TEXT; }
+static int has_numbers_as_values(uint32_t type) { return kinds[type].value < TEXT; }
 
 static rkyv_btree_item text(const char *words, unsigned number) {
     rkyv_btree_item item = {0, (uint32_t)texts_len, 0};
@@ -60,7 +62,7 @@ static void give(uint32_t type, unsigned count) {
     texts_len = 0;
     for (unsigned i = 0; i < count; i++) {
         int64_t first = kinds[type].key == I64 ? -2 * (int64_t)(count / 2) : 0;
-        int64_t value = kinds[type].value == I64 ? -7 * (int64_t)i : 7 * (int64_t)i;
+        int64_t value = kinds[type].value == EMPTY ? 0 : kinds[type].value == I64 ? -7 * (int64_t)i : 7 * (int64_t)i;
         given[i].key = has_texts_as_keys(type) ? text("key %05u", i) : number((uint64_t)(first + 2 * (int64_t)i));
         given[i].value = has_texts_as_values(type) ? text("value %u", i) : number((uint64_t)value);
     }
@@ -86,7 +88,7 @@ static rkyv_btree_column column(enum kind kind, unsigned count, int are_values, 
             memcpy(offsets + offset_size * i, &start, offset_size);
             memcpy(room + start, texts + item.start, item.len);
             all.data_len += item.len;
-        } else {
+        } else if (kind != EMPTY) {
             memcpy(room + start, &item.number, width);
             all.data_len += width;
         }
@@ -115,7 +117,7 @@ static void columns(uint32_t type, unsigned count, const uint8_t *data, size_t d
         assert(memcmp(out, data, len) == 0);
         if (count == 0) continue;
         rkyv_btree_column *const both[2] = {&keys, &values};
-        for (int i = 0; i < 2; i++) {
+        for (int i = 0; i < (kinds[type].value == EMPTY ? 1 : 2); i++) {
             size_t *shorter = both[i]->offset_size == 0 ? &both[i]->data_len : &both[i]->offsets_len;
             --*shorter;
             assert(rkyv_btree_build_arrays(type, count, &keys, &values, out, sizeof out, &len, &why) == RKYV_BTREE_BAD_ITEM);
@@ -259,6 +261,7 @@ static void edits(void) {
     rkyv_btree_entry entry = {0};
     size_t len = 0;
     for (uint32_t type = 1; type <= LAST; type++) {
+        if (kinds[type].key == NONE) continue;
         give(type, 100);
         uint8_t *data = build(type, 100, &len);
         rkyv_btree_edit edit = RKYV_BTREE_EDIT(data, len);
@@ -271,12 +274,12 @@ static void edits(void) {
             uint32_t code = has_texts_as_keys(type)
                                 ? rkyv_btree_set_text(&edit, texts + given[i].key.start, given[i].key.len, i + 1)
                                 : rkyv_btree_set_number(&edit, given[i].key.number, i + 1);
-            assert(code == (has_texts_as_values(type) ? RKYV_BTREE_BAD_VALUE : RKYV_BTREE_OK));
+            assert(code == (has_numbers_as_values(type) ? RKYV_BTREE_OK : RKYV_BTREE_BAD_VALUE));
             if (code == RKYV_BTREE_OK) given[i].value.number = i + 1;
             assert(rkyv_btree_read_edit(&map, &edit) == RKYV_BTREE_OK);
             assert(get(&map, given[i].key, &entry) == RKYV_BTREE_OK && same(data, entry.value, given[i].value));
         }
-        if (!has_texts_as_values(type)) assert(rkyv_btree_set_number(&edit, 1, 1) == RKYV_BTREE_NOT_FOUND);
+        if (has_numbers_as_values(type)) assert(rkyv_btree_set_number(&edit, 1, 1) == RKYV_BTREE_NOT_FOUND);
         if (kinds[type].value == U32) assert(rkyv_btree_set_number(&edit, 2, UINT64_MAX) == RKYV_BTREE_BAD_VALUE);
         assert(rkyv_btree_open(&map, type, data, len, &why) == RKYV_BTREE_OK);
         for (unsigned i = 0; i < 100; i++) {
@@ -284,6 +287,24 @@ static void edits(void) {
         }
         free(data);
     }
+}
+
+/* What is given as the value of an entry of a set isn't read, and what is read is zeros. */
+static void sets(void) {
+    rkyv_btree_entry odd[2] = {{{1, 0, 0}, {7, 8, 9}}, {{2, 0, 0}, {UINT64_MAX, UINT32_MAX, 1}}}, found = {0};
+    const rkyv_btree_item zeros = {0};
+    const rkyv_btree_column keys = {(const uint8_t *)"\1\0\0\0\2\0\0", 8, NULL, 0, 0}, odd_values = {NULL, 0, NULL, 0, 77};
+    rkyv_btree_refusal why = {0};
+    rkyv_btree_map map = {0};
+    uint8_t data[128] = {0}, same_data[128] = {0};
+    size_t len = 0, same_len = 0;
+    assert(rkyv_btree_build_strict(RKYV_BTREE_U32_SET, odd, 2, NULL, 0, data, sizeof data, &len, &why) == RKYV_BTREE_OK);
+    assert(rkyv_btree_build_arrays(RKYV_BTREE_U32_SET, 2, &keys, &odd_values, same_data, sizeof data, &same_len, &why) == RKYV_BTREE_OK);
+    assert(len == same_len && memcmp(data, same_data, len) == 0);
+    assert(rkyv_btree_open_strict(&map, RKYV_BTREE_U32_SET, data, len, &why) == RKYV_BTREE_OK);
+    assert(rkyv_btree_get_number(&map, 2, &found) == RKYV_BTREE_OK && found.key.number == 2);
+    assert(memcmp(&found.value, &zeros, sizeof zeros) == 0);
+    assert(rkyv_btree_get_number(&map, 3, &found) == RKYV_BTREE_NOT_FOUND);
 }
 
 static void misuse(void) {
@@ -433,12 +454,14 @@ static void save(const char *name, uint32_t type) {
 int main(int count_of_words, char **words) {
     if (count_of_words > 1 && strcmp(words[1], "short") == 0) step = 31;
     for (uint32_t type = 1; type <= LAST; type++) {
+        if (kinds[type].key == NONE) continue;
         for (unsigned count = 0; count <= 220; count += step) one_type(type, count);
         if (step == 1) one_type(type, MOST);
         for (unsigned count = 0; count <= MOST; count += step + count / 3) pieces(type, count);
         unvalidated(type);
     }
     edits();
+    sets();
     misuse();
     forged();
     messages();

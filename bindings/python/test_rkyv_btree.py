@@ -11,9 +11,9 @@ import tempfile
 import unittest
 
 import rkyv_btree
-from rkyv_btree import Edit, Error, Map, build, build_arrays, find
+from rkyv_btree import Edit, Error, Map, Set, build, build_arrays, build_set, contains, find
 from rkyv_btree._nodes import Layout
-from rkyv_btree._raw import BAD_TYPE, NUMBERS, TYPES
+from rkyv_btree._raw import BAD_TYPE, EMPTY, NUMBERS, TYPES
 
 VALUES = {
     "u32": [0, 1, 7, 2**31, 2**32 - 1],
@@ -46,6 +46,35 @@ class Maps(unittest.TestCase):
                 for high in (0, length, 2 * length, 3 * length):
                     wanted = [e for e in entries if low <= e[0] < high]
                     self.assertEqual(list(found[low:high]), wanted)
+
+    def test_sets(self):
+        for key_type, keys in VALUES.items():
+            for length in range(len(keys) + 1):
+                data = build_set(key_type, keys[:length], strict=True)
+                found = Set(data, key_type, strict=True)
+                self.assertEqual((list(found), len(found)), (keys[:length], length))
+                for key in [*keys, None, -(2**70), 1.5]:
+                    self.assertEqual(key in found, key in keys[:length])
+                    self.assertEqual(contains(data, key_type, key), key in keys[:length])
+                self.assertEqual(list(found[keys[1] :]), keys[1:length])
+                self.assertEqual(found & set(keys[:2]), set(keys[: min(length, 2)]))
+        unordered = Set(build_set("u32", [3, 1, 2, 1]), "u32")
+        self.assertEqual((list(unordered), 1 in unordered, 3 in unordered, 4 in unordered), ([3, 1, 2, 1], True, True, False))
+        with self.assertRaises(Error) as caught:
+            build_set("u32", [2, 1], strict=True)
+        self.assertEqual(caught.exception.found, 1)
+        for wrong in (lambda: Map(build_set("u32", [1]), "u32", "empty"), lambda: Set(b"", "empty"), lambda: Set(b"", "u32")):
+            with self.assertRaises(ValueError):
+                wrong()
+        with self.assertRaises(TypeError):
+            unordered[1]
+        with tempfile.NamedTemporaryFile() as file:
+            file.write(build_set("text", ["a", "b"]))
+            file.flush()
+            with Set.from_file(file.name, "text") as mapped:
+                self.assertEqual((sorted(mapped), repr(mapped)), (["a", "b"], "<rkyv_btree.Set of text, len 2>"))
+            with self.assertRaises(Error):
+                len(mapped)
 
     def test_signed_keys(self):
         entries = [(3 * n, -n) for n in range(-300, 300)]
@@ -452,9 +481,16 @@ class Maps(unittest.TestCase):
 
     def test_table_of_types(self):
         self.assertEqual(list(VALUES), list(TYPES))
-        self.assertEqual(set(NUMBERS), set(itertools.product(TYPES, TYPES)))
-        self.assertEqual(list(NUMBERS.values()), list(range(1, len(NUMBERS) + 1)))
+        self.assertEqual(set(NUMBERS), set(itertools.product(TYPES, [*TYPES, EMPTY])))
+        self.assertEqual(len(set(NUMBERS.values())), len(NUMBERS))
         for (key_type, value_type), number in NUMBERS.items():
+            if value_type == EMPTY:
+                data = build_set(key_type, VALUES[key_type])
+                texts = sum(len(key.encode()) for key in VALUES[key_type] if isinstance(key, str))
+                layout = Layout(key_type, EMPTY, len(data))
+                self.assertEqual(len(data), -(-texts // layout.align) * layout.align + layout.leaf_size + 8)
+                self.assertEqual(Set(data, key_type)._map._map.type, number)
+                continue
             entry = VALUES[key_type][1], VALUES[value_type][1]
             data = build(key_type, value_type, [entry])
             texts = sum(len(part) for part in entry if isinstance(part, str))

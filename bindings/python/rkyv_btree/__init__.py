@@ -1,4 +1,4 @@
-"""Archived B-tree maps of numbers and texts, read in place from bytes or a mapped file.
+"""Archived B-tree maps and sets of numbers and texts, read in place from bytes or a mapped file.
 
     >>> data = build("text", "u32", [("apple", 3), ("pear", 5)])
     >>> prices = Map(data, "text", "u32")
@@ -17,6 +17,7 @@ import pathlib
 import struct
 from array import array
 from collections.abc import ItemsView, Iterable, Iterator, Mapping, ValuesView
+from collections.abc import Set as AbstractSet
 from itertools import accumulate, islice
 from typing import Any, Union, overload
 
@@ -28,6 +29,8 @@ from ._raw import (
     AT_POSITION,
     BAD_ITEM,
     BAD_VALUE,
+    EMPTY,
+    LAYOUTS,
     NO_ROOM,
     NOT_FOUND,
     NOT_OPEN,
@@ -46,7 +49,7 @@ from ._raw import (
     declared,
 )
 
-__all__ = ["Edit", "Error", "Map", "build", "build_arrays", "find"]
+__all__ = ["Edit", "Error", "Map", "Set", "build", "build_arrays", "build_set", "contains", "find"]
 __version__ = "0.1.0"
 
 Key = Union[int, str]
@@ -60,7 +63,7 @@ _CHUNK = 8192
 
 # How the six numbers of an entry are read: of the key, and then of the value, a number, where a text begins, and how many bytes it has.
 def _entry_of(types: tuple[Type, Type]) -> struct.Struct:
-    return struct.Struct("<{}II{}II".format(*("q" if TYPES[kind][2] == "q" else "Q" for kind in types)))
+    return struct.Struct("<{}II{}II".format(*("q" if LAYOUTS[kind][2] == "q" else "Q" for kind in types)))
 
 
 _ENTRIES = {types: _entry_of(types) for types in NUMBERS}
@@ -122,17 +125,27 @@ class Error(ValueError):
         self.code, self.at, self.found, self.allowed = code, at, found, allowed
 
 
-def _number_of(key_type: str, value_type: str) -> int:
-    for name in (key_type, value_type):
+def _known(*types: str) -> None:
+    """Raises ValueError if one isn't the name of a type."""
+    for name in types:
         if name not in TYPES:
             *others, last = map(repr, TYPES)
             raise ValueError(f"a type must be {', '.join(others)} or {last}, not {name!r}")
+
+
+def _number_of(key_type: str, value_type: str) -> int:
+    _known(key_type, value_type)
     return NUMBERS[key_type, value_type]
+
+
+def _set_number_of(key_type: str) -> int:
+    _known(key_type)
+    return NUMBERS[key_type, EMPTY]
 
 
 def _limits_of(kind: str) -> tuple[int, int]:
     """Returns the least number of a type, and the least that is past all its numbers."""
-    size, _, form = TYPES[kind]
+    size, _, form = LAYOUTS[kind]
     least = -(1 << 8 * size - 1) if form == "q" else 0
     return least, least + (1 << 8 * size)
 
@@ -260,7 +273,7 @@ class Map(Mapping):
 
     def _describe(self, view: memoryview, key_type: str, value_type: str) -> int:
         """Sets what doesn't depend on the bytes, with a map that isn't open. Returns the number of the type."""
-        number = _number_of(key_type, value_type)
+        number = self._type_number(key_type, value_type)
         self._view, self._map, self._types = view, _Map(), (key_type, value_type)
         self._texts = (key_type == "text", value_type == "text")
         self._least, self._limit = _limits_of(key_type)
@@ -268,6 +281,10 @@ class Map(Mapping):
         # What the keys that the map gives have, as long as their values are those of the map.
         self._token = object()
         return number
+
+    @staticmethod
+    def _type_number(key_type: str, value_type: str) -> int:
+        return _number_of(key_type, value_type)
 
     def close(self) -> None:
         """Closes the map, and the file that it has mapped. After that each call raises Error, and `close` does nothing."""
@@ -412,6 +429,77 @@ class Map(Mapping):
             room = min(4 * room, _LAST_BATCH)
 
 
+class _Members(Map):
+    """The map behind a set, whose values have no bytes."""
+
+    @staticmethod
+    def _type_number(key_type: str, value_type: str) -> int:
+        return _set_number_of(key_type)
+
+
+class Set(AbstractSet):
+    """The set of a whole archive, in bytes or in a mapped file.
+
+    It has the calls of a set. A slice of keys, as `fruit["b":"d"]`, is an iterator over the keys from the first one up to before the second.
+    `strict=True` refuses archives whose keys don't increase. In others `in` goes through all keys.
+
+    A set is closed by `close`, or at the end of a `with`. Close it while no other thread uses it.
+
+        >>> fruit = Set(build_set("text", ["apple", "pear"]), "text")
+        >>> "pear" in fruit, "fig" in fruit, len(fruit), list(fruit["b":])
+        (True, False, 2, ['pear'])
+    """
+
+    def __init__(self, data: bytes, key_type: Type, strict: bool = False) -> None:
+        """Validates `data`. Raises Error if it is no set of this type."""
+        self._map: Map = _Members(data, key_type, EMPTY, strict)
+
+    @classmethod
+    def from_file(cls, path: Union[str, os.PathLike], key_type: Type, strict: bool = False) -> Set:
+        """Maps a file and validates it. The file must not change while the set is used."""
+        self = cls.__new__(cls)
+        self._map = _Members.from_file(path, key_type, EMPTY, strict)
+        return self
+
+    @classmethod
+    def _from_iterable(cls, keys: Iterable[Key]) -> set[Key]:
+        return set(keys)
+
+    def close(self) -> None:
+        """Closes the set, and the file that it has mapped. After that each call raises Error, and `close` does nothing."""
+        self._map.close()
+
+    def __repr__(self) -> str:
+        """Returns the type of the keys and their number."""
+        state = f"len {len(self)}" if self._map._map.type else "closed"
+        return f"<rkyv_btree.{type(self).__name__} of {self._map._types[0]}, {state}>"
+
+    def __enter__(self) -> Set:
+        """Returns the set, which is closed at the end of the `with`."""
+        return self
+
+    def __exit__(self, *error: object) -> None:
+        self.close()
+
+    def __len__(self) -> int:
+        """Returns the number of keys."""
+        return len(self._map)
+
+    def __contains__(self, key: object) -> bool:
+        """Returns whether the set has a key."""
+        return key in self._map if self._map._increases() else any(key == it for it in self)
+
+    def __iter__(self) -> Iterator[Key]:
+        """Returns an iterator over the keys, in their order."""
+        return self[:]
+
+    def __getitem__(self, keys: slice) -> Iterator[Key]:
+        """Returns an iterator over the keys of a slice."""
+        if not isinstance(keys, slice):
+            raise TypeError("a set has slices of keys, and no values")
+        return (key for key, _ in self._map[keys])
+
+
 class Edit(Map):
     """The map of a whole archive in a buffer that can be written. `prices["pear"] = 6` overwrites the value of a key that is there.
 
@@ -493,7 +581,11 @@ def find(data: Any, key_type: Type, value_type: Type, key: Key) -> Union[Value, 
         >>> find(build("text", "u32", [("apple", 3), ("pear", 5)]), "text", "u32", "pear")
         5
     """
-    entry, why, number = _Entry(), _Refusal(), _number_of(key_type, value_type)
+    return _found(data, _number_of(key_type, value_type), key_type, value_type, key)
+
+
+def _found(data: Any, number: int, key_type: str, value_type: str, key: Key) -> Union[Value, None]:
+    entry, why = _Entry(), _Refusal()
     with memoryview(data) as view:
         address = _address_of(view)
         if key_type == "text":
@@ -513,6 +605,18 @@ def find(data: Any, key_type: Type, value_type: Type, key: Key) -> Union[Value, 
         if value_type == "text":
             return ctypes.string_at(address + entry.value.start, entry.value.len).decode()
         return _number_in(entry.value.number, value_type)
+
+
+def contains(data: Any, key_type: Type, key: Key) -> bool:
+    """Returns whether a key is in bytes that nobody has validated, as the archive of a set. The lookup validates what it reads.
+
+    `data` is as of `find`. On the archive of a set whose keys increase that is what `key in Set(data, key_type)` returns. On other bytes False
+    doesn't mean that the key is absent. Raises Error for a fault in what the lookup reads.
+
+        >>> contains(build_set("text", ["apple", "pear"]), "text", "pear")
+        True
+    """
+    return _found(data, _set_number_of(key_type), key_type, EMPTY, key) is not None
 
 
 class _Numbers:
@@ -575,6 +679,10 @@ class _Texts:
         return len(self.data) + 8 * len(self.ends)
 
 
+def _started(kind: str, name: str) -> Union[_Numbers, _Texts]:
+    return _Texts(name) if kind == "text" else _Numbers(kind, name)
+
+
 def _built(number: int, count: int, keys: _Column, values: _Column, bytes_len: int, strict: bool) -> bytes:
     """Returns the archive of two columns, which are `bytes_len` bytes long in it."""
     call = _lib.build_arrays_strict if strict else _lib.build_arrays
@@ -601,16 +709,24 @@ def build(
     number = _number_of(key_type, value_type)
     if isinstance(entries, Mapping):
         entries = entries.items()
-
-    def started(kind: str, name: str) -> Union[_Numbers, _Texts]:
-        return _Texts(name) if kind == "text" else _Numbers(kind, name)
-
-    keys, values, count, rest = started(key_type, "a key"), started(value_type, "a value"), 0, iter(entries)
+    keys, values, count, rest = _started(key_type, "a key"), _started(value_type, "a value"), 0, iter(entries)
     while chunk := list(islice(rest, _CHUNK)):
         keys.extend([key for key, _ in chunk], count)
         values.extend([value for _, value in chunk], count)
         count += len(chunk)
     return _built(number, count, keys.column(), values.column(), len(keys) + len(values), strict)
+
+
+def build_set(key_type: Type, keys: Iterable[Key], strict: bool = False) -> bytes:
+    """Returns the archive of a set of keys, in their order. Raises as `build` does.
+
+    `keys` is any iterable. Keys that are there twice stay so, unless `strict` refuses them.
+    """
+    number, column, count, rest = _set_number_of(key_type), _started(key_type, "a key"), 0, iter(keys)
+    while chunk := list(islice(rest, _CHUNK)):
+        column.extend(chunk, count)
+        count += len(chunk)
+    return _built(number, count, column.column(), _Column(), len(column), strict)
 
 
 class _Buffers:

@@ -6,7 +6,7 @@ import struct
 from typing import NamedTuple, Union
 
 from . import Error, Key, Type
-from ._raw import BAD_ENTRY, BAD_KIND, INVALID_LENGTH, MISALIGNED, OUT_OF_RANGE, TYPES
+from ._raw import BAD_ENTRY, BAD_KIND, INVALID_LENGTH, LAYOUTS, MISALIGNED, OUT_OF_RANGE
 
 ENTRIES = 5
 # More levels than any archive has that the library opens.
@@ -43,7 +43,7 @@ class Layout:
 
     def __init__(self, key_type: Type, value_type: Type, size: int) -> None:
         self.types, self.size = (key_type, value_type), size
-        (key_size, key_align, _), (value_size, value_align, _) = TYPES[key_type], TYPES[value_type]
+        (key_size, key_align, _), (value_size, value_align, _) = LAYOUTS[key_type], LAYOUTS[value_type]
         both = max(key_align, value_align)
         self.keys_at = _up(1, key_align)
         self.values_at = _up(self.keys_at + ENTRIES * key_size, value_align)
@@ -90,7 +90,7 @@ class Layout:
 
     def _items(self, kind: Type, pos: int, data: bytes, at: int) -> list[Item]:
         if kind != "text":
-            return list(struct.unpack_from(f"<{ENTRIES}{TYPES[kind][2]}", data, at))
+            return list(struct.unpack_from(f"<{ENTRIES}{LAYOUTS[kind][2]}", data, at))
         fields = struct.unpack_from("<" + "iI" * ENTRIES, data, at)
         return [Text(pos + at + 8 * i + fields[2 * i], fields[2 * i + 1]) for i in range(ENTRIES)]
 

@@ -46,6 +46,10 @@ I64_TO_U64 = 13
 I64_TO_I64 = 14
 I64_TO_TEXT = 15
 TEXT_TO_I64 = 16
+U32_SET = 26
+U64_SET = 27
+I64_SET = 28
+TEXT_SET = 29
 
 Type = Literal["u32", "u64", "i64", "text"]
 # Of each type its size and its alignment in an archive, and the format of its numbers. A text has none.
@@ -55,6 +59,9 @@ TYPES = {
     "i64": (8, 8, "q"),
     "text": (8, 4, ""),
 }
+# The same of the values of a set, which have no bytes.
+EMPTY = "empty"
+LAYOUTS = {**TYPES, EMPTY: (0, 1, "")}
 # The number of the type of a map, of the types of its keys and its values.
 NUMBERS = {
     ("u32", "u32"): U32_TO_U32,
@@ -73,6 +80,10 @@ NUMBERS = {
     ("i64", "i64"): I64_TO_I64,
     ("i64", "text"): I64_TO_TEXT,
     ("text", "i64"): TEXT_TO_I64,
+    ("u32", "empty"): U32_SET,
+    ("u64", "empty"): U64_SET,
+    ("i64", "empty"): I64_SET,
+    ("text", "empty"): TEXT_SET,
 }
 # The codes of errors that are at a position.
 AT_POSITION = (OUT_OF_RANGE, MISALIGNED, BAD_KIND, BAD_ENTRY, TOO_DEEP)

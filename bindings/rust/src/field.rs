@@ -18,6 +18,12 @@ impl AsKey<&str> for str {}
 impl AsKey<&str> for String {}
 impl<K, Q: AsKey<K> + ?Sized> AsKey<K> for &Q {}
 
+/// The value of an entry of a set, which has no bytes.
+#[derive(Clone, Copy)]
+pub struct Nothing;
+
+impl<'a> Field<'a> for Nothing {}
+
 /// A type of values that are overwritten.
 pub trait Number: sealed::Wide {}
 
@@ -26,7 +32,7 @@ impl Number for u64 {}
 impl Number for i64 {}
 
 pub(crate) mod sealed {
-    use super::{Column, Item, Type};
+    use super::{Column, Item, Nothing, Type};
     use std::ptr;
 
     /// What is asked for in a map.
@@ -260,6 +266,22 @@ pub(crate) mod sealed {
         fn put(self, cells: &mut Cells) {
             cells.number(&self.to_le_bytes());
         }
+    }
+
+    impl<'a> Stored<'a> for Nothing {
+        const TYPE: Type = Type::Empty;
+        type At<'s> = Nothing;
+        type Owned = Nothing;
+
+        fn owned(_datum: Datum) -> Nothing {
+            Nothing
+        }
+
+        fn read(_data: &'a [u8], _item: Item) -> Nothing {
+            Nothing
+        }
+
+        fn put(self, _cells: &mut Cells) {}
     }
 
     impl<'a> Stored<'a> for &'a str {

@@ -1,4 +1,4 @@
-//! Archived B-tree maps of numbers and texts, in bytes that are validated once and then read in place.
+//! Archived B-tree maps and sets of numbers and texts, in bytes that are validated once and then read in place.
 //!
 //! ```
 //! # fn main() -> Result<(), rkyv_btree::Error> {
@@ -15,6 +15,7 @@ mod map;
 mod nodes;
 mod raw;
 mod remote;
+mod set;
 mod sha256;
 mod top;
 
@@ -26,4 +27,5 @@ pub use field::{AsKey, Number};
 pub use find::find;
 pub use map::{Iter, Keys, Map, Range, Values};
 pub use remote::{ReadRange, Remote, RemoteError, RemoteRange};
+pub use set::{contains, Set, SetBuilder, SetIter, SetRange};
 pub use top::{Top, TopError};

@@ -81,6 +81,11 @@ impl<'a, K: Field<'a>, V: Field<'a>> Map<'a, K, V> {
 
     /// Returns the value of a key. If the keys don't increase, a key may be there and not be found.
     pub fn get(&self, key: impl AsKey<K>) -> Option<V> {
+        self.get_key_value(key).map(|entry| entry.1)
+    }
+
+    /// Returns the map's own key that is equal to a key, and its value. If the keys don't increase, a key may be there and not be found.
+    pub fn get_key_value(&self, key: impl AsKey<K>) -> Option<(K, V)> {
         let mut entry = raw::Entry::default();
         let code = match key.query().passed() {
             // SAFETY: the map is open.
@@ -92,7 +97,7 @@ impl<'a, K: Field<'a>, V: Field<'a>> Map<'a, K, V> {
                 raw::rkyv_btree_get_text(&self.raw, text.as_ptr(), text.len(), &mut entry)
             },
         };
-        (code == raw::OK).then(|| V::read(self.data, entry.value))
+        (code == raw::OK).then(|| (K::read(self.data, entry.key), V::read(self.data, entry.value)))
     }
 
     /// Returns whether the map has a key.

@@ -167,6 +167,7 @@ fn cells(kind: Type, pos: u64, data: &[u8], at: u64, len: u64) -> Vec<Cell> {
     let places = (0..len).map(|n| at + n * size);
     match kind {
         Type::U32 | Type::U64 => places.map(|place| Cell::Number(number(data, place, size))).collect(),
+        Type::Empty => places.map(|_| Cell::Number(0)).collect(),
         Type::I64 => places.map(|place| Cell::Signed(number(data, place, size) as i64)).collect(),
         Type::Text => places
             .map(|place| Cell::Text {

@@ -41,6 +41,10 @@ pub const I64_TO_U64: u32 = 13;
 pub const I64_TO_I64: u32 = 14;
 pub const I64_TO_TEXT: u32 = 15;
 pub const TEXT_TO_I64: u32 = 16;
+pub const U32_SET: u32 = 26;
+pub const U64_SET: u32 = 27;
+pub const I64_SET: u32 = 28;
+pub const TEXT_SET: u32 = 29;
 
 /// A type of keys or of values.
 #[derive(Clone, Copy, Debug, PartialEq, Eq)]
@@ -49,11 +53,10 @@ pub enum Type {
     U64,
     I64,
     Text,
+    Empty,
 }
 
 impl Type {
-    /// All types.
-    pub const ALL: [Type; 4] = [Type::U32, Type::U64, Type::I64, Type::Text];
 
     /// Returns its name.
     pub const fn name(self) -> &'static str {
@@ -62,6 +65,7 @@ impl Type {
             Type::U64 => "u64",
             Type::I64 => "i64",
             Type::Text => "text",
+            Type::Empty => "empty",
         }
     }
 
@@ -72,11 +76,12 @@ impl Type {
             Type::U64 => (8, 8),
             Type::I64 => (8, 8),
             Type::Text => (8, 4),
+            Type::Empty => (0, 1),
         }
     }
 }
 
-/// Returns the number of the type of a map.
+/// Returns the number of the type of a map. No map has keys of the empty type.
 pub const fn number_of(key: Type, value: Type) -> u32 {
     match (key, value) {
         (Type::U32, Type::U32) => U32_TO_U32,
@@ -95,6 +100,11 @@ pub const fn number_of(key: Type, value: Type) -> u32 {
         (Type::I64, Type::I64) => I64_TO_I64,
         (Type::I64, Type::Text) => I64_TO_TEXT,
         (Type::Text, Type::I64) => TEXT_TO_I64,
+        (Type::U32, Type::Empty) => U32_SET,
+        (Type::U64, Type::Empty) => U64_SET,
+        (Type::I64, Type::Empty) => I64_SET,
+        (Type::Text, Type::Empty) => TEXT_SET,
+        (Type::Empty, _) => 0,
     }
 }
 

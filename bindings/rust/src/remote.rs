@@ -4,7 +4,7 @@ mod pieces;
 
 use crate::error::Error;
 use crate::field::sealed::Query;
-use crate::field::{AsKey, Field};
+use crate::field::{AsKey, Field, Nothing};
 use crate::map::type_number;
 use crate::raw;
 use crate::top::{Kept, Top, TopError};
@@ -158,6 +158,15 @@ impl<R: ReadRange> Remote<R> {
         };
         self.blocks.shrink();
         Ok(found.map(|value| V::read(&self.room, value)))
+    }
+
+    /// Returns whether a set has a key.
+    ///
+    /// # Errors
+    ///
+    /// As of `get`.
+    pub fn contains<'s, K: Field<'s>>(&'s mut self, key: impl AsKey<K>) -> Result<bool, RemoteError<R::Error>> {
+        Ok(self.get::<K, Nothing>(key)?.is_some())
     }
 
     /// Returns the values of keys, in the order of the keys. All lookups go on together: each block is read once for all of them. Texts

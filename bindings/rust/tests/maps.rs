@@ -1,6 +1,6 @@
 //! Maps of each type of key and value, built and read back, and bytes that are no map.
-use rkyv_btree::{find, Builder, Edit, Error, Field, Map};
-use std::collections::BTreeMap;
+use rkyv_btree::{contains, find, Builder, Edit, Error, Field, Map, Set, SetBuilder};
+use std::collections::{BTreeMap, BTreeSet};
 
 fn given_back<'a, K: Field<'a> + Ord + std::fmt::Debug, V: Field<'a> + PartialEq + std::fmt::Debug>(
     entries: &[(K, V)],
@@ -97,6 +97,39 @@ fn signed_keys() {
     let mut edit = Edit::<i64, i64>::open(&mut bytes).unwrap();
     assert!(edit.set(-3, i64::MIN) && !edit.set(-2, 1));
     assert_eq!((edit.get(-3), edit.get(3)), (Some(i64::MIN), Some(-1)));
+}
+
+fn set_given_back<'a, K: Field<'a> + Ord + std::fmt::Debug>(keys: &[K], bytes: &'a mut Vec<u8>) {
+    *bytes = keys.iter().copied().collect::<SetBuilder<K>>().build_strict().unwrap();
+    let set = Set::<K>::open_strict(bytes).unwrap();
+    assert_eq!((set.len(), set.is_empty(), set.iter().len()), (keys.len(), keys.is_empty(), keys.len()));
+    assert!(set.iter().eq(keys.iter().copied()) && set.into_iter().eq(keys.iter().copied()));
+}
+
+#[test]
+fn sets() {
+    let texts: Vec<String> = (0..300).map(|n| format!("key {n:05}")).collect();
+    for len in [0, 1, 5, 6, 300] {
+        let mut bytes = vec![Vec::new(); 4];
+        let [a, b, c, d] = &mut bytes[..] else { panic!() };
+        set_given_back(&(0..len as u32).collect::<Vec<_>>(), a);
+        set_given_back(&(0..len as u64).map(|n| n << 40).collect::<Vec<_>>(), b);
+        set_given_back(&(0..len as i64).map(|n| n - 100).collect::<Vec<_>>(), c);
+        set_given_back(&texts[..len].iter().map(String::as_str).collect::<Vec<_>>(), d);
+    }
+    let bytes = (-50..50i64).map(|n| 2 * n).collect::<SetBuilder<_>>().build().unwrap();
+    let set = Set::<i64>::open(&bytes).unwrap();
+    let std: BTreeSet<i64> = set.iter().collect();
+    for key in -102..102 {
+        assert_eq!((set.contains(key), set.get(key)), (std.contains(&key), std.get(&key).copied()));
+        assert_eq!(contains::<i64>(&bytes, key).unwrap(), std.contains(&key));
+        assert!(set.range(key..).eq(std.range(key..).copied()));
+    }
+    assert_eq!(contains::<i64>(&bytes[..6], 0).unwrap_err().code(), 1);
+    assert_eq!(SetBuilder::from_iter([2u32, 1]).build_strict().unwrap_err().found(), 1);
+    let few = SetBuilder::from_iter(["a", "b"]).build().unwrap();
+    assert_eq!(format!("{:?}", Set::<&str>::open(&few).unwrap()), "{\"a\", \"b\"}");
+    assert!(Map::<&str, u32>::open(&few).is_err());
 }
 
 #[test]

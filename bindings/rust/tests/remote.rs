@@ -1,5 +1,5 @@
 //! Lookups in an archive that lies elsewhere, and the reads that they make.
-use rkyv_btree::{find, AsKey, Builder, Error, Field, Map, ReadRange, Remote, RemoteError, Top, TopError};
+use rkyv_btree::{find, AsKey, Builder, Error, Field, Map, ReadRange, Remote, RemoteError, SetBuilder, Top, TopError};
 use std::fmt::Debug;
 use std::io::{self, Write};
 use std::ops::Bound;
@@ -209,6 +209,15 @@ fn ranges() {
                 }
             }
         }
+    }
+}
+
+#[test]
+fn sets() {
+    let data = (0..2000u32).map(|n| 2 * n).collect::<SetBuilder<_>>().build_strict().unwrap();
+    let mut remote = counted(&data, 64, 2);
+    for key in (0..4002).step_by(37) {
+        assert_eq!(remote.contains::<u32>(key), Ok(key < 4000 && key % 2 == 0));
     }
 }
 

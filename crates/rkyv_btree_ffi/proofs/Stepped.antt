@@ -23,7 +23,7 @@ use Rattle.rkyv_btree_ffi.specs.Pieces.{Steps, StepsOf, IsLack, IsMissingPart, P
 use Rattle.rkyv_btree_ffi.specs.declared.codes.BtreeRefusal.{BtreeRefusal}
 use Rattle.rkyv_btree_ffi.specs.declared.item.BtreeItem.{BtreeItem}
 use Rattle.rkyv_btree_ffi.specs.declared.map_type.ItemType.{ItemType}
-use Rattle.rkyv_btree_ffi.specs.declared.map_type.ItemType.TheVariants.{U32, U64, I64, Text}
+use Rattle.rkyv_btree_ffi.specs.declared.map_type.ItemType.TheVariants.{U32, U64, I64, Text, Empty}
 use Rattle.rkyv_btree_ffi.specs.declared.map_type.MapType.{MapType}
 
 -- bytes of the first part of a buffer
@@ -44,6 +44,7 @@ in_front U32 first rest at item value h same = subst (λ (v : ℕ). IsNumberItem
 in_front U64 first rest at item value h same = subst (λ (v : ℕ). IsNumberItem v item) same h
 in_front I64 first rest at item value h same = subst (λ (v : ℤ). IsNumberItem (cast_unsigned w64 v) item) same h
 in_front Text first rest at item value h same = text_in_front first rest value item (subst (λ (v : List ℕ). IsTextItem first v item) same h)
+in_front Empty first rest at item value h same = h
 
 -- at a map's type
 pub steps_of : (t : MapType) (b buffer : List ℕ) (comparison : (key_kind t).Value → Ordering) (r : Result (Option BtreeItem) (SourceFault Missing))

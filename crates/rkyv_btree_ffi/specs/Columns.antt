@@ -5,7 +5,7 @@ use Rattle.rkyv_btree_portable.specs.Bytes.{bytes_at, number_at}
 use Rattle.rkyv_btree_ffi.specs.Items.{kind_at, Native, native_value}
 use Rattle.rkyv_btree_ffi.specs.declared.column.BtreeColumn.{BtreeColumn}
 use Rattle.rkyv_btree_ffi.specs.declared.map_type.ItemType.{ItemType}
-use Rattle.rkyv_btree_ffi.specs.declared.map_type.ItemType.TheVariants.{U32, U64, I64, Text}
+use Rattle.rkyv_btree_ffi.specs.declared.map_type.ItemType.TheVariants.{U32, U64, I64, Text, Empty}
 
 module _ (c : BtreeColumn) (i : ℕ) where
   -- where the text at an index begins, and where the text before it ends
@@ -33,6 +33,7 @@ IsCell U32 c i = 4 * i + 4 ≤ length c.buf.now
 IsCell U64 c i = 8 * i + 8 ≤ length c.buf.now
 IsCell I64 c i = 8 * i + 8 ≤ length c.buf.now
 IsCell Text c i = IsText c i
+IsCell Empty c i = Unit {0}
 
 -- the key or the value that it is
 abbrev pub cell_value : (t : ItemType) → BtreeColumn → ℕ → (kind_at t).Value
@@ -40,6 +41,7 @@ cell_value U32 c i = number_at c.buf.now (4 * i) 4
 cell_value U64 c i = number_at c.buf.now (8 * i) 8
 cell_value I64 c i = cast_signed w64 (number_at c.buf.now (8 * i) 8)
 cell_value Text c i = text_in c i
+cell_value Empty c i = tt
 
 abbrev pub IsNativeCell : (t : ItemType) → BtreeColumn → ℕ → Native t → Type 0
 IsNativeCell t c i native = native_value t native ≡ cell_value t c i

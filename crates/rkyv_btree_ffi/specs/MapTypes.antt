@@ -5,7 +5,7 @@ use Rattle.rkyv_btree_verify.specs.Map.{map_kind}
 use Rattle.rkyv_btree_format.specs.Read.{read_map}
 use Rattle.rkyv_btree_ffi.specs.Items.{kind_at}
 use Rattle.rkyv_btree_ffi.specs.declared.map_type.ItemType.{ItemType}
-use Rattle.rkyv_btree_ffi.specs.declared.map_type.ItemType.TheVariants.{U32, U64, I64, Text}
+use Rattle.rkyv_btree_ffi.specs.declared.map_type.ItemType.TheVariants.{U32, U64, I64, Text, Empty}
 use Rattle.rkyv_btree_ffi.specs.declared.map_type.MapType.{MapType}
 
 -- the type of maps with keys and values of two types
@@ -30,7 +30,11 @@ type_of n =
     if nat_eq n 13 then Some (typed I64 U64) else
     if nat_eq n 14 then Some (typed I64 I64) else
     if nat_eq n 15 then Some (typed I64 Text) else
-    if nat_eq n 16 then Some (typed Text I64) else None
+    if nat_eq n 16 then Some (typed Text I64) else
+    if nat_eq n 26 then Some (typed U32 Empty) else
+    if nat_eq n 27 then Some (typed U64 Empty) else
+    if nat_eq n 28 then Some (typed I64 Empty) else
+    if nat_eq n 29 then Some (typed Text Empty) else None
 
 abbrev pub key_kind : MapType → Kind
 key_kind t = kind_at t.key

@@ -166,7 +166,7 @@ fn set_with<K: Shown>(
         ItemType::U32 => set_narrow::<K>(buf, pos, query, value),
         ItemType::U64 => set_wide::<K>(buf, pos, query, value),
         ItemType::I64 => set_signed::<K>(buf, pos, query, value),
-        ItemType::Text => BAD_VALUE,
+        ItemType::Text | ItemType::Empty => BAD_VALUE,
     }
 }
 

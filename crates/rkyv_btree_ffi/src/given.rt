@@ -4,7 +4,7 @@ ghost use Rattle.rkyv_btree_ffi.specs.Columns.{IsCell as IsCellOf, IsNativeCell}
 ghost use Rattle.rkyv_btree_ffi.specs.Items.{IsOfType, IsNative};
 ghost use Rattle.rkyv_btree_ffi.specs.declared.column.BtreeColumn.{BtreeColumn as Column};
 ghost use Rattle.rkyv_btree_ffi.specs.declared.item.BtreeItem.{BtreeItem};
-ghost use Rattle.rkyv_btree_ffi.specs.declared.map_type.ItemType.TheVariants.{U32, U64, I64, Text};
+ghost use Rattle.rkyv_btree_ffi.specs.declared.map_type.ItemType.TheVariants.{U32, U64, I64, Text, Empty};
 ghost use Rattle.rkyv_btree_ffi.specs.mirror.Natives.{IsOfBoth, IsRow};
 
 use crate::column::{BtreeColumn, narrow_at, text_at, wide_at};
@@ -111,6 +111,27 @@ impl<'t> Given<'t> for ArchivedI64 {
             Some(number) => Some(number.cast_signed()),
             None => None,
         }
+    }
+}
+
+// What is given as the value of an entry of a set isn't read.
+impl<'t> Given<'t> for () {
+    type Native = ();
+
+    ghost IsItem = { IsOfType Empty };
+
+    ghost Gives = { IsNative Empty };
+
+    ghost IsCell = { IsCellOf Empty };
+
+    ghost CellGives = { IsNativeCell Empty };
+
+    fn given(_texts: &'t [u8], _item: &BtreeItem) -> Option<()> {
+        Some(())
+    }
+
+    fn cell(_column: &BtreeColumn<'t>, _index: usize) -> Option<()> {
+        Some(())
     }
 }
 

@@ -2,6 +2,7 @@
 ghost use Rattle.std.specs.Prelude.{◌≡◌, ℕ, List};
 ghost use Rattle.std.specs.Int.{w64, cast_unsigned};
 ghost use Rattle.std.specs.declared.cmp.Ordering.{Ordering as Comparison};
+ghost use Rattle.std.specs.declared.cmp.Ordering.TheVariants.{Less};
 ghost use Rattle.rkyv_btree_portable.specs.Scalars.{u32_kind, u64_kind, i64_kind};
 ghost use Rattle.rkyv_btree_portable.specs.Text.{text_kind};
 ghost use Rattle.rkyv_btree_ffi.specs.Items.{IsNumberItem, IsTextItem};
@@ -19,7 +20,7 @@ use rkyv_btree_view::compare::ViewOrd;
 use rkyv_btree_view::view::View;
 use std::cmp::Ordering;
 
-/// A key or a value: a number, or a text by its place in a buffer.
+/// A key or a value: a number, or a text by its place in a buffer. The value of an entry of a set is all zeros.
 #[repr(C)]
 #[derive(Clone, Copy, Debug, PartialEq, Eq)]
 pub struct BtreeItem {
@@ -116,6 +117,24 @@ impl Shown for ArchivedI64 {
             Query::Number(number) => (*number).cast_signed().cmp(&view.to_native()),
             Query::Text(_) => Ordering::Less,
         }
+    }
+}
+
+impl Shown for () {
+    ghost ShowsAt = { λ b at item. IsNumberItem 0 item };
+
+    ghost query_compared_at = { λ query b at. Less };
+
+    fn item(_view: &View<'_, ()>) -> BtreeItem {
+        BtreeItem {
+            number: 0,
+            start: 0,
+            len: 0,
+        }
+    }
+
+    fn compare_query(_query: &Query<'_>, _view: &View<'_, ()>) -> Ordering {
+        Ordering::Less
     }
 }
 

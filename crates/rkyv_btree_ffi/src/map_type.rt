@@ -9,6 +9,8 @@ pub enum ItemType {
     U64,
     I64,
     Text,
+    /// That of the values of a set, which have no bytes. No map has such keys.
+    Empty,
 }
 
 /// The types of the keys and the values of a map.
@@ -40,6 +42,10 @@ impl MapType {
             14 => (ItemType::I64, ItemType::I64),
             15 => (ItemType::I64, ItemType::Text),
             16 => (ItemType::Text, ItemType::I64),
+            26 => (ItemType::U32, ItemType::Empty),
+            27 => (ItemType::U64, ItemType::Empty),
+            28 => (ItemType::I64, ItemType::Empty),
+            29 => (ItemType::Text, ItemType::Empty),
             _ => return None,
         };
         Some(MapType { key, value })

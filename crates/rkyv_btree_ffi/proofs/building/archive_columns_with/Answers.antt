@@ -25,3 +25,9 @@ archive_columns-requires-in-Text g c = λ k. ((refl, tt), rw c.in-Text.is at c.r
 
 pub returns-in-Text : goal.returns-in-Text
 returns-in-Text g c = rw c.in-Text.is (record { built = c.archive_columns-in-Text.ensures.built; unbuilt = c.archive_columns-in-Text.ensures.unbuilt })
+
+pub archive_columns-requires-in-Empty : goal.archive_columns-requires-in-Empty
+archive_columns-requires-in-Empty g c = λ k. ((refl, tt), rw c.in-Empty.is at c.requires)
+
+pub returns-in-Empty : goal.returns-in-Empty
+returns-in-Empty g c = rw c.in-Empty.is (record { built = c.archive_columns-in-Empty.ensures.built; unbuilt = c.archive_columns-in-Empty.ensures.unbuilt })

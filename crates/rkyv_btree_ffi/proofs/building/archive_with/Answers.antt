@@ -25,3 +25,9 @@ archive-requires-in-Text g c = λ k. ((refl, tt), rw c.in-Text.is at c.requires)
 
 pub returns-in-Text : goal.returns-in-Text
 returns-in-Text g c = rw c.in-Text.is (record { built = c.archive-in-Text.ensures.built; unbuilt = c.archive-in-Text.ensures.unbuilt })
+
+pub archive-requires-in-Empty : goal.archive-requires-in-Empty
+archive-requires-in-Empty g c = λ k. ((refl, tt), rw c.in-Empty.is at c.requires)
+
+pub returns-in-Empty : goal.returns-in-Empty
+returns-in-Empty g c = rw c.in-Empty.is (record { built = c.archive-in-Empty.ensures.built; unbuilt = c.archive-in-Empty.ensures.unbuilt })

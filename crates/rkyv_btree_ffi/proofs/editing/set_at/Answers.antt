@@ -2,7 +2,7 @@
 use Rattle.std.proofs.Common.{refl}
 use Rattle.rkyv_btree_ffi.specs.Entries.{comparison_at}
 use Rattle.rkyv_btree_ffi.proofs.Types.{with_key}
-use Rattle.rkyv_btree_ffi.specs.declared.map_type.ItemType.TheVariants.{U32, U64, I64, Text}
+use Rattle.rkyv_btree_ffi.specs.declared.map_type.ItemType.TheVariants.{U32, U64, I64, Text, Empty}
 use Rattle.rkyv_btree_ffi.proofs.editing.set_at.Goals as goal
 
 pub set_with-requires : goal.set_with-requires
@@ -40,3 +40,12 @@ returns-in-Text-clause-sets c = rw (with_key c.args.map_type Text c.in-Text.is) 
 
 pub returns-in-Text-clause-stands : goal.returns-in-Text-clause-stands
 returns-in-Text-clause-stands c = rw (with_key c.args.map_type Text c.in-Text.is) c.set_with-in-Text.ensures.stands
+
+pub set_with-requires-in-Empty : goal.set_with-requires-in-Empty
+set_with-requires-in-Empty c = rw (with_key c.args.map_type Empty c.in-Empty.is) at c.requires
+
+pub returns-in-Empty-clause-sets : goal.returns-in-Empty-clause-sets
+returns-in-Empty-clause-sets c = rw (with_key c.args.map_type Empty c.in-Empty.is) (c.set_with-in-Empty.ensures.sets (comparison_at Empty) (λ n b at. refl))
+
+pub returns-in-Empty-clause-stands : goal.returns-in-Empty-clause-stands
+returns-in-Empty-clause-stands c = rw (with_key c.args.map_type Empty c.in-Empty.is) c.set_with-in-Empty.ensures.stands

@@ -24,3 +24,9 @@ lookup-requires-in-Text g c = rw c.in-Text.is at c.requires
 
 pub returns-in-Text : goal.returns-in-Text
 returns-in-Text g c = rw c.in-Text.is (c.lookup-in-Text.ensures)
+
+pub lookup-requires-in-Empty : goal.lookup-requires-in-Empty
+lookup-requires-in-Empty g c = rw c.in-Empty.is at c.requires
+
+pub returns-in-Empty : goal.returns-in-Empty
+returns-in-Empty g c = rw c.in-Empty.is (c.lookup-in-Empty.ensures)

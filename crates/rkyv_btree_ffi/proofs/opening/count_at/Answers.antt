@@ -1,6 +1,6 @@
 -- Each type of keys has its own call.
 use Rattle.rkyv_btree_ffi.proofs.Types.{with_key}
-use Rattle.rkyv_btree_ffi.specs.declared.map_type.ItemType.TheVariants.{U32, U64, I64, Text}
+use Rattle.rkyv_btree_ffi.specs.declared.map_type.ItemType.TheVariants.{U32, U64, I64, Text, Empty}
 use Rattle.rkyv_btree_ffi.proofs.opening.count_at.Goals as goal
 
 pub count_with-requires : goal.count_with-requires
@@ -26,3 +26,9 @@ count_with-requires-in-Text c = rw (with_key c.args.map_type Text c.in-Text.is) 
 
 pub returns-in-Text : goal.returns-in-Text
 returns-in-Text c = rw (with_key c.args.map_type Text c.in-Text.is) (c.count_with-in-Text.ensures)
+
+pub count_with-requires-in-Empty : goal.count_with-requires-in-Empty
+count_with-requires-in-Empty c = rw (with_key c.args.map_type Empty c.in-Empty.is) at c.requires
+
+pub returns-in-Empty : goal.returns-in-Empty
+returns-in-Empty c = rw (with_key c.args.map_type Empty c.in-Empty.is) (c.count_with-in-Empty.ensures)

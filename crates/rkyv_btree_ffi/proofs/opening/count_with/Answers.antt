@@ -24,3 +24,9 @@ count-requires-in-Text g c = rw c.in-Text.is at c.requires
 
 pub returns-in-Text : goal.returns-in-Text
 returns-in-Text g c = rw c.in-Text.is (c.count-in-Text.ensures)
+
+pub count-requires-in-Empty : goal.count-requires-in-Empty
+count-requires-in-Empty g c = rw c.in-Empty.is at c.requires
+
+pub returns-in-Empty : goal.returns-in-Empty
+returns-in-Empty g c = rw c.in-Empty.is (c.count-in-Empty.ensures)

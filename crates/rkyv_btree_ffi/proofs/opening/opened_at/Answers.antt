@@ -1,7 +1,7 @@
 -- Each type of keys has its own call.
 use Rattle.rkyv_btree_ffi.proofs.Fits.{all_fit}
 use Rattle.rkyv_btree_ffi.proofs.Types.{with_key}
-use Rattle.rkyv_btree_ffi.specs.declared.map_type.ItemType.TheVariants.{U32, U64, I64, Text}
+use Rattle.rkyv_btree_ffi.specs.declared.map_type.ItemType.TheVariants.{U32, U64, I64, Text, Empty}
 use Rattle.rkyv_btree_ffi.proofs.opening.opened_at.Goals as goal
 
 pub opened_with-requires : goal.opened_with-requires
@@ -27,3 +27,9 @@ opened_with-requires-in-Text c = all_fit Text c.args.map_type.value
 
 pub returns-in-Text : goal.returns-in-Text
 returns-in-Text c = rw (with_key c.args.map_type Text c.in-Text.is) (c.opened_with-in-Text.ensures)
+
+pub opened_with-requires-in-Empty : goal.opened_with-requires-in-Empty
+opened_with-requires-in-Empty c = all_fit Empty c.args.map_type.value
+
+pub returns-in-Empty : goal.returns-in-Empty
+returns-in-Empty c = rw (with_key c.args.map_type Empty c.in-Empty.is) (c.opened_with-in-Empty.ensures)

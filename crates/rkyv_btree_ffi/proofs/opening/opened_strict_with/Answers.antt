@@ -24,3 +24,9 @@ opened_strict-requires-in-Text g c = rw c.in-Text.is at c.requires
 
 pub returns-in-Text : goal.returns-in-Text
 returns-in-Text g c = rw c.in-Text.is (c.opened_strict-in-Text.ensures)
+
+pub opened_strict-requires-in-Empty : goal.opened_strict-requires-in-Empty
+opened_strict-requires-in-Empty g c = rw c.in-Empty.is at c.requires
+
+pub returns-in-Empty : goal.returns-in-Empty
+returns-in-Empty g c = rw c.in-Empty.is (c.opened_strict-in-Empty.ensures)

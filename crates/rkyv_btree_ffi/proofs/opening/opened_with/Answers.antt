@@ -24,3 +24,9 @@ opened-requires-in-Text g c = rw c.in-Text.is at c.requires
 
 pub returns-in-Text : goal.returns-in-Text
 returns-in-Text g c = rw c.in-Text.is (c.opened-in-Text.ensures)
+
+pub opened-requires-in-Empty : goal.opened-requires-in-Empty
+opened-requires-in-Empty g c = rw c.in-Empty.is at c.requires
+
+pub returns-in-Empty : goal.returns-in-Empty
+returns-in-Empty g c = rw c.in-Empty.is (c.opened-in-Empty.ensures)

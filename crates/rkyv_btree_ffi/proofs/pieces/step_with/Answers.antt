@@ -24,3 +24,9 @@ step-requires-in-Text g c = rw c.in-Text.is at c.requires
 
 pub returns-in-Text : goal.returns-in-Text
 returns-in-Text g c = rw c.in-Text.is (record { gives = c.step-in-Text.ensures.gives; lacks = c.step-in-Text.ensures.lacks })
+
+pub step-requires-in-Empty : goal.step-requires-in-Empty
+step-requires-in-Empty g c = rw c.in-Empty.is at c.requires
+
+pub returns-in-Empty : goal.returns-in-Empty
+returns-in-Empty g c = rw c.in-Empty.is (record { gives = c.step-in-Empty.ensures.gives; lacks = c.step-in-Empty.ensures.lacks })

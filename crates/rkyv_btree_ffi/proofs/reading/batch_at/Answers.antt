@@ -2,7 +2,7 @@
 use Rattle.rkyv_btree_ffi.specs.MapTypes.{typed}
 use Rattle.rkyv_btree_ffi.proofs.Types.{batches}
 use Rattle.rkyv_btree_ffi.proofs.Types.{with_key}
-use Rattle.rkyv_btree_ffi.specs.declared.map_type.ItemType.TheVariants.{U32, U64, I64, Text}
+use Rattle.rkyv_btree_ffi.specs.declared.map_type.ItemType.TheVariants.{U32, U64, I64, Text, Empty}
 use Rattle.rkyv_btree_ffi.proofs.reading.batch_at.Goals as goal
 
 pub batch_with-requires : goal.batch_with-requires
@@ -28,3 +28,9 @@ batch_with-requires-in-Text c = rw (with_key c.args.map_type Text c.in-Text.is) 
 
 pub returns-in-Text : goal.returns-in-Text
 returns-in-Text c = rw (with_key c.args.map_type Text c.in-Text.is) (record { batch = batches (typed Text c.args.map_type.value) _ _ _ _ c.batch_with-in-Text.result c.batch_with-in-Text.ensures.room c.batch_with-in-Text.ensures.shown c.batch_with-in-Text.ensures.last; place = c.batch_with-in-Text.ensures.place; none = c.batch_with-in-Text.ensures.none })
+
+pub batch_with-requires-in-Empty : goal.batch_with-requires-in-Empty
+batch_with-requires-in-Empty c = rw (with_key c.args.map_type Empty c.in-Empty.is) at c.requires
+
+pub returns-in-Empty : goal.returns-in-Empty
+returns-in-Empty c = rw (with_key c.args.map_type Empty c.in-Empty.is) (record { batch = batches (typed Empty c.args.map_type.value) _ _ _ _ c.batch_with-in-Empty.result c.batch_with-in-Empty.ensures.room c.batch_with-in-Empty.ensures.shown c.batch_with-in-Empty.ensures.last; place = c.batch_with-in-Empty.ensures.place; none = c.batch_with-in-Empty.ensures.none })

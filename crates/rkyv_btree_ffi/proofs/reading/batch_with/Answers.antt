@@ -24,3 +24,9 @@ batch-requires-in-Text g c = rw c.in-Text.is at c.requires
 
 pub returns-in-Text : goal.returns-in-Text
 returns-in-Text g c = rw c.in-Text.is (record { room = c.batch-in-Text.ensures.room; shown = c.batch-in-Text.ensures.shown; last = c.batch-in-Text.ensures.last; place = c.batch-in-Text.ensures.place; none = c.batch-in-Text.ensures.none })
+
+pub batch-requires-in-Empty : goal.batch-requires-in-Empty
+batch-requires-in-Empty g c = rw c.in-Empty.is at c.requires
+
+pub returns-in-Empty : goal.returns-in-Empty
+returns-in-Empty g c = rw c.in-Empty.is (record { room = c.batch-in-Empty.ensures.room; shown = c.batch-in-Empty.ensures.shown; last = c.batch-in-Empty.ensures.last; place = c.batch-in-Empty.ensures.place; none = c.batch-in-Empty.ensures.none })

@@ -24,3 +24,9 @@ first-requires-in-Text g c = rw c.in-Text.is at c.requires
 
 pub returns-in-Text : goal.returns-in-Text
 returns-in-Text g c = rw c.in-Text.is (record { place = c.first-in-Text.ensures.place; all = c.first-in-Text.ensures.all })
+
+pub first-requires-in-Empty : goal.first-requires-in-Empty
+first-requires-in-Empty g c = rw c.in-Empty.is at c.requires
+
+pub returns-in-Empty : goal.returns-in-Empty
+returns-in-Empty g c = rw c.in-Empty.is (record { place = c.first-in-Empty.ensures.place; all = c.first-in-Empty.ensures.all })

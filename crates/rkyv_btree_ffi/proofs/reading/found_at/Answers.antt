@@ -4,7 +4,7 @@ use Rattle.rkyv_btree_ffi.specs.Entries.{comparison_at}
 use Rattle.rkyv_btree_ffi.specs.MapTypes.{typed}
 use Rattle.rkyv_btree_ffi.proofs.Types.{finds}
 use Rattle.rkyv_btree_ffi.proofs.Types.{with_key}
-use Rattle.rkyv_btree_ffi.specs.declared.map_type.ItemType.TheVariants.{U32, U64, I64, Text}
+use Rattle.rkyv_btree_ffi.specs.declared.map_type.ItemType.TheVariants.{U32, U64, I64, Text, Empty}
 use Rattle.rkyv_btree_ffi.proofs.reading.found_at.Goals as goal
 
 pub found_with-requires : goal.found_with-requires
@@ -30,3 +30,9 @@ found_with-requires-in-Text c = rw (with_key c.args.map_type Text c.in-Text.is) 
 
 pub returns-in-Text : goal.returns-in-Text
 returns-in-Text c = rw (with_key c.args.map_type Text c.in-Text.is) (finds (typed Text c.args.map_type.value) _ _ c.found_with-in-Text.result (c.found_with-in-Text.ensures (comparison_at Text) (λ n b at. refl)))
+
+pub found_with-requires-in-Empty : goal.found_with-requires-in-Empty
+found_with-requires-in-Empty c = rw (with_key c.args.map_type Empty c.in-Empty.is) at c.requires
+
+pub returns-in-Empty : goal.returns-in-Empty
+returns-in-Empty c = rw (with_key c.args.map_type Empty c.in-Empty.is) (finds (typed Empty c.args.map_type.value) _ _ c.found_with-in-Empty.result (c.found_with-in-Empty.ensures (comparison_at Empty) (λ n b at. refl)))

@@ -24,3 +24,9 @@ found-requires-in-Text g c = rw c.in-Text.is at c.requires
 
 pub returns-in-Text : goal.returns-in-Text
 returns-in-Text g c = rw c.in-Text.is (c.found-in-Text.ensures)
+
+pub found-requires-in-Empty : goal.found-requires-in-Empty
+found-requires-in-Empty g c = rw c.in-Empty.is at c.requires
+
+pub returns-in-Empty : goal.returns-in-Empty
+returns-in-Empty g c = rw c.in-Empty.is (c.found-in-Empty.ensures)

@@ -24,3 +24,9 @@ sought-requires-in-Text g c = rw c.in-Text.is at c.requires
 
 pub returns-in-Text : goal.returns-in-Text
 returns-in-Text g c = rw c.in-Text.is (record { place = c.sought-in-Text.ensures.place; run = c.sought-in-Text.ensures.run; within = c.sought-in-Text.ensures.within })
+
+pub sought-requires-in-Empty : goal.sought-requires-in-Empty
+sought-requires-in-Empty g c = rw c.in-Empty.is at c.requires
+
+pub returns-in-Empty : goal.returns-in-Empty
+returns-in-Empty g c = rw c.in-Empty.is (record { place = c.sought-in-Empty.ensures.place; run = c.sought-in-Empty.ensures.run; within = c.sought-in-Empty.ensures.within })
