@@ -420,6 +420,33 @@ cmp -s changed expected || fail "20000 lines: updated otherwise"
 "$program" diff archive changed | "$program" update archive | cmp -s - changed || fail "20000 lines: another difference"
 tac changes | "$program" update --sort archive | cmp -s - changed || fail "20000 lines: sorted otherwise"
 
+# Sidecars: the bytes that the package for Python writes. Its module of sidecars needs no shared library.
+cat > topped.py <<'E'
+import pathlib, sys, types
+folder = pathlib.Path(sys.argv[1]) / "bindings" / "python" / "rkyv_btree"
+package = types.ModuleType("rkyv_btree")
+package.__path__, package.Type, package.Key, package.Error = [str(folder)], str, str, ValueError
+package._number_of = lambda key_type, value_type: 9
+sys.modules["rkyv_btree"] = package
+from rkyv_btree.top import top_of
+sys.stdout.buffer.write(top_of(open(sys.argv[3], "rb").read(), "text", "text", int(sys.argv[2])))
+E
+tops() {
+    python3 topped.py "$tools/.." "$1" "$2" > expected
+    "$program" top "$1" "$2" > written 2> said || fail "top $1 $2: $(cat said)"
+    cmp -s written expected && [[ ! -s said ]] || fail "top $1 $2: other bytes"
+    "$program" top "$1" -o topped "$2" && cmp -s topped expected || fail "top $1 -o: other bytes"
+}
+printf '\tv\na\t\n' | "$program" build > hollow
+for levels in 1 2 3 6 32; do
+    for file in none hollow unordered few wide archive; do tops "$levels" "$file"; done
+done
+refuses 'btreekv: refused: short: position 0 is out of range' '' top 1 short
+refuses 'btreekv: input failed: absent: No such file or directory (os error 2)' '' top 1 absent
+refuses "error: invalid value '0' for '<LEVELS>': 0 is not in 1..=32" '' top 0 archive
+refuses "error: invalid value '33' for '<LEVELS>': 33 is not in 1..=32" '' top 33 archive
+refuses 'error: the following required arguments were not provided:' '' top 1
+
 # Files that are written: an old one is replaced and keeps its mode, an input may be the output, and an error changes nothing.
 mkdir files
 printf 'old' > files/out

@@ -1,4 +1,4 @@
-//! Commands over several files: updates, merges and differences.
+//! Commands that hold whole files in memory: updates, merges, differences and sidecars.
 
 use crate::output::Output;
 use crate::progress::Progress;
@@ -6,6 +6,7 @@ use crate::system::{Ended, Names, System, bad_byte_of};
 use crate::words;
 use btreearc_lines::fault::ProgramFault;
 use btreearc_lines::streams::{read_all, write_all};
+use btreekv_commands::sidecar::sidecar;
 use btreekv_commands::update_fault::UpdateFault;
 use btreekv_commands::{differences, merging, updating};
 use clap::ArgMatches;
@@ -137,5 +138,16 @@ pub fn diff(system: &System<'_>, matches: &ArgMatches<'_>) -> Result<u8, Ended> 
     match differences::diff(system.alloc(), &old, &new) {
         Ok(text) => write(system, None, text.as_bytes()),
         Err(fault) => { Err(fail(system, &[old_name, new_name], fault)) }
+    }
+}
+
+/// Runs `top`, and returns the exit status.
+pub fn top(system: &System<'_>, matches: &ArgMatches<'_>) -> Result<u8, Ended> {
+    let name = matches.get_str("FILE").unwrap_or("");
+    let levels = matches.get_one::<u32>("LEVELS").unwrap_or(1);
+    let archive = read(system, Some(name))?;
+    match sidecar(system.alloc(), levels, &archive) {
+        Ok(bytes) => write(system, words::output_of("top", matches), &bytes),
+        Err(fault) => Err(system.fail(Names::of_input(Some(name)), &fault)),
     }
 }

@@ -219,6 +219,7 @@ fn status(system: &System<'_>) -> Result<u8, Ended> {
         "update" => archives::update(system, matches),
         "merge" => archives::merge(system, matches),
         "diff" => archives::diff(system, matches),
+        "top" => archives::top(system, matches),
         "get" => lookups::get(system, matches),
         _ => one_file(system, name, matches),
     }

@@ -3,7 +3,7 @@
 use btreekv_commands::command;
 use btreekv_commands::forms::Form;
 use btreekv_commands::records::Records;
-use clap::{Arg, ArgAction, ArgMatches, Command, Error};
+use clap::{Arg, ArgAction, ArgMatches, Command, Error, value_parser};
 use std::alloc::{AllocError, Global};
 
 /// Examples of the program.
@@ -166,6 +166,18 @@ fn diff<'a>(alloc: Global) -> Result<Command<'a>, AllocError> {
         .arg(required(alloc, "NEW", "the archive that it becomes"))
 }
 
+/// Returns the words of `top`.
+fn top<'a>(alloc: Global) -> Result<Command<'a>, AllocError> {
+    let levels = required(alloc, "LEVELS", "the number of levels, from 1 to 32");
+    Command::new(alloc, "top")
+        .about(
+            "write the sidecar of an archive: the nodes of the first LEVELS levels, and their keys",
+        )
+        .arg(levels.value_parser(value_parser!(u32).range(1..=32)))?
+        .arg(output(alloc))?
+        .arg(required(alloc, "FILE", "the archive to read"))
+}
+
 /// Returns the words of `list`.
 fn list<'a>(alloc: Global) -> Result<Command<'a>, AllocError> {
     let json = flag(alloc, "json", "write one JSON object");
@@ -260,7 +272,8 @@ fn with_makers<'a>(alloc: Global, command: Command<'a>) -> Result<Command<'a>, A
         .subcommand(build(alloc)?)?
         .subcommand(update(alloc)?)?
         .subcommand(merge(alloc)?)?
-        .subcommand(diff(alloc)?)
+        .subcommand(diff(alloc)?)?
+        .subcommand(top(alloc)?)
 }
 
 /// Adds the commands that read one archive.
@@ -361,7 +374,7 @@ pub fn command_of(
 /// Returns the file that a command is to write, if it isn't standard output.
 pub fn output_of<'a>(name: &str, matches: &ArgMatches<'a>) -> Option<&'a str> {
     match name {
-        "build" | "update" | "merge" => matches.get_str("OUTPUT"),
+        "build" | "update" | "merge" | "top" => matches.get_str("OUTPUT"),
         _ => None,
     }
 }

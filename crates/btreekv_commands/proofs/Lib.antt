@@ -9,13 +9,17 @@ pub mod JsonTexts
 pub mod Listed
 pub mod LookedUp
 pub mod Merges
+pub mod NodeSizes
 pub mod Ordering
 pub mod Recorded
 pub mod RoundTrip
+pub mod SidecarBytes
 pub mod Sorted
 pub mod SortedChanges
 pub mod Splitting
 pub mod Taken
 pub mod TextsWritten
+pub mod TopParts
+pub mod TopPieces
 pub mod Unbuilt
 pub mod Updates

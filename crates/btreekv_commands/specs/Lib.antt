@@ -6,11 +6,15 @@ pub mod Figures
 pub mod Forms
 pub mod Json
 pub mod Lines
+pub mod Nodes
 pub mod Opening
 pub mod Prefixes
 pub mod Reading
 pub mod Records
+pub mod Sidecar
 pub mod Sourced
 pub mod Streaming
 pub mod Texts
+pub mod Top
 pub mod Updating
+pub mod mirror

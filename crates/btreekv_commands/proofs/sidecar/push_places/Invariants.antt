@@ -1,0 +1,9 @@
+use Rattle.std.proofs.Common.{◌≡◌, ◌++◌, List, take}
+use Rattle.rkyv_btree_portable.specs.declared.check.Window.{Window}
+use Rattle.btreekv_commands.specs.Sidecar.{places}
+use Rattle.btreekv_commands.proofs.sidecar.push_places.Given as goal
+
+-- with what is written later, it is what is written of all pieces
+abbrev pub invariant-pieces : goal.invariant-pieces
+invariant-pieces l =
+    (later : List Window) → l.out.items ++ places later ≡ l.initial.out.items ++ places (take l.piece-index l.pieces ++ later)
