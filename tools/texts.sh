@@ -53,6 +53,11 @@ nothing='00000000  01 00 00 00              root node: there is none\n00000004  
 fruit=$(archive_of 'a\t1\nab\t2\nabc\t3\nb\t4\n')
 quoted=$(archive_of 'q"\x08\x0c\r\x01\tx\ty\\\\\x1f\x7f\xc3\xa4\n')
 
+# The lines of stat, of these numbers.
+names=(entries levels 'least levels' 'inner nodes' leaves 'fill percent' 'inner node bytes' 'leaf bytes' 'key bytes' 'value bytes' 'map bytes'
+    'unused bytes' bytes)
+figures() { for name in "${names[@]}"; do printf '%s %s\\n' "$name" "$1"; shift; done; }
+
 #    status  line on standard error                input                       output                        words
 ends 0 ''                                          ''                          "$empty"                      build
 ends 0 ''                                          'a\t2\nb\t3'                "$sorted"                     build
@@ -88,8 +93,8 @@ ends 0 ''                                          "$fruit"                    '
 ends 0 ''                                          "$fruit"                    ''                            prefix abcd
 ends 0 ''                                          "$fruit"                    ''                            prefix c
 ends 0 ''                                          "$long"                     '\xc3\xa4\t\xf0\x9d\x84\x9e\n' prefix ä
-ends 0 ''                                          "$empty"                    'entries 0\nleast levels 0\nnodes 0\nbytes 8\n' stat
-ends 0 ''                                          "$three"                    'entries 3\nleast levels 1\nnodes 1\nbytes 132\n' stat
+ends 0 ''                                          "$empty"                    "$(figures 0 0 0 0 0 0 0 0 0 0 8 0 8)" stat
+ends 0 ''                                          "$three"                    "$(figures 3 1 1 0 1 60 0 88 12 23 8 1 132)" stat
 ends 0 ''                                          "$empty"                    '{}\n'                        list --json
 ends 0 ''                                          "$three"                    '{"apple":"red","fig":"blue and green","pear":"yellow"}\n' list --json
 ends 0 ''                                          "$unordered"                '{"b":"1","a":"2","b":"3"}\n' list --json
@@ -209,8 +214,35 @@ shuf --random-source=many many > mixed
 cut -f 1 mixed | "$program" get --keys-from - archive | cmp -s - mixed || fail "20000 lines: other lines of all keys"
 [[ $("$program" range 'key 019999' z archive | wc -l) == 2 ]] || fail "20000 lines: another range"
 [[ $("$program" prefix 'key 0123' archive | wc -l) == 100 ]] || fail "20000 lines: another prefix"
-[[ $("$program" stat archive | head -n 2 | tr '\n' ' ') == 'entries 20000 least levels 6 ' ]] || fail "20000 lines: other figures"
 "$program" explain archive > explained || fail "20000 lines: not explained"
+# The figures are those of the lines of explain.
+cat > counted.py <<'E'
+import re, sys
+count = dict.fromkeys(["inner node", "leaf", "key", "value", "unused", "entries"], 0)
+kind, levels, below = "", {}, []
+for line in open("explained", encoding="utf-8"):
+    line = line.rstrip("\n")
+    at, size, meaning = int(line[:8], 16), len(line[10:33].split()), line[35:]
+    if meaning:
+        kind = meaning
+    if kind in ("inner node", "leaf"):
+        node, below = at, []
+        count[kind] += 1
+        levels[node] = 1
+    if found := re.match(r"child \d+: it is at (\w+)", kind):
+        levels[node] = max(levels[node], 1 + levels[int(found[1], 16)])
+    if found := re.match(r"(key|value) \d+ of the node", kind):
+        count[found[1]] += size
+    if found := re.match(r"(\d+) entries in the map", kind):
+        count["entries"] = int(found[1])
+print(count["entries"], levels[node], count["inner node"], count["leaf"], count["key"], count["value"])
+E
+"$program" stat archive > written
+[[ $(for name in "${names[@]:0:2}" "${names[@]:3:2}" "${names[@]:8:2}"; do sed -n "s/^$name //p" written; done | tr '\n' ' ') == "$(python3 counted.py) " ]] \
+    || fail "20000 lines: other figures: $(cat written)"
+awk '/^(entries|levels|least|fill|inner nodes|leaves)/ { next } /^bytes/ { all = $NF; next } { sum += $NF } END { exit sum != all }' written \
+    || fail "20000 lines: the bytes are no sum"
+[[ $(sed -n 's/^least levels //p' written) == 6 ]] || fail "20000 lines: other least levels"
 "$tools/explained.py" < archive | cmp -s - explained || fail "20000 lines: explained otherwise"
 for count in 0 1 5 6 7 17 35 36 41 215; do
     head -n "$count" many | "$program" build > few

@@ -21,5 +21,6 @@ pub mod Taken
 pub mod TextsWritten
 pub mod TopParts
 pub mod TopPieces
+pub mod TreeSums
 pub mod Unbuilt
 pub mod Updates

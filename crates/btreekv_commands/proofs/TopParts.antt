@@ -145,6 +145,12 @@ module _ (b : List ℕ) where
         ]
       ]
 
+  -- the root is where the pointer of the map leads
+  pub root_leads : (start root : ℕ) → number_at b (own_at texts b + 4) 4 ≢ 0 → place_at b (own_at texts b) ≡ pos start → root_place b (own_at texts b) ≡ Some root → start ≡ root
+  root_leads start root some leads to =
+      let is_some : nat_eq (number_at b (own_at texts b + 4) 4) 0 ≡ false = ne_eqb (number_at b (own_at texts b + 4) 4) 0 some in
+      cc (rw (is_some, leads) at to)
+
   -- the tree of an archive can be read
   pub archive_tree : (m : List Entry) (root : ℕ) → IsArchive b m → root_place b (own_at texts b) ≡ Some root → HasTree b root
   archive_tree m root is to =
@@ -154,14 +160,9 @@ module _ (b : List ℕ) where
         | inl none ↦ absurd (cc (rw none.0 at to))
         | inr some ↦
             let r = some.1 in
-            let same : r.start ≡ root = leads_there r.start root some.0 r.leads to in
+            let same : r.start ≡ root = root_leads r.start root some.0 r.leads to in
             rw (← same) (32, spelled_stands text_kind text_kind 5 b text_laws text_laws texts_fit r.tree 32 0 at r.start r.spelled r.levels (let room = a.room in omega arith))
       ]
-    where
-      leads_there : (start root : ℕ) → number_at b (own_at texts b + 4) 4 ≢ 0 → place_at b (own_at texts b) ≡ pos start → root_place b (own_at texts b) ≡ Some root → start ≡ root
-      leads_there start root some leads to =
-          let is_some : nat_eq (number_at b (own_at texts b + 4) 4) 0 ≡ false = ne_eqb (number_at b (own_at texts b + 4) 4) 0 some in
-          cc (rw (is_some, leads) at to)
 
   pub top_inside : (m : List Entry) (levels : ℕ) (x : Window) → IsArchive b m → Contains (top_parts b levels) x → IsPart b x
   top_inside m levels x is h =

@@ -15,7 +15,7 @@ use Rattle.rkyv_btree_view.specs.Lookup.{found_at}
 use Rattle.btreearc_lines.specs.declared.fault.ProgramFault.{ProgramFault}
 use Rattle.btreearc_lines.specs.declared.fault.ProgramFault.TheVariants.{Line, Refused, NotBuilt, InputFailed, OutputFailed, Memory}
 use Rattle.btreekv_commands.specs.Building.{last_values, IsUnbuilt, IsUnbuiltInOrder, IsUnbuiltMap}
-use Rattle.btreekv_commands.specs.Figures.{archive_nodes, figures}
+use Rattle.btreekv_commands.specs.Figures.{archive_figures, figures}
 use Rattle.btreekv_commands.specs.Forms.{text_in, value_line}
 use Rattle.btreekv_commands.specs.Json.{json_object}
 use Rattle.btreekv_commands.specs.Lines.{Entry, AreLines, IsBadLine}
@@ -63,7 +63,7 @@ Outputs Check input text status = (status ≡ 0) × ((entries : List Entry) × I
 Outputs CheckStrict input text status = (status ≡ 0) × ((count : ℕ) × CountsStrict input count × (text ≡ total count))
 Outputs Stat input text status =
     (status ≡ 0) × ((entries : List Entry) × (is : IsArchive input entries)
-    × (text ≡ figures (length entries) (archive_nodes input entries is) (length input)))
+    × (text ≡ figures (length entries) (archive_figures input entries is) (length input)))
 Outputs Explain input text status = (status ≡ 0) × ((entries : List Entry) × IsArchive input entries)
 Outputs (Get key form) input text status =
     ((entries : List Entry) × IsArchive input entries)

@@ -25,5 +25,6 @@ pub mod sourced;
 pub mod streaming;
 mod text;
 mod top;
+mod tree_figures;
 pub mod update_fault;
 pub mod updating;

@@ -1,15 +1,19 @@
 //! The nodes of a valid archive, and the parts of it that they and the texts of their entries are.
-ghost use Rattle.std.specs.Prelude.{◌≡◌, ◌≤◌, ◌<◌, ◌+◌, IsTrue, length};
-ghost use Rattle.rkyv_btree_format.specs.Layout.{key_at as key_offset};
+ghost use Rattle.std.specs.Prelude.{◌≡◌, ◌≤◌, ◌<◌, ◌+◌, IsTrue, List, length};
+ghost use Rattle.rkyv_btree_format.specs.Layout.{key_at as key_offset, value_at as value_offset};
+ghost use Rattle.rkyv_btree_format.specs.OwnBytes.{own_at};
 ghost use Rattle.rkyv_btree_portable.specs.Text.{text_kind};
 ghost use Rattle.rkyv_btree_portable.specs.Views.{stands};
+ghost use Rattle.rkyv_btree_walk.specs.Below.{root_place};
 ghost use Rattle.rkyv_btree_walk.specs.Nodes.{child_place, entry_count, is_leaf as is_leaf_at};
 ghost use Rattle.rkyv_btree_walk.specs.mirror.Node.{LeadsBefore};
 ghost use Rattle.rkyv_btree_walk.specs.Nodes.{natural};
+ghost use Rattle.btreekv_commands.specs.Lines.{Entry};
 ghost use Rattle.btreekv_commands.specs.Nodes.{node_part, text_layout, text_part};
+ghost use Rattle.btreekv_commands.specs.Opening.{IsArchive, texts};
 ghost use Rattle.btreekv_commands.specs.mirror.Levels.{HasNode};
 
-use rkyv_btree_format::layout::{inner_size, key_at, leaf_size, len_at, lesser_at};
+use rkyv_btree_format::layout::{inner_size, key_at, leaf_size, len_at, lesser_at, value_at};
 use rkyv_btree_portable::bytes::{num32, pointed_at, target};
 use rkyv_btree_portable::check::Window;
 use rkyv_btree_portable::text::ArchivedText;
@@ -18,7 +22,7 @@ use rkyv_btree_portable::text::ArchivedText;
 pub(crate) const ENTRIES: u32 = 5;
 
 /// Returns whether a node is a leaf.
-fn is_leaf(archive: &[u8], node: u32) -> bool
+pub(crate) fn is_leaf(archive: &[u8], node: u32) -> bool
     requires { HasNode archive.now node }
     ensures { result ≡ is_leaf_at text_layout archive.now node }
 {
@@ -81,6 +85,18 @@ pub(crate) fn key_part(archive: &[u8], node: u32, index: u32) -> Window
     text_part(archive, node + offset)
 }
 
+/// Returns where the bytes are of the value of an entry of a node.
+#[tactic(auto, using(crate::proofs::Fits::texts_fit))]
+pub(crate) fn value_part(archive: &[u8], node: u32, index: u32) -> Window
+    requires short { length archive.now ≤ 4294967295 }
+    requires node { HasNode archive.now node }
+    requires within { index < entry_count text_layout archive.now node }
+    ensures { result ≡ text_part archive.now (node + value_offset text_layout index) }
+{
+    let offset = value_at::<ArchivedText, ArchivedText, 5>(index as usize);
+    text_part(archive, node + offset)
+}
+
 /// Returns the position of a node, which is before `end`.
 fn node_at(place: i64, end: u32) -> u32
     requires { LeadsBefore end (Some place) }
@@ -105,4 +121,17 @@ pub(crate) fn child(archive: &[u8], node: u32, index: u32) -> Option<u32>
         None => None,
         Some(place) => Some(node_at(place, node)),
     }
+}
+
+/// Returns the root node of an archive whose map is at position `pos`, if it has entries.
+#[tactic(auto, unfolding(rkyv_btree_portable::specs::Bytes::place_at))]
+pub(crate) fn root_of(archive: &[u8], pos: u32) -> Option<u32>
+    requires position { pos ≡ own_at texts archive.now }
+    requires archive { (m : List Entry) × IsArchive archive.now m }
+    ensures { result ≡ root_place archive.now pos }
+{
+    if num32(archive, pos + 4) == 0 {
+        return None;
+    }
+    Some(pointed_at(archive, pos) as u32)
 }

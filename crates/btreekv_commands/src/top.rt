@@ -1,7 +1,6 @@
 //! The first levels of an archive's tree, as pieces of the archive.
 ghost use Rattle.std.specs.Prelude.{◌≡◌, ◌≤◌, ◌+◌, ◌++◌, ◌∷◌, [], List, IfOk, IfErr, OnOk, length, nat_lt};
 ghost use Rattle.rkyv_btree_format.specs.OwnBytes.{own_at};
-ghost use Rattle.rkyv_btree_walk.specs.Below.{root_place};
 ghost use Rattle.rkyv_btree_walk.specs.Nodes.{entry_count};
 ghost use Rattle.btreekv_commands.specs.Lines.{Entry};
 ghost use Rattle.btreekv_commands.specs.Nodes.{text_layout};
@@ -9,9 +8,8 @@ ghost use Rattle.btreekv_commands.specs.Opening.{IsArchive, texts};
 ghost use Rattle.btreekv_commands.specs.Top.{ArePieces};
 ghost use Rattle.btreekv_commands.specs.mirror.Levels.{HasNode, HasTree, joined, key_parts, top_parts, tree_parts};
 
-use crate::nodes::{child, entries_of, key_part, node_part};
+use crate::nodes::{child, entries_of, key_part, node_part, root_of};
 use btreearc_lines::fault::ProgramFault;
-use rkyv_btree_portable::bytes::{num32, pointed_at};
 use rkyv_btree_portable::check::Window;
 use std::alloc::Global;
 
@@ -71,19 +69,6 @@ fn push_tree(
         }
     }
     Ok(())
-}
-
-/// Returns the root node of an archive whose map is at position `pos`, if it has entries.
-#[tactic(auto, unfolding(rkyv_btree_portable::specs::Bytes::place_at))]
-fn root_of(archive: &[u8], pos: u32) -> Option<u32>
-    requires position { pos ≡ own_at texts archive.now }
-    requires archive { (m : List Entry) × IsArchive archive.now m }
-    ensures { result ≡ root_place archive.now pos }
-{
-    if num32(archive, pos + 4) == 0 {
-        return None;
-    }
-    Some(pointed_at(archive, pos) as u32)
 }
 
 /// Returns the nodes of the first levels of an archive, whose map is at position `pos`, with the texts of their keys, and the map's own
