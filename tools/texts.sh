@@ -511,6 +511,35 @@ fi
 cmp -s files/out archive || fail "-o: another file after an error"
 [[ $(ls -A files | tr '\n' ' ') == 'link new out ' ]] || fail "-o: left in the folder: $(ls -A files)"
 
+# An input that is standard output is refused, and stays as it is.
+printf 'b\t1\n' > both.lines
+"$program" build both.lines > both
+ln both twin
+cp both kept
+cp both.lines kept.lines
+same() {
+    local got=0 line=$1 output=$2
+    "$program" "${@:3}" >> "$output" 2> said || got=$?
+    [[ $got == 2 && $(cat said) == "$line" ]] && cmp -s both kept && cmp -s both.lines kept.lines || fail "words ${*:3} to $output: status $got: $(cat said)"
+}
+same 'btreekv: input is output: both' both list both
+same 'btreekv: input is output: both' twin list both
+same 'btreekv: input is output: twin' both check twin
+same 'btreekv: input is output: both' both get b both
+same 'btreekv: input is output: both' both get --keys-from keys both
+same 'btreekv: input is output: both' both get --validate b both
+same 'btreekv: input is output: both' both top 1 both
+same 'btreekv: input is output: both' both merge first both
+same 'btreekv: input is output: both' both diff first both
+same 'btreekv: input is output: both.lines' both.lines build both.lines
+same 'btreekv: input is output: both.lines' both.lines build --sort both.lines
+same 'btreekv: input is output: both.lines' both.lines update both both.lines
+same 'btreekv: input is output: both.lines' both.lines get --keys-from both.lines first
+same 'btreekv: input is output' both list < both
+same 'btreekv: input is output' both.lines build < both.lines
+"$program" list both > /dev/stdout | cmp -s - both.lines || fail "a pipe is taken for an input"
+"$program" update both both.lines -o both >> both 2> said && cmp -s both kept || fail "an input that -o names: $(cat said)"
+
 # a kill at any moment leaves the old file or the new one
 cat > killed.py <<'E'
 import random, signal, subprocess, sys, time

@@ -48,7 +48,7 @@ fn fail_update(
 fn read(system: &System<'_>, path: Option<&str>) -> Result<Vec<u8>, Ended> {
     let alloc = system.alloc();
     let read = match path {
-        None => read_all(alloc, &mut Progress::new(system, system.rt.stdin())),
+        None => read_all(alloc, &mut Progress::new(system, system.stdin()?)),
         Some(path) => {
             let file = system.open(path)?;
             read_all(alloc, &mut Progress::new(system, file))

@@ -160,7 +160,7 @@ fn get_keys_in<S: ReadAt + Drop>(
         Err(fault) => return Err(system.fail(names, &fault)),
     };
     let status = if keys == "-" {
-        write_keys_of(system, names, &mut map, system.rt.stdin(), None)?
+        write_keys_of(system, names, &mut map, system.stdin()?, None)?
     } else {
         let file = system.open(keys)?;
         write_keys_of(system, names, &mut map, file, Some(keys))?
@@ -222,7 +222,7 @@ pub fn get(system: &System<'_>, matches: &ArgMatches<'_>) -> Result<u8, Ended> {
     }
     let path = matches.get_str("FILE");
     let done = match path {
-        None => get_in_all(system, matches, system.rt.stdin()),
+        None => get_in_all(system, matches, system.stdin()?),
         Some(path) => {
             let file = system.open(path)?;
             get_in_file(system, matches, file)

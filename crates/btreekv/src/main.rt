@@ -110,7 +110,7 @@ fn build(
     output: Option<File>,
 ) -> Result<u8, Ended> {
     let Some(path) = names.input else {
-        return build_bytes(system, command, names, system.rt.stdin(), output);
+        return build_bytes(system, command, names, system.stdin()?, output);
     };
     let file = system.open(path)?;
     if from_start(&file).is_ok() {
@@ -124,7 +124,7 @@ fn build(
 fn read(system: &System<'_>, command: &Command, names: Names<'_>) -> Result<u8, Ended> {
     let done = match names.input {
         None => {
-            let mut input = Progress::new(system, system.rt.stdin());
+            let mut input = Progress::new(system, system.stdin()?);
             run_over(system, command, &mut input, None)
         }
         Some(path) => {
@@ -215,6 +215,9 @@ fn status(system: &System<'_>) -> Result<u8, Ended> {
     let Some((name, matches)) = matches.subcommand() else {
         return Err(system.fail(Names::of_input(None), &ProgramFault::Usage));
     };
+    if words::output_of(name, matches).is_none() {
+        system.writes_to_stdout();
+    }
     match name {
         "update" => archives::update(system, matches),
         "merge" => archives::merge(system, matches),

@@ -7,9 +7,10 @@ use btreearc_lines::streams::read_line;
 use btreekv_commands::lines::bad_byte;
 use std::alloc::Global;
 use std::cell::Cell;
-use std::fmt;
-use std::fs::File;
-use std::io::{Error, ErrorKind, Result as IoResult, Stdout, Write};
+use std::fs::{File, Metadata};
+use std::io::{Error, ErrorKind, Result as IoResult, Stdin, Stdout, Write};
+use std::os::unix::fs::MetadataExt;
+use std::{fmt, fs};
 
 /// The status after an error.
 const FAILED: u8 = 2;
@@ -66,10 +67,33 @@ impl fmt::Display for Cause {
     }
 }
 
+/// Which regular file it is: its device, and its number there.
+#[derive(Clone, Copy, PartialEq, Eq)]
+struct FileId {
+    device: u64,
+    number: u64,
+}
+
+/// Returns which regular file it is, if it is one.
+fn id_of(metadata: IoResult<Metadata>) -> Option<FileId> {
+    let Ok(metadata) = metadata else {
+        return None;
+    };
+    if !metadata.is_file() {
+        return None;
+    }
+    Some(FileId {
+        device: metadata.dev(),
+        number: metadata.ino(),
+    })
+}
+
 /// What a run reads and writes, with the system's codes of the last read and the last write that failed.
 #[derive(Drop)]
 pub struct System<'a> {
     pub rt: &'a HostRuntime,
+    /// Standard output, if it is a regular file that the run writes.
+    output: Cell<Option<FileId>>,
     read: Cell<Option<i32>>,
     written: Cell<Option<i32>>,
 }
@@ -79,6 +103,7 @@ impl<'a> System<'a> {
     pub fn new(rt: &'a HostRuntime) -> System<'a> {
         System {
             rt,
+            output: Cell::new(None),
             read: Cell::new(None),
             written: Cell::new(None),
         }
@@ -100,6 +125,28 @@ impl<'a> System<'a> {
         ProgramFault::OutputFailed
     }
 
+    /// Notes that the run writes to standard output. No input may be the same regular file from then on.
+    pub fn writes_to_stdout(&self) {
+        self.output.set(id_of(fs::metadata(self.rt, "/dev/stdout")));
+    }
+
+    /// Writes the line of an input that is standard output, if it is.
+    fn refuse_output(&self, name: Option<&str>, input: Option<FileId>) -> Result<(), Ended> {
+        if input.is_none() || input != self.output.get() {
+            return Ok(());
+        }
+        let rt = self.rt;
+        let name = Named(": ", name);
+        let _ = eprintln!(rt; "btreekv: input is output{name}");
+        Err(Ended { status: FAILED })
+    }
+
+    /// Returns standard input.
+    pub fn stdin(&self) -> Result<Stdin, Ended> {
+        self.refuse_output(None, id_of(fs::metadata(self.rt, "/dev/stdin")))?;
+        Ok(self.rt.stdin())
+    }
+
     /// Returns standard output.
     pub fn stdout(&self) -> Writing<'_, 'a, Stdout> {
         self.writing(self.rt.stdout())
@@ -116,7 +163,10 @@ impl<'a> System<'a> {
     /// Opens a file to read it.
     pub fn open(&self, path: &str) -> Result<File, Ended> {
         match File::open(self.rt, path) {
-            Ok(file) => Ok(file),
+            Ok(file) => {
+                self.refuse_output(Some(path), id_of(file.metadata()))?;
+                Ok(file)
+            }
             Err(error) => {
                 self.read_failed(&error);
                 Err(self.fail(Names::of_input(Some(path)), &ProgramFault::InputFailed))
