@@ -139,6 +139,22 @@ ends 2 'error: the following required arguments were not provided:' ''        ''
 ends 2 "error: the argument '--escape' cannot be used with '--null'" ''       ''                            list --escape --null
 ends 2 "error: the argument '--json' cannot be used with '--ndjson'" ''       ''                            list --json --ndjson
 
+# JSON lines: those of list are read back, and others with two members that are strings
+ends 0 ''                                          ''                          "$empty"                      build --ndjson
+ends 0 ''                                          "$odd\n"                   "$escaped"                    build --ndjson
+ends 0 ''                                          "$odd"                      "$escaped"                    build --ndjson
+ends 0 ''                                          '{"key":"b","value":"3"}\n {"value" : "2", "key":"\\u0061"} \r\n' "$sorted" build --ndjson
+ends 0 ''                                          '{"key":"b","value":"1"}\n{"key":"a","value":"2"}\n{"key":"b","value":"3"}\n' "$sorted" build --ndjson
+ends 0 ''                                          '{"key":"\\ud834\\udd1e","value":"\xc3\xa4"}' "$(archive_of '\xf0\x9d\x84\x9e\t\xc3\xa4\n')" build --ndjson
+ends 2 'btreekv: entry 2: not a JSON object of key and value' '{"key":"a","value":"b"}\n\n'                ''  build --ndjson
+ends 2 'btreekv: entry 1: not a JSON object of key and value' '{"key":"a","value":1}\n'                    ''  build --ndjson
+ends 2 'btreekv: entry 1: not a JSON object of key and value' '{"key":"a"}\n'                              ''  build --ndjson
+ends 2 'btreekv: entry 1: not a JSON object of key and value' '{"key":"a","value":"b","more":"c"}\n'       ''  build --ndjson
+ends 2 'btreekv: entry 1: not a JSON object of key and value' '["key","a"]\n'                              ''  build --ndjson
+ends 2 'btreekv: entry 1: not a JSON object of key and value' '{"key":"\\ud834","value":"b"}\n'            ''  build --ndjson
+ends 2 'btreekv: entry 1: not a JSON object of key and value' '{"key":"\xff","value":"b"}\n'               ''  build --ndjson
+ends 2 "error: the argument '--strict' cannot be used with '--ndjson'" '' ''                                    build --strict --ndjson
+
 # carriage returns are part of the values, and a warning says so if each line has one
 ends 0 'btreekv: warning: each line ends with CR LF, and the CR is part of the value' 'a\tb\r\n' "$(archive_of 'a\tb\r\n' 2> crs)" build
 ends 0 ''                                          'a\tb\r\nc\td\n'            "$(archive_of 'a\tb\r\nc\td\n')" build
@@ -251,6 +267,7 @@ done
 "$program" list --json archive > object
 python3 -c 'import json; print(*(f"{k}\t{v}" for k, v in json.load(open("object")).items()), sep="\n")' | cmp -s - many || fail "20000 lines: another object"
 shuf --random-source=many many | "$program" build --sort | cmp -s - archive || fail "20000 lines: sorted otherwise"
+"$program" list --ndjson archive | "$program" build --ndjson | cmp -s - archive || fail "20000 lines: another archive of JSON lines"
 
 # A file with an error that the look-up doesn't meet, and that it meets
 cp archive damaged

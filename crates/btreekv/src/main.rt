@@ -80,8 +80,8 @@ fn build_named<R: Reopen>(
             system.warn_of_returns(names.input, input);
             Ok(status)
         }
-        (Err(ProgramFault::Line(number)), Command::BuildFrom(_)) => {
-            Err(system.bad_record(names.input, number))
+        (Err(ProgramFault::Line(number)), Command::BuildFrom(form)) => {
+            Err(system.bad_record(names.input, number, *form))
         }
         (Err(fault), _) => Err(system.fail_at(names, input, &fault)),
     }

@@ -5,6 +5,7 @@ use btreearc_lines::fault::ProgramFault;
 use btreearc_lines::reopen::Reopen;
 use btreearc_lines::streams::read_line;
 use btreekv_commands::lines::bad_byte;
+use btreekv_commands::records::Records;
 use std::alloc::Global;
 use std::cell::Cell;
 use std::fs::{File, Metadata};
@@ -227,10 +228,14 @@ impl<'a> System<'a> {
     }
 
     /// Writes the line of a record that is no entry. Records are counted from 1.
-    pub fn bad_record(&self, name: Option<&str>, number: u64) -> Ended {
+    pub fn bad_record(&self, name: Option<&str>, number: u64, form: Records) -> Ended {
         let rt = self.rt;
         let of = Named(" of ", name);
-        let _ = eprintln!(rt; "btreekv: entry {number}{of}: not KEY TAB VALUE with escapes");
+        let wanted = match form {
+            Records::Escaped | Records::Null => "KEY TAB VALUE with escapes",
+            Records::Json => "a JSON object of key and value",
+        };
+        let _ = eprintln!(rt; "btreekv: entry {number}{of}: not {wanted}");
         Ended { status: FAILED }
     }
 

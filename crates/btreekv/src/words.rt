@@ -115,6 +115,11 @@ fn build<'a>(alloc: Global) -> Result<Command<'a>, AllocError> {
         "null",
         "a zero byte ends an entry, in place of a line feed; with --sort",
     );
+    let ndjson = flag(
+        alloc,
+        "ndjson",
+        "read a JSON object a line, with key and value; sorted as by --sort",
+    );
     Command::new(alloc, "build")
         .about("write the archive of lines KEY TAB VALUE")
         .after_help(BUILD_EXAMPLES)
@@ -122,6 +127,12 @@ fn build<'a>(alloc: Global) -> Result<Command<'a>, AllocError> {
         .arg(flag(alloc, "strict", "fail unless the keys increase"))?
         .arg(escape.requires_arg("sort")?.conflicts_with("null")?)?
         .arg(null.requires_arg("sort")?)?
+        .arg(
+            ndjson
+                .conflicts_with("strict")?
+                .conflicts_with("escape")?
+                .conflicts_with("null")?,
+        )?
         .arg(output(alloc))?
         .arg(file(alloc))
 }
@@ -329,6 +340,8 @@ fn build_command(matches: &ArgMatches<'_>) -> command::Command {
         command::Command::BuildFrom(Records::Escaped)
     } else if matches.get_flag("null") {
         command::Command::BuildFrom(Records::Null)
+    } else if matches.get_flag("ndjson") {
+        command::Command::BuildFrom(Records::Json)
     } else if matches.get_flag("sort") {
         command::Command::BuildSorted
     } else {

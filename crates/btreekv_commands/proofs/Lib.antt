@@ -5,6 +5,8 @@ pub mod Counting
 pub mod Escaped
 pub mod Fits
 pub mod Found
+pub mod JsonEntries
+pub mod JsonRead
 pub mod JsonTexts
 pub mod Listed
 pub mod LookedUp

@@ -33,7 +33,7 @@ unended b (c ∷ cs) some h = last_record b c cs h
 
 -- Escapes have no tab.
 
-lacks_more : (b x : ℕ) (xs : List ℕ) → x ≢ b → Lacks b xs → Lacks b (x ∷ xs)
+pub lacks_more : (b x : ℕ) (xs : List ℕ) → x ≢ b → Lacks b xs → Lacks b (x ∷ xs)
 lacks_more b x xs h rest zero in_range same = h same
 lacks_more b x xs h rest (suc k) in_range same = rest k (omega (arith, in_range)) same
 
@@ -70,7 +70,7 @@ tabless = escape_lacks 9 (omega arith) no_tab no_letter_tab
 pub feedless : (text : List ℕ) → Lacks 10 (escape text)
 feedless = escape_lacks 10 (omega arith) no_feed no_letter_feed
 
-lacks_both : (b : ℕ) (xs ys : List ℕ) → Lacks b xs → Lacks b ys → Lacks b (xs ++ ys)
+pub lacks_both : (b : ℕ) (xs ys : List ℕ) → Lacks b xs → Lacks b ys → Lacks b (xs ++ ys)
 lacks_both b [] ys p q = q
 lacks_both b (x ∷ xs) ys p q = lacks_more b x (xs ++ ys) (p 0 (omega arith)) (lacks_both b xs ys (lacks_rest b x xs p) q)
 
@@ -143,7 +143,7 @@ in_front end key value rest in_key in_value tab =
     append_assoc key (9 ∷ value ++ end ∷ []) rest ∙ (ap (λ (z : List ℕ). key ++ 9 ∷ z) (append_assoc value (end ∷ []) rest) ∙ sym (append_assoc key (9 ∷ value) (end ∷ rest))) in
     ap (records end) spelled ∙ ended end (key ++ 9 ∷ value) rest (lacks_both end key (9 ∷ value) in_key (lacks_more end 9 value tab in_value))
 
-match_first : (R : List ℕ → Entry → Type 0) (parts rest : List (List ℕ)) (part : List ℕ) (x : Entry) (xs : List Entry) → parts ≡ part ∷ rest → R part x → Match R rest xs → Match R parts (x ∷ xs)
+pub match_first : (R : List ℕ → Entry → Type 0) (parts rest : List (List ℕ)) (part : List ℕ) (x : Entry) (xs : List Entry) → parts ≡ part ∷ rest → R part x → Match R rest xs → Match R parts (x ∷ xs)
 match_first R parts rest part x xs is one more = subst (λ ps. Match R ps (x ∷ xs)) (sym is) (one, more)
 
 tab_is_no : (b c : ℕ) → c ≡ 9 → b ≢ 9 → c ≢ b

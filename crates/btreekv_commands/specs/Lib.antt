@@ -5,6 +5,7 @@ pub mod Escapes
 pub mod Figures
 pub mod Forms
 pub mod Json
+pub mod JsonRecords
 pub mod Lines
 pub mod Nodes
 pub mod Opening

@@ -4,9 +4,10 @@ use Rattle.btreearc_lines.specs.Grammar.{begun}
 use Rattle.btreearc_lines.specs.declared.fault.ProgramFault.{ProgramFault}
 use Rattle.btreearc_lines.specs.declared.fault.ProgramFault.TheVariants.{Line, Memory}
 use Rattle.btreekv_commands.specs.Escapes.{escape}
+use Rattle.btreekv_commands.specs.JsonRecords.{IsJsonEntry}
 use Rattle.btreekv_commands.specs.Lines.{Entry, IsEntry, Lacks}
 use Rattle.btreekv_commands.specs.declared.records.Records.{Records}
-use Rattle.btreekv_commands.specs.declared.records.Records.TheVariants.{Escaped, Null}
+use Rattle.btreekv_commands.specs.declared.records.Records.TheVariants.{Escaped, Null, Json}
 
 -- the parts of bytes that a byte ends; the last one may lack it
 abbrev pub records : ℕ → List ℕ → List (List ℕ)
@@ -17,6 +18,7 @@ records end (c ∷ cs) = if c == end then [] ∷ records end cs else begun c (re
 abbrev pub end_of : Records → ℕ
 end_of Escaped = 10
 end_of Null = 0
+end_of Json = 10
 
 -- the escapes of a key and of a value with a tab between
 pub record IsEscaped (record_ : List ℕ) (x : Entry) : Type 0 where
@@ -27,6 +29,7 @@ pub record IsEscaped (record_ : List ℕ) (x : Entry) : Type 0 where
 abbrev pub IsRecord : Records → List ℕ → Entry → Type 0
 IsRecord Escaped = IsEscaped
 IsRecord Null = IsEntry
+IsRecord Json = IsJsonEntry
 
 -- record by record
 abbrev pub Match : (List ℕ → Entry → Type 0) → List (List ℕ) → List Entry → Type 0

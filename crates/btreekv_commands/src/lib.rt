@@ -12,6 +12,7 @@ pub mod explaining;
 pub mod figures;
 pub mod forms;
 pub mod json;
+mod json_records;
 pub mod lines;
 pub mod listing;
 pub mod merging;

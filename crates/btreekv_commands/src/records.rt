@@ -9,6 +9,7 @@ ghost use Rattle.btreekv_commands.specs.Texts.{texts_of};
 
 use crate::escapes::unescape;
 use crate::forms::Form;
+use crate::json_records::json_entry;
 use crate::lines::{entry_of, split_at_first};
 use btreearc_lines::fault::ProgramFault;
 use std::alloc::Global;
@@ -20,15 +21,19 @@ pub enum Records {
     Escaped,
     /// A key, a tab and a value, each as it is. A zero byte ends a record.
     Null,
+    /// A JSON object of two members, `key` and `value`, which are strings. A line feed ends a record.
+    Json,
 }
 
-/// States that what is written in a form is read as the same entries. Escapes are read of all texts, and zero bytes are read as ends of
-/// entries that have none.
+/// States that what is written in a form is read as the same entries. Escapes and JSON lines are read of all texts, and zero bytes are
+/// read as ends of entries that have none.
 pub fn written_records_are_read()
     ensures escaped { (entries : List Entry) → AllByRecursion AreUtf8 entries →
         AreRecords Records.Escaped (text_in Form.Escaped entries) entries }
     ensures null { (entries : List Entry) → AllByRecursion IsNullFree entries →
         AreRecords Records.Null (text_in Form.Null entries) entries }
+    ensures json { (entries : List Entry) → AllByRecursion AreUtf8 entries →
+        AreRecords Records.Json (text_in Form.Json entries) entries }
 {}
 
 /// Returns the byte that ends a record.
@@ -36,7 +41,7 @@ fn end_of(form: Records) -> u8
     ensures { result ≡ end_of form }
 {
     match form {
-        Records::Escaped => b'\n',
+        Records::Escaped | Records::Json => b'\n',
         Records::Null => 0,
     }
 }
@@ -145,6 +150,7 @@ fn record_entry(
     match form {
         Records::Escaped => escaped_entry(alloc, part),
         Records::Null => plain_entry(alloc, part),
+        Records::Json => json_entry(alloc, part),
     }
 }
 

@@ -11,3 +11,9 @@ returns-in-Null-clause-some c = rw c.in-Null.is c.plain_entry.ensures.some
 
 pub returns-in-Null-clause-none : goal.returns-in-Null-clause-none
 returns-in-Null-clause-none c = rw c.in-Null.is c.plain_entry.ensures.none
+
+pub returns-in-Json-clause-some : goal.returns-in-Json-clause-some
+returns-in-Json-clause-some c = rw c.in-Json.is c.json_entry.ensures.some
+
+pub returns-in-Json-clause-none : goal.returns-in-Json-clause-none
+returns-in-Json-clause-none c = rw c.in-Json.is c.json_entry.ensures.none
