@@ -178,6 +178,16 @@ impl Wire for Vec<u8> {
     }
 }
 
+impl<T: Wire> Wire for Option<T> {
+    fn take(alloc: Global, input: &mut Input<'_>) -> anyhow::Result<Option<T>> {
+        if bool::take(alloc, input)? {
+            Ok(Some(T::take(alloc, input)?))
+        } else {
+            Ok(None)
+        }
+    }
+}
+
 impl<A: Wire, B: Wire> Wire for (A, B) {
     fn take(alloc: Global, input: &mut Input<'_>) -> anyhow::Result<(A, B)> {
         let first = A::take(alloc, input)?;

@@ -108,6 +108,37 @@ fn of_bytes(
             Entry<ArchivedBytes, ArchivedNonZeroU16>,
             2,
         >(alloc, mode, case, out),
+        _ => of_options(alloc, kind, mode, case, out),
+    }
+}
+
+/// Runs a case of a map with options in it.
+fn of_options(
+    alloc: Global,
+    kind: &str,
+    mode: Mode,
+    case: &[u8],
+    out: &mut String,
+) -> anyhow::Result<()> {
+    match kind {
+        "optu32,u64,5" => {
+            sealed::<Option<u32>, u64, ArchivedOption<ArchivedU32>, ArchivedU64, 5>(
+                alloc, mode, case, out,
+            )
+        }
+        "opttext,u8,2" => {
+            sealed::<Option<String>, u8, ArchivedOption<ArchivedText>, u8, 2>(
+                alloc, mode, case, out,
+            )
+        }
+        "u32,optu8,5" => {
+            native::<u32, Option<u8>, ArchivedU32, ArchivedOption<u8>, 5>(alloc, mode, case, out)
+        }
+        "u32,opttext,5" => {
+            native::<u32, Option<String>, ArchivedU32, ArchivedOption<ArchivedText>, 5>(
+                alloc, mode, case, out,
+            )
+        }
         _ => of_others(alloc, kind, mode, case, out),
     }
 }

@@ -158,6 +158,19 @@ impl Shown for ArchivedBytes {
     }
 }
 
+/// The value after `some`, or `none`.
+impl<T: Shown> Shown for ArchivedOption<T> {
+    fn show(view: &View<'_, ArchivedOption<T>>, out: &mut String) -> Result<(), AllocError> {
+        match view.as_option() {
+            Some(value) => {
+                out.push_str("some ")?;
+                T::show(&value, out)
+            }
+            None => out.push_str("none"),
+        }
+    }
+}
+
 /// Both parts, in parentheses.
 impl<K: Shown, V: Shown> Shown for Entry<K, V> {
     fn show(view: &View<'_, Entry<K, V>>, out: &mut String) -> Result<(), AllocError> {

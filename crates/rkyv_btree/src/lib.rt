@@ -59,9 +59,10 @@ pub mod laws {
     pub use rkyv_btree_base::laws::{
         archives_are_accepted, claims_are_apart, each_tree_needs_room, entries_are_determined,
         entries_compare_key_first, faults_are_exact, left_complete_is_smallest, logarithm,
-        natives_are_determined, plan_is_recursive, plan_is_the_left_complete_tree,
-        spelled_trees_have_the_shape, std_types_are_determined, texts_are_determined,
-        trees_are_determined, wasteful_trees, worked_trees, written_maps_are_held,
+        natives_are_determined, options_are_determined, plan_is_recursive,
+        plan_is_the_left_complete_tree, spelled_trees_have_the_shape, std_types_are_determined,
+        texts_are_determined, trees_are_determined, wasteful_trees, worked_trees,
+        written_maps_are_held,
     };
     pub use rkyv_btree_convert::native_map::{last_values_count, maps_are_given_by_entries};
     pub use rkyv_btree_convert::round_trip::{
@@ -92,6 +93,11 @@ pub mod map {
 /// Archived types whose values are native ones.
 pub mod native {
     pub use rkyv_btree_view::native::ToNative;
+}
+
+/// Options, read in place.
+pub mod option {
+    pub use rkyv_btree_compound::option_view::ViewOption;
 }
 
 /// Ranges of the entries of a map, and of its keys.
@@ -196,6 +202,7 @@ pub mod prelude {
         ArchivedNonZeroU64,
     };
     pub use rkyv_btree_base::numbers::{ArchivedU16, ArchivedU32, ArchivedU64};
+    pub use rkyv_btree_base::option::ArchivedOption;
     pub use rkyv_btree_base::place::VecWriter;
     pub use rkyv_btree_base::refusal::Refusal;
     pub use rkyv_btree_base::scalars::{ArchivedChar, ArchivedNonZeroU32};
@@ -204,6 +211,7 @@ pub mod prelude {
     pub use rkyv_btree_base::text::ArchivedText;
     pub use rkyv_btree_base::util::Entry;
     pub use rkyv_btree_base::whole::to_archive;
+    pub use rkyv_btree_compound::option_view::ViewOption;
     pub use rkyv_btree_convert::deserialize::{Deserialize, DeserializeFault};
     pub use rkyv_btree_convert::deserialize_native::DeserializeNative;
     pub use rkyv_btree_convert::entry_type::EntryType;

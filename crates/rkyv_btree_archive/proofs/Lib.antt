@@ -3,6 +3,7 @@ pub mod Both
 pub mod ListArchives
 pub mod Numbers
 pub mod OneArchival
+pub mod OptionResolved
 pub mod Passing
 pub mod OpenNodes
 pub mod WholeTree

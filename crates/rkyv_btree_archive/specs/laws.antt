@@ -1,3 +1,5 @@
--- Laws that impls cite: those of archived pairs.
+-- Laws that impls cite: those of archived pairs and options.
 pub mod EntryArchived
 pub mod EntryCauses
+pub mod OptionArchived
+pub mod OptionCauses

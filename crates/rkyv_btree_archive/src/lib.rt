@@ -12,6 +12,7 @@ pub mod items;
 mod node_bytes;
 pub mod node_writes;
 mod non_zeros;
+pub mod option;
 pub mod std_types;
 pub mod strict_build;
 pub mod string;

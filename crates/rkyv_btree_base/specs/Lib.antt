@@ -47,7 +47,9 @@ pub use Rattle.rkyv_btree_writer.specs.declared.fault.ResolveFault
 pub use Rattle.rkyv_btree_writer.specs.declared.fault.EntryFault
 pub use Rattle.rkyv_btree_writing_laws.specs.Kept
 pub use Rattle.rkyv_btree_writing_laws.specs.Determined
+pub use Rattle.rkyv_btree_compound.specs.Option
 pub use Rattle.rkyv_btree_archive.specs.EntryArchival
+pub use Rattle.rkyv_btree_archive.specs.OptionArchival
 pub use Rattle.rkyv_btree_archive.specs.TryBuilding
 pub use Rattle.rkyv_btree_writing_laws.specs.Image
 pub use Rattle.rkyv_btree_writing_laws.specs.Entries

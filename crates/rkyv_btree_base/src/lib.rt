@@ -61,6 +61,7 @@ pub mod laws {
     pub use rkyv_btree_archive::build::{
         archives_are_accepted, trees_are_determined, written_maps_are_held,
     };
+    pub use rkyv_btree_archive::option::options_are_determined;
     pub use rkyv_btree_archive::std_types::std_types_are_determined;
     pub use rkyv_btree_archive::string::texts_are_determined;
     pub use rkyv_btree_archive::util::entries_are_determined;
@@ -87,6 +88,11 @@ pub mod set {
 /// Archived byte strings, as a type of bytes.
 pub mod byte_string {
     pub use rkyv_btree_portable::byte_string::ArchivedBytes;
+}
+
+/// Archived options, as a type of bytes.
+pub mod option {
+    pub use rkyv_btree_compound::option::ArchivedOption;
 }
 
 /// Archived texts, as a type of bytes.

@@ -8,6 +8,7 @@ pub mod entry_type;
 pub mod from_archive;
 pub mod native_key;
 pub mod native_map;
+mod native_option;
 mod native_pair;
 pub mod native_set;
 mod non_zeros;

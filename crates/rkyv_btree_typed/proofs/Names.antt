@@ -71,6 +71,18 @@ abbrev bracket : (List ℕ → Read) → Rest → Read
 bracket read None = None
 bracket read (Some rest) = bracket_first read (read rest)
 
+abbrev option_end : TypeTerm → Rest → Read
+option_end value None = None
+option_end value (Some rest) = Some (term.option value, rest)
+
+abbrev option_value : Read → Read
+option_value None = None
+option_value (Some x) = option_end x.0 (after (codes ")") x.1)
+
+abbrev option : (List ℕ → Read) → Rest → Read
+option read None = None
+option read (Some rest) = option_value (read rest)
+
 abbrev pair_end : TypeTerm → TypeTerm → Rest → Read
 pair_end first second None = None
 pair_end first second (Some rest) = Some (term.pair first second, rest)
@@ -110,9 +122,11 @@ read_name zero bytes = None
 read_name (suc n) bytes =
     or_else (pair (read_name n) (after (codes "(") bytes))
     (or_else (bracket (read_name n) (after (codes "[") bytes))
-    (or_else (own_end (after (codes "<") bytes)) (leaves bytes)))
+    (or_else (option (read_name n) (after (codes "option(") bytes))
+    (or_else (own_end (after (codes "<") bytes)) (leaves bytes))))
 
 abbrev depth : TypeTerm → ℕ
+depth (term.option value) = suc (depth value)
 depth (term.pair first second) = suc (depth first + depth second)
 depth (term.set key entries) = suc (depth key)
 depth (term.map key value entries) = suc (depth key + depth value)
@@ -174,6 +188,10 @@ parses (term.own name) n x d h =
     let free = free_of_all 62 name h in
     ap (λ z. read_name (suc n) (60 ∷ z)) (append_assoc name (codes ">") x)
     ∙ (ap (λ z. Some (term.own z, back 62 (name ++ (62 ∷ x)))) (front_is 62 name x free) ∙ ap (λ z. Some (term.own name, z)) (back_is 62 name x free))
+parses (term.option value) zero x d h = absurd (omega (arith, d))
+parses (term.option value) (suc n) x d h =
+    ap (λ z. read_name (suc (suc n)) (codes "option(" ++ z)) (append_assoc (name_of value) (codes ")") x)
+    ∙ ap (λ r. or_else (option_value r) None) (parses value n (41 ∷ x) (omega (arith, d)) h)
 parses (term.pair first second) zero x d h = absurd (omega (arith, d))
 parses (term.pair first second) (suc n) x d h =
     let read = read_name (suc n) in

@@ -2,7 +2,8 @@
 use Rattle.std.specs.Prelude.{◌≢◌, ℕ, ◌<◌, ◌^◌, List, ◌++◌, codes, decimal}
 use Rattle.std.specs.List.{All}
 
--- an archived type: a map has the types of its keys and values and its entries a node, and one's own type the name that it states
+-- an archived type: an option has the type of its value, a map the types of its keys and values and its entries a node, and one's own
+-- type the name that it states
 pub data TypeTerm : Type 0 where
   u8 : TypeTerm
   u16 : TypeTerm
@@ -26,6 +27,7 @@ pub data TypeTerm : Type 0 where
   text : TypeTerm
   byte_string : TypeTerm
   own : List ℕ → TypeTerm
+  option : TypeTerm → TypeTerm
   pair : TypeTerm → TypeTerm → TypeTerm
   set : TypeTerm → ℕ → TypeTerm
   map : TypeTerm → TypeTerm → ℕ → TypeTerm
@@ -54,6 +56,7 @@ name_of unit_type = codes "()"
 name_of text = codes "text"
 name_of byte_string = codes "bytes"
 name_of (own name) = codes "<" ++ (name ++ codes ">")
+name_of (option value) = codes "option(" ++ (name_of value ++ codes ")")
 name_of (pair first second) = codes "(" ++ (name_of first ++ (codes ", " ++ (name_of second ++ codes ")")))
 name_of (set key entries) = codes "[" ++ (name_of key ++ (codes " / " ++ (decimal entries ++ codes "]")))
 name_of (map key value entries) = codes "[" ++ (name_of key ++ (codes " -> " ++ (name_of value ++ (codes " / " ++ (decimal entries ++ codes "]")))))
@@ -61,6 +64,7 @@ name_of (map key value entries) = codes "[" ++ (name_of key ++ (codes " -> " ++ 
 -- the entries a node are a number of 64 bits, and a stated name has no `>`
 abbrev pub IsNameable : TypeTerm → Type 0
 IsNameable (own name) = All (λ byte. byte ≢ 62) name
+IsNameable (option value) = IsNameable value
 IsNameable (pair first second) = IsNameable first × IsNameable second
 IsNameable (set key entries) = IsNameable key × (entries < 2 ^ 64)
 IsNameable (map key value entries) = IsNameable key × IsNameable value × (entries < 2 ^ 64)

@@ -5,6 +5,7 @@ ghost use Rattle.rkyv_btree_typed.specs.Stripping.{Strips};
 ghost use Rattle.rkyv_btree_typed.specs.TypeNames.{TypeTerm, name_of};
 ghost use Rattle.rkyv_btree_typed.specs.TypeNames as term;
 
+use rkyv_btree_compound::option::ArchivedOption;
 use rkyv_btree_plain::archived_plain::ArchivedPlain;
 use rkyv_btree_portable::byte_string::ArchivedBytes;
 use rkyv_btree_portable::entry::Entry;
@@ -266,6 +267,21 @@ impl<N: StatedName> TypeName for ArchivedPlain<N> {
         let name = strip(bytes, "<")?;
         let end = strip(name, N::stated_name())?;
         strip(end, ">")
+    }
+}
+
+impl<T: TypeName> TypeName for ArchivedOption<T> {
+    ghost term = { term.option T.term };
+
+    fn write_name<W: fmt::Write>(f: &mut fmt::Formatter<W>) -> fmt::Result {
+        let value = NameOf::<T>::new();
+        write!(f, "option({value})")
+    }
+
+    fn strip_name(bytes: &[u8]) -> Option<&[u8]> {
+        let value = strip(bytes, "option(")?;
+        let end = T::strip_name(value)?;
+        strip(end, ")")
     }
 }
 

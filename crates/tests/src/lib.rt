@@ -43,6 +43,7 @@ mod native_maps;
 mod natives;
 #[cfg(test)]
 mod numbers;
+mod options;
 #[cfg(test)]
 #[cfg(test)]
 mod pairs;
