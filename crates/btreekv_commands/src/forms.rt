@@ -5,7 +5,7 @@ ghost use Rattle.btreekv_commands.specs.Forms.{entry_line, value_line};
 ghost use Rattle.btreekv_commands.specs.Lines.{line_of};
 
 use crate::escapes::push_escape;
-use crate::json::push_string;
+use crate::json_text::push_string;
 use std::alloc::AllocError;
 
 /// How entries and values are written.

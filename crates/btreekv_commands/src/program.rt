@@ -8,7 +8,7 @@ use crate::command::Command;
 use crate::entries::{check_order, count_lines};
 use crate::figures::figures_of;
 use crate::forms::{Form, push_value};
-use crate::json::push_object;
+use crate::json_text::push_object;
 use crate::lines::parse_lines;
 use crate::listing::write_entries;
 use crate::opening::{open, strict_count};

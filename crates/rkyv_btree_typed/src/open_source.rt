@@ -55,8 +55,9 @@ impl<M: TypeName, E: Display + Drop> Error for TypedSourceFault<M, E> {}
 /// # Examples
 ///
 /// ```rust
-/// let mut room = [0u8; 256];
-/// let mut prices = open_typed_source::<SeekSource<File>, Prices>(source, BUDGET, &mut room)?;
+/// let mut room = [0u8; 4096];
+/// let source = CachedSource::new(alloc, file, 4)?;
+/// let mut prices = open_typed_source::<CachedSource<&[u8]>, Prices>(source, BUDGET, &mut room)?;
 /// ```
 pub fn open_typed_source<S: ReadAt + Drop, M: ArchivedMap + TypeName>(
     source: S,

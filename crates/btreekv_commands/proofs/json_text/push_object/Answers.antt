@@ -2,7 +2,7 @@
 use Rattle.std.proofs.Common.{◌++◌, [], ◌∷◌, sym}
 use Rattle.std.proofs.iter.Next.{Yields-more}
 use Rattle.btreekv_commands.proofs.JsonTexts.{member_more, object_end, separated}
-use Rattle.btreekv_commands.proofs.json.push_object.Goals as goal
+use Rattle.btreekv_commands.proofs.json_text.push_object.Goals as goal
 
 pub loop-key-preserved : goal.loop-key-preserved
 loop-key-preserved g c =

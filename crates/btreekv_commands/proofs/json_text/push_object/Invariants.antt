@@ -3,7 +3,7 @@ use Rattle.std.specs.Iterator.{Yields, IsFinite, size}
 use Rattle.rkyv_btree_portable.specs.Text.{text_kind}
 use Rattle.btreekv_commands.specs.Json.{members}
 use Rattle.btreekv_commands.proofs.JsonTexts.{separator}
-use Rattle.btreekv_commands.proofs.json.push_object.Given as goal
+use Rattle.btreekv_commands.proofs.json_text.push_object.Given as goal
 
 -- the members so far are written, and what comes before the next one is known
 abbrev pub invariant-loop-key : goal.invariant-loop-key
