@@ -64,10 +64,20 @@ enum {
     RKYV_BTREE_I64_TO_I64 = 14,
     RKYV_BTREE_I64_TO_TEXT = 15,
     RKYV_BTREE_TEXT_TO_I64 = 16,
+    RKYV_BTREE_U32_TO_BYTES = 17,
+    RKYV_BTREE_U64_TO_BYTES = 18,
+    RKYV_BTREE_I64_TO_BYTES = 19,
+    RKYV_BTREE_TEXT_TO_BYTES = 20,
+    RKYV_BTREE_BYTES_TO_U32 = 21,
+    RKYV_BTREE_BYTES_TO_U64 = 22,
+    RKYV_BTREE_BYTES_TO_I64 = 23,
+    RKYV_BTREE_BYTES_TO_TEXT = 24,
+    RKYV_BTREE_BYTES_TO_BYTES = 25,
     RKYV_BTREE_U32_SET = 26,
     RKYV_BTREE_U64_SET = 27,
     RKYV_BTREE_I64_SET = 28,
-    RKYV_BTREE_TEXT_SET = 29
+    RKYV_BTREE_TEXT_SET = 29,
+    RKYV_BTREE_BYTES_SET = 30
 };
 
 /* Why bytes were refused, or why entries have no archive. */
@@ -78,11 +88,11 @@ typedef struct {
     uint64_t allowed; /* the most that is allowed there, or 0 */
 } rkyv_btree_refusal;
 
-/* A key or a value: a number, or a text by its place in the buffer. Texts are UTF-8, without a final 0. A number of type i64 is cast to
+/* A key or a value: a number, or a text or bytes by their place in the buffer. Texts are UTF-8, and have no final 0. A number of type i64 is cast to
  * uint64_t, here and as a key or a value that a call takes. Keys of that type are ordered as int64_t. The value of an entry of a set is
  * all zeros where a call writes it, and isn't read where a call takes it. */
 typedef struct {
-    uint64_t number; /* of a text 0 */
+    uint64_t number; /* of a text and of bytes 0 */
     uint32_t start;  /* of a number 0 */
     uint32_t len;    /* of a number 0 */
 } rkyv_btree_item;
@@ -101,9 +111,9 @@ typedef struct {
 
 /* Keys or values one after the other, as a table has a column. Numbers have 4 or 8 bytes, as their type has, the least first; those
  * with a sign are in two's complement. Texts are UTF-8 in one buffer, and have offsets of 4 or 8 bytes: where each begins, and then where
- * the last ends. Of the values of a set no field is read. */
+ * the last ends. Byte strings are so too, with any bytes. Of the values of a set no field is read. */
 typedef struct {
-    const uint8_t *data; /* the numbers, or the bytes of all texts */
+    const uint8_t *data; /* the numbers, or the bytes of all texts or byte strings */
     size_t data_len;
     const uint8_t *offsets; /* of numbers NULL */
     size_t offsets_len;     /* how many bytes the offsets have, of numbers 0 */
@@ -152,7 +162,8 @@ uint32_t rkyv_btree_open_strict(rkyv_btree_map *map, uint32_t type, const uint8_
 /* Writes the number of entries. */
 uint32_t rkyv_btree_len(const rkyv_btree_map *map, uint32_t *len);
 
-/* Finds the entry with a key. RKYV_BTREE_NOT_FOUND if there is none, or if the keys are of the other type. */
+/* Finds the entry with a key. Here and below a key of bytes is looked for as a text is. RKYV_BTREE_NOT_FOUND if there is none, or if the
+ * keys are of the other type. */
 uint32_t rkyv_btree_get_number(const rkyv_btree_map *map, uint64_t key, rkyv_btree_entry *entry);
 uint32_t rkyv_btree_get_text(const rkyv_btree_map *map, const uint8_t *key, size_t key_len, rkyv_btree_entry *entry);
 
@@ -165,10 +176,10 @@ uint32_t rkyv_btree_find_text(uint32_t type, const uint8_t *data, size_t data_le
                               rkyv_btree_entry *entry, rkyv_btree_refusal *why);
 
 /* Finds the value of a key in an archive of `size` bytes of which some pieces are in memory, in `data`. It validates what it reads,
- * as the two calls above do, in the bytes that the pieces have. A value that is a text is written to `buffer`, and `value` has its place there.
+ * as the two calls above do, in the bytes that the pieces have. A value that is a text or bytes is written to `buffer`, and `value` has its place there.
  * RKYV_BTREE_MISSING if the lookup needs bytes that no piece has whole: `found` many from position `at` on. Add a piece with them, and call
  * again. RKYV_BTREE_NO_ROOM if `buffer` has fewer than `found` bytes, which the lookup needs so far. RKYV_BTREE_BAD_ITEM if the key is no
- * key of the type: a text for a number or the other way round, a number past 32 bits, or a text that isn't UTF-8. */
+ * key of the type: a text for a number or the other way round, a number past 32 bits, or where the keys are texts one that isn't UTF-8. */
 uint32_t rkyv_btree_find_number_in(uint32_t type, uint64_t size, const rkyv_btree_piece *pieces, size_t pieces_len, const uint8_t *data,
                                    size_t data_len, uint64_t key, uint8_t *buffer, size_t buffer_len, rkyv_btree_item *value,
                                    rkyv_btree_refusal *why);
@@ -201,18 +212,18 @@ uint32_t rkyv_btree_read_edit(rkyv_btree_map *map, const rkyv_btree_edit *edit);
 uint32_t rkyv_btree_set_number(rkyv_btree_edit *edit, uint64_t key, uint64_t value);
 uint32_t rkyv_btree_set_text(rkyv_btree_edit *edit, const uint8_t *key, size_t key_len, uint64_t value);
 
-/* Builds the archive of entries, whose texts are in one buffer, in their order; or only if the keys increase. Where the archive has
+/* Builds the archive of entries, whose texts and bytes are in one buffer, in their order; or only if the keys increase. Where the archive has
  * more bytes than there is room for, nothing is written to `out`, and the call returns RKYV_BTREE_NO_ROOM. Both then and on success
  * `archive_len` is how many bytes the archive has. After another code but RKYV_BTREE_BAD_TYPE `why` has the cause, and nothing else is
- * written. RKYV_BTREE_BAD_ITEM if a number has more than 32 bits where the type has 32, or a text isn't UTF-8 or not within `texts`.
+ * written. RKYV_BTREE_BAD_ITEM if a number has more than 32 bits where the type has 32, or a text isn't UTF-8, or a text or bytes aren't within `texts`.
  * RKYV_BTREE_NOT_INCREASING if the keys must increase. In `why` the index of the first such entry is `found`. */
 uint32_t rkyv_btree_build(uint32_t type, const rkyv_btree_entry *entries, size_t entries_len, const uint8_t *texts,
                           size_t texts_len, uint8_t *out, size_t out_len, size_t *archive_len, rkyv_btree_refusal *why);
 uint32_t rkyv_btree_build_strict(uint32_t type, const rkyv_btree_entry *entries, size_t entries_len, const uint8_t *texts,
                                  size_t texts_len, uint8_t *out, size_t out_len, size_t *archive_len, rkyv_btree_refusal *why);
 
-/* The same of the first `len` entries of two columns. RKYV_BTREE_BAD_ITEM if a column is shorter, if the offsets of a text aren't within
- * its buffer, or the second is before the first, or if a text isn't UTF-8. */
+/* The same of the first `len` entries of two columns. RKYV_BTREE_BAD_ITEM if a column is shorter, if the offsets of a text or of bytes aren't
+ * within their buffer, or the second is before the first, or if a text isn't UTF-8. */
 uint32_t rkyv_btree_build_arrays(uint32_t type, size_t len, const rkyv_btree_column *keys, const rkyv_btree_column *values,
                                  uint8_t *out, size_t out_len, size_t *archive_len, rkyv_btree_refusal *why);
 uint32_t rkyv_btree_build_arrays_strict(uint32_t type, size_t len, const rkyv_btree_column *keys, const rkyv_btree_column *values,

@@ -122,7 +122,7 @@ def rust(header, types):
 def python_types(types):
     """The lines for Python that the types determine."""
     names = ", ".join(f'"{each["name"]}"' for each in types.each)
-    lines = ["", f"Type = Literal[{names}]", "# Of each type its size and its alignment in an archive, and the format of its numbers. A text has none."]
+    lines = ["", f"Type = Literal[{names}]", "# Of each type its size and its alignment in an archive, and the format of its numbers. Texts and bytes have none."]
     lines += ["TYPES = {"] + [f'    "{each["name"]}": ({each["size"]}, {each["align"]}, "{each["format"]}"),' for each in types.each] + ["}"]
     lines += ["# The same of the values of a set, which have no bytes."]
     lines += [f'EMPTY = "{types.empty["name"]}"', f'LAYOUTS = {{**TYPES, EMPTY: ({types.empty["size"]}, {types.empty["align"]}, "")}}']

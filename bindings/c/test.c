@@ -18,10 +18,10 @@ _Static_assert(sizeof(rkyv_btree_map) == 24 && offsetof(rkyv_btree_map, type) ==
 _Static_assert(sizeof(rkyv_btree_edit) == 24 && offsetof(rkyv_btree_edit, type) == 20, "edit");
 _Static_assert(sizeof(rkyv_btree_cursor) == 284 && offsetof(rkyv_btree_cursor, path) == 28, "cursor");
 
-enum { MOST = 1000, LAST = RKYV_BTREE_TEXT_SET, NO_TYPE = LAST + 1 };
+enum { MOST = 1000, LAST = RKYV_BTREE_BYTES_SET, NO_TYPE = LAST + 1 };
 
-/* What the keys and the values of each type of maps are. Some numbers before the last are no type's. */
-enum kind { NONE, U32, U64, I64, TEXT, EMPTY };
+/* What the keys and the values of each type of maps are. */
+enum kind { NONE, U32, U64, I64, TEXT, BYTES, EMPTY };
 static const struct {
     enum kind key, value;
 } kinds[LAST + 1] = {
@@ -31,7 +31,10 @@ static const struct {
     [RKYV_BTREE_I64_TO_U64] = {I64, U64},    [RKYV_BTREE_I64_TO_I64] = {I64, I64},    [RKYV_BTREE_I64_TO_TEXT] = {I64, TEXT},
     [RKYV_BTREE_TEXT_TO_U32] = {TEXT, U32},  [RKYV_BTREE_TEXT_TO_U64] = {TEXT, U64},  [RKYV_BTREE_TEXT_TO_I64] = {TEXT, I64},
     [RKYV_BTREE_TEXT_TO_TEXT] = {TEXT, TEXT}, [RKYV_BTREE_U32_SET] = {U32, EMPTY},      [RKYV_BTREE_U64_SET] = {U64, EMPTY},
-    [RKYV_BTREE_I64_SET] = {I64, EMPTY},     [RKYV_BTREE_TEXT_SET] = {TEXT, EMPTY},
+    [RKYV_BTREE_I64_SET] = {I64, EMPTY},     [RKYV_BTREE_TEXT_SET] = {TEXT, EMPTY},    [RKYV_BTREE_U32_TO_BYTES] = {U32, BYTES},
+    [RKYV_BTREE_U64_TO_BYTES] = {U64, BYTES}, [RKYV_BTREE_I64_TO_BYTES] = {I64, BYTES}, [RKYV_BTREE_TEXT_TO_BYTES] = {TEXT, BYTES},
+    [RKYV_BTREE_BYTES_TO_U32] = {BYTES, U32}, [RKYV_BTREE_BYTES_TO_U64] = {BYTES, U64}, [RKYV_BTREE_BYTES_TO_I64] = {BYTES, I64},
+    [RKYV_BTREE_BYTES_TO_TEXT] = {BYTES, TEXT}, [RKYV_BTREE_BYTES_TO_BYTES] = {BYTES, BYTES}, [RKYV_BTREE_BYTES_SET] = {BYTES, EMPTY},
 };
 
 /* Of lengths, keys and positions one in so many is taken. */
@@ -41,8 +44,9 @@ static rkyv_btree_entry given[MOST];
 static uint8_t texts[64 * MOST];
 static size_t texts_len;
 
-static int has_texts_as_keys(uint32_t type) { return kinds[type].key == TEXT; }
-static int has_texts_as_values(uint32_t type) { return kinds[type].value == TEXT; }
+static int is_pointed(enum kind kind) { return kind == TEXT || kind == BYTES; }
+static int has_texts_as_keys(uint32_t type) { return is_pointed(kinds[type].key); }
+static int has_texts_as_values(uint32_t type) { return is_pointed(kinds[type].value); }
 static int has_numbers_as_values(uint32_t type) { return kinds[type].value < TEXT; }
 
 static rkyv_btree_item text(const char *words, unsigned number) {
@@ -57,14 +61,14 @@ static rkyv_btree_item number(uint64_t value) {
     return item;
 }
 
-/* Entries 0 to count - 1: the keys 2 * i or "key 0000i". Keys with a sign are around 0, and values with a sign are below it. */
+/* Entries 0 to count - 1: the keys 2 * i or "key 0000i", which bytes have a byte before that begins no text. Keys with a sign are around 0, and values with a sign are below it. */
 static void give(uint32_t type, unsigned count) {
     texts_len = 0;
     for (unsigned i = 0; i < count; i++) {
         int64_t first = kinds[type].key == I64 ? -2 * (int64_t)(count / 2) : 0;
         int64_t value = kinds[type].value == EMPTY ? 0 : kinds[type].value == I64 ? -7 * (int64_t)i : 7 * (int64_t)i;
-        given[i].key = has_texts_as_keys(type) ? text("key %05u", i) : number((uint64_t)(first + 2 * (int64_t)i));
-        given[i].value = has_texts_as_values(type) ? text("value %u", i) : number((uint64_t)value);
+        given[i].key = has_texts_as_keys(type) ? text(kinds[type].key == BYTES ? "\xff %05u" : "key %05u", i) : number((uint64_t)(first + 2 * (int64_t)i));
+        given[i].value = has_texts_as_values(type) ? text(kinds[type].value == BYTES ? "\x80 %u" : "value %u", i) : number((uint64_t)value);
     }
 }
 
@@ -84,7 +88,7 @@ static rkyv_btree_column column(enum kind kind, unsigned count, int are_values, 
     for (unsigned i = 0; i < count; i++) {
         rkyv_btree_item item = are_values ? given[i].value : given[i].key;
         uint64_t start = all.data_len;
-        if (kind == TEXT) {
+        if (is_pointed(kind)) {
             memcpy(offsets + offset_size * i, &start, offset_size);
             memcpy(room + start, texts + item.start, item.len);
             all.data_len += item.len;
@@ -93,7 +97,7 @@ static rkyv_btree_column column(enum kind kind, unsigned count, int are_values, 
             all.data_len += width;
         }
     }
-    if (kind == TEXT) {
+    if (is_pointed(kind)) {
         uint64_t end = all.data_len;
         memcpy(offsets + offset_size * count, &end, offset_size);
         all.offsets = offsets, all.offsets_len = offset_size * (count + 1), all.offset_size = offset_size;
@@ -261,7 +265,6 @@ static void edits(void) {
     rkyv_btree_entry entry = {0};
     size_t len = 0;
     for (uint32_t type = 1; type <= LAST; type++) {
-        if (kinds[type].key == NONE) continue;
         give(type, 100);
         uint8_t *data = build(type, 100, &len);
         rkyv_btree_edit edit = RKYV_BTREE_EDIT(data, len);
@@ -340,6 +343,8 @@ static void misuse(void) {
     assert(rkyv_btree_find_number_in(9, 8, &whole, 1, bad, 8, 0, buffer, 512, &value, &why) == RKYV_BTREE_BAD_ITEM);
     assert(rkyv_btree_find_text_in(4, 8, &whole, 1, bad, 8, NULL, 0, buffer, 512, &value, &why) == RKYV_BTREE_BAD_ITEM);
     assert(rkyv_btree_find_text_in(9, 8, &whole, 1, bad, 8, (const uint8_t *)"\xff", 1, buffer, 512, &value, &why) == RKYV_BTREE_BAD_ITEM);
+    assert(rkyv_btree_find_text_in(RKYV_BTREE_BYTES_SET, 8, &whole, 1, bad, 8, (const uint8_t *)"\xff", 1, buffer, 512, &value, &why) == RKYV_BTREE_NOT_FOUND);
+    assert(rkyv_btree_find_number_in(RKYV_BTREE_BYTES_SET, 8, &whole, 1, bad, 8, 0, buffer, 512, &value, &why) == RKYV_BTREE_BAD_ITEM);
     assert(rkyv_btree_find_number_in(1, 7, NULL, 0, NULL, 0, 0, buffer, 512, &value, &why) == RKYV_BTREE_OUT_OF_RANGE);
     uint8_t other[8] = {1, 2, 3, 4, 5, 6, 7, 8};
     rkyv_btree_edit edit = RKYV_BTREE_EDIT(other, 8);
@@ -363,7 +368,10 @@ static void misuse(void) {
     two[1].value.number = 1ull << 32;
     assert(rkyv_btree_build(1, two, 2, NULL, 0, out, 8, &archive_len, &why) == RKYV_BTREE_BAD_ITEM);
     assert(why.code == RKYV_BTREE_BAD_ITEM && why.at == 0 && why.found == 1 && why.allowed == 0);
-    two[0].key.len = 1; /* no text has this byte */
+    two[0].key.len = 1; /* no text has this byte, but bytes can have it */
+    assert(rkyv_btree_build(RKYV_BTREE_BYTES_SET, two, 1, (const uint8_t *)"\xff", 1, out, 8, &archive_len, &why) == RKYV_BTREE_NO_ROOM);
+    assert(rkyv_btree_build(RKYV_BTREE_BYTES_SET, two, 1, NULL, 0, out, 8, &archive_len, &why) == RKYV_BTREE_BAD_ITEM);
+    archive_len = 8;
     assert(rkyv_btree_build(9, two, 1, NULL, 0, out, 8, &archive_len, &why) == RKYV_BTREE_BAD_ITEM && why.found == 0);
     assert(rkyv_btree_build(9, two, 1, (const uint8_t *)"\xff", 1, out, 8, &archive_len, &why) == RKYV_BTREE_BAD_ITEM);
     assert(archive_len == 8 && memcmp(kept, out, 8) == 0); /* a failed build writes nothing */
@@ -454,7 +462,6 @@ static void save(const char *name, uint32_t type) {
 int main(int count_of_words, char **words) {
     if (count_of_words > 1 && strcmp(words[1], "short") == 0) step = 31;
     for (uint32_t type = 1; type <= LAST; type++) {
-        if (kinds[type].key == NONE) continue;
         for (unsigned count = 0; count <= 220; count += step) one_type(type, count);
         if (step == 1) one_type(type, MOST);
         for (unsigned count = 0; count <= MOST; count += step + count / 3) pieces(type, count);

@@ -23,6 +23,7 @@ ENTRIES = {
     ("i64", "i64"): [(2 * n - 5000, -n) for n in range(5000)],
     ("text", "u32"): [(word, n) for n, word in enumerate(WORDS)],
     ("text", "text"): [(word, word[::-1]) for word in WORDS],
+    ("bytes", "bytes"): [(b"\xff" + word.encode(), word[::-1].encode() + b"\xff") for word in WORDS],
 }
 
 
@@ -36,7 +37,8 @@ class Lookups(unittest.TestCase):
                 for key, value in wanted.items():
                     self.assertEqual(remote.get(key), value)
                 self.assertEqual(remote.get_many(wanted), wanted)
-                absent = ["", "zz", "\ud800"] if key_type == "text" else [1, 2**32 - 1, -1, 2**64, -(2**64)]
+                others = [1, 2**32 - 1, -1, 2**64, -(2**64)]
+                absent = {"text": ["", "zz", "\ud800"], "bytes": [b"", b"\xff", b"zz"]}.get(key_type, others)
                 for key in [*absent, None, b"a"]:
                     self.assertIsNone(remote.get(key))
                 self.assertEqual(remote.get(absent[0], 7), 7)
@@ -221,7 +223,9 @@ class Ranges(unittest.TestCase):
             for top in (None, top_of(data, key_type, value_type)):
                 remote = Remote(Counted(data).fetch, len(data), key_type, value_type, block=1024, cache=4096, top=top)
                 self.assertEqual(list(remote.range()), entries)
-                ends = ["", "00777", WORDS[999], "00999 y", "z", "\ud800"] if key_type == "text" else [-1, 0, 1, 777, 2**41, 2**64]
+                words = ["", "00777", WORDS[999], "00999 y", "z", "\ud800"]
+                raw = [b"", b"\xff00777", b"\xff" + WORDS[999].encode(), b"\xff\xff"]
+                ends = {"text": words, "bytes": raw}.get(key_type, [-1, 0, 1, 777, 2**41, 2**64])
                 for low in [*ends, None]:
                     for high in [*ends, None]:
                         self.assertEqual(list(remote.range(low, high)), list(whole[low:high]), (low, high))

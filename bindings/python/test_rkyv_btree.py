@@ -18,8 +18,9 @@ from rkyv_btree._raw import BAD_TYPE, EMPTY, NUMBERS, TYPES
 VALUES = {
     "u32": [0, 1, 7, 2**31, 2**32 - 1],
     "u64": [0, 5, 2**32, 2**63, 2**64 - 1],
-    "i64": [-(2**63), -1, 0, 2**32, 2**63 - 1],
+    "i64": [-(2**63), -5, 0, 2**32, 2**63 - 1],
     "text": ["", "a", "b\n\t", "ä", "𝄞 long enough for a text of its own"],
+    "bytes": [b"", b"\0", b"a", b"\x80\xff", b"\xff" * 100],
 }
 
 
@@ -76,6 +77,31 @@ class Maps(unittest.TestCase):
             with self.assertRaises(Error):
                 len(mapped)
 
+    def test_bytes(self):
+        entries = [(bytes([n, 255]), bytes([255] * (n % 40))) for n in range(256)]
+        data = build("bytes", "bytes", entries, strict=True)
+        found = Map(data, "bytes", "bytes", strict=True)
+        for key, value in entries:
+            self.assertEqual((found[key], find(data, "bytes", "bytes", key)), (value, value))
+        for absent in (b"", b"\xff", "a", 1, None):
+            self.assertNotIn(absent, found)
+            self.assertIsNone(find(data, "bytes", "bytes", absent))
+        for low in (b"", b"\x07", b"\x07\xff", b"\xff\xff\xff"):
+            self.assertEqual(list(found[low:]), [entry for entry in entries if entry[0] >= low])
+            self.assertEqual(list(found[:low]), [entry for entry in entries if entry[0] < low])
+        joined = [b"".join(column) for column in zip(*entries)]
+        ends = [array.array("I", itertools.accumulate(map(len, column), initial=0)) for column in zip(*entries)]
+        self.assertEqual(build_arrays("bytes", "bytes", (ends[0], joined[0]), (ends[1], joined[1])), data)
+        buffer = bytearray(build("bytes", "u32", [(b"\xff", 1)]))
+        with Edit(buffer, "bytes", "u32") as edit:
+            edit[b"\xff"] = 2
+            self.assertEqual((list(edit.items()), [type(key) for key in edit]), ([(b"\xff", 2)], [bytes]))
+        for wrong in ("a", 1, bytearray(b"a")):
+            with self.assertRaises(TypeError):
+                build("bytes", "u32", [(wrong, 1)])
+        unordered = list(Map(build("bytes", "u32", [(b"b", 1), (b"a", 2)]), "bytes", "u32"))
+        self.assertEqual([type(key) for key in pickle.loads(pickle.dumps(unordered))], [bytes, bytes])
+
     def test_signed_keys(self):
         entries = [(3 * n, -n) for n in range(-300, 300)]
         data = build("i64", "i64", entries, strict=True)
@@ -113,6 +139,7 @@ class Maps(unittest.TestCase):
             ("text", "text", [("b", "1"), ("a", "2")]),
             ("u64", "u64", [(7919 * n % 1000, n) for n in range(2000)]),
             ("i64", "i64", [(7919 * n % 1000 - 500, -n) for n in range(2000)]),
+            ("bytes", "bytes", [(b"b", b"1"), (b"\xff", b""), (b"a", b"\xfe"), (b"b", b"2")]),
         ):
             keys, values = [list(part) for part in zip(*entries)]
             found = Map(build(key_type, value_type, entries), key_type, value_type)
@@ -231,7 +258,7 @@ class Maps(unittest.TestCase):
                 call()
             self.assertEqual(str(caught.exception), message)
         for call in (lambda: Map(bytes(8), "u16", "u32"), lambda: build("u32", "f64", []), lambda: find(bytes(8), "u32", "str", 1)):
-            with self.assertRaisesRegex(ValueError, "^a type must be 'u32', 'u64' or 'text', not '(u16|f64|str)'$"):
+            with self.assertRaisesRegex(ValueError, "^a type must be 'u32', 'u64', 'i64', 'text' or 'bytes', not '(u16|f64|str)'$"):
                 call()
 
     def test_refused(self):
@@ -302,14 +329,14 @@ class Maps(unittest.TestCase):
                 self.assertEqual(list(Map(build(key_type, value_type, entries), key_type, value_type).items()), entries)
 
     def test_build_arrays(self):
-        codes = {"u32": "I", "u64": "Q"}
+        codes = {"u32": "I", "u64": "Q", "i64": "q"}
         for size in ("i", "q", "I", "Q"):
             for key_type, keys in VALUES.items():
                 for value_type, values in VALUES.items():
                     columns = []
                     for kind, column in ((key_type, keys), (value_type, values)):
-                        if kind == "text":
-                            parts = [text.encode() for text in column]
+                        if kind in ("text", "bytes"):
+                            parts = [text.encode() if kind == "text" else text for text in column]
                             ends = [sum(map(len, parts[:n])) for n in range(len(parts) + 1)]
                             columns.append((array.array(size, ends), b"".join(parts)))
                         else:
@@ -486,14 +513,14 @@ class Maps(unittest.TestCase):
         for (key_type, value_type), number in NUMBERS.items():
             if value_type == EMPTY:
                 data = build_set(key_type, VALUES[key_type])
-                texts = sum(len(key.encode()) for key in VALUES[key_type] if isinstance(key, str))
+                texts = sum(len(key.encode() if isinstance(key, str) else key) for key in VALUES[key_type] if not isinstance(key, int))
                 layout = Layout(key_type, EMPTY, len(data))
                 self.assertEqual(len(data), -(-texts // layout.align) * layout.align + layout.leaf_size + 8)
                 self.assertEqual(Set(data, key_type)._map._map.type, number)
                 continue
             entry = VALUES[key_type][1], VALUES[value_type][1]
             data = build(key_type, value_type, [entry])
-            texts = sum(len(part) for part in entry if isinstance(part, str))
+            texts = sum(len(part) for part in entry if not isinstance(part, int))
             layout = Layout(key_type, value_type, len(data))
             # A leaf after the texts, which are rounded up to its alignment, and the eight bytes of the map.
             self.assertEqual(len(data), -(-texts // layout.align) * layout.align + layout.leaf_size + 8)
@@ -504,7 +531,7 @@ class Maps(unittest.TestCase):
             self.assertEqual((count, root + layout.size_of(inner[root], root)), (10, len(inner) - 8))
         for number in (0, max(NUMBERS.values()) + 1):
             self.assertEqual(rkyv_btree._lib.open(rkyv_btree._Map(), number, None, 0, rkyv_btree._Refusal()), BAD_TYPE)
-        with self.assertRaisesRegex(ValueError, "^a type must be 'u32', 'u64' or 'text', not 'i32'$"):
+        with self.assertRaisesRegex(ValueError, "^a type must be 'u32', 'u64', 'i64', 'text' or 'bytes', not 'i32'$"):
             build("i32", "u32", [])
 
     def test_version_and_types(self):

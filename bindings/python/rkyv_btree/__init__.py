@@ -1,4 +1,4 @@
-"""Archived B-tree maps and sets of numbers and texts, read in place from bytes or a mapped file.
+"""Archived B-tree maps and sets of numbers, texts and bytes, read in place from bytes or a mapped file.
 
     >>> data = build("text", "u32", [("apple", 3), ("pear", 5)])
     >>> prices = Map(data, "text", "u32")
@@ -52,8 +52,11 @@ from ._raw import (
 __all__ = ["Edit", "Error", "Map", "Set", "build", "build_arrays", "build_set", "contains", "find"]
 __version__ = "0.1.0"
 
-Key = Union[int, str]
-Value = Union[int, str]
+Key = Union[int, str, bytes]
+Value = Union[int, str, bytes]
+
+# What keys and values are that aren't numbers.
+_CLASSES: dict[str, type] = {"text": str, "bytes": bytes}
 
 # How many entries are read at a time: few at first, and then more.
 _FIRST_BATCH, _LAST_BATCH = 16, 1024
@@ -156,9 +159,32 @@ def _number_in(number: int, kind: str) -> int:
     return number if number < limit else number + 2 * least
 
 
-def _checked(value: Any, is_text: bool, name: str) -> Any:
-    """Returns a value that is a text or a number, as it must be."""
-    wanted = str if is_text else int
+def _is_key(key: object, kind: str) -> bool:
+    """Returns whether a key is one of a type."""
+    if kind in _CLASSES:
+        return isinstance(key, _CLASSES[kind])
+    least, limit = _limits_of(kind)
+    return isinstance(key, int) and least <= key < limit
+
+
+def _bytes_of(key: object) -> Union[bytes, None]:
+    """Returns the bytes of a text or of bytes, as the archive has them, or None for a number."""
+    if isinstance(key, str):
+        return key.encode("utf-8", "surrogatepass")
+    return key if isinstance(key, bytes) else None
+
+
+def _value_of(data: Any, item: _Item, kind: str) -> Value:
+    """Returns what an item is, whose text or bytes are in `data`."""
+    if kind not in _CLASSES:
+        return _number_in(item.number, kind)
+    part = data[item.start : item.start + item.len]
+    return part.decode() if kind == "text" else bytes(part)
+
+
+def _checked(value: Any, kind: str, name: str) -> Any:
+    """Returns a value that is a text, bytes or a number, as its type is."""
+    wanted = _CLASSES.get(kind, int)
     if not isinstance(value, wanted):
         raise TypeError(f"{name} must be {wanted.__name__}, not {type(value).__name__}")
     return value
@@ -201,6 +227,16 @@ class _Text(str):
 
     def __reduce__(self) -> tuple[type, tuple[str]]:
         return str, (str(self),)
+
+
+class _Bytes(bytes):
+    """The same of bytes."""
+
+    token: object = None
+    value: Value = 0
+
+    def __reduce__(self) -> tuple[type, tuple[bytes]]:
+        return bytes, (bytes(self),)
 
 
 class _Items(ItemsView):
@@ -275,7 +311,6 @@ class Map(Mapping):
         """Sets what doesn't depend on the bytes, with a map that isn't open. Returns the number of the type."""
         number = self._type_number(key_type, value_type)
         self._view, self._map, self._types = view, _Map(), (key_type, value_type)
-        self._texts = (key_type == "text", value_type == "text")
         self._least, self._limit = _limits_of(key_type)
         self._order: Union[bool, None] = None
         # What the keys that the map gives have, as long as their values are those of the map.
@@ -305,9 +340,6 @@ class Map(Mapping):
     def __exit__(self, *error: object) -> None:
         self.close()
 
-    def _read(self, item: _Item, kind: str) -> Value:
-        return self._data[item.start : item.start + item.len].decode() if kind == "text" else _number_in(item.number, kind)
-
     def _opened(self) -> _Map:
         """Returns the map as the library has it, while it is open."""
         if not self._map.type:
@@ -321,23 +353,21 @@ class Map(Mapping):
             self._order = _lib.open_strict(_Map(), opened.type, opened.data, opened.data_len, _Refusal()) == OK
         return self._order
 
-    def _find(self, key: object) -> Union[_Entry, None]:
+    def _find(self, key: Any) -> Union[_Entry, None]:
         opened, entry = self._opened(), _Entry()
-        if self._texts[0]:
-            if not isinstance(key, str):
-                return None
-            text = key.encode("utf-8", "surrogatepass")
-            code = _lib.get_text(opened, text, len(text), entry)
-        else:
-            if not isinstance(key, int) or not self._least <= key < self._limit:
-                return None
+        if not _is_key(key, self._types[0]):
+            return None
+        text = _bytes_of(key)
+        if text is None:
             code = _lib.get_number(opened, key % 2**64, entry)
+        else:
+            code = _lib.get_text(opened, text, len(text), entry)
         return entry if code == OK else None
 
     def _gave(self, key: Any) -> bool:
         """Returns whether a key is from the map's own iteration, and has its value with it."""
         self._opened()
-        return isinstance(key, (_Number, _Text)) and key.token is self._token
+        return isinstance(key, (_Number, _Text, _Bytes)) and key.token is self._token
 
     def __len__(self) -> int:
         """Returns the number of entries."""
@@ -365,7 +395,7 @@ class Map(Mapping):
         entry = self._find(key)
         if entry is None:
             raise KeyError(key)
-        return self._read(entry.value, self._types[1])
+        return _value_of(self._data, entry.value, self._types[1])
 
     def __iter__(self) -> Iterator[Key]:
         """Returns an iterator over the keys, in their order."""
@@ -375,7 +405,7 @@ class Map(Mapping):
 
     def _given(self, key: Key, value: Value) -> Key:
         """Returns a key with its value."""
-        given = _Text(key) if isinstance(key, str) else _Number(key)
+        given: Any = {"text": _Text, "bytes": _Bytes}.get(self._types[0], _Number)(key)
         given.token, given.value = self._token, value
         return given
 
@@ -391,21 +421,21 @@ class Map(Mapping):
         opened, cursor = self._opened(), _Cursor()
         for bound in (low, high):
             if bound is not None:
-                _checked(bound, self._texts[0], "a key of a slice")
+                _checked(bound, self._types[0], "a key of a slice")
+        text = _bytes_of(low)
         if low is None:
             _lib.first(opened, cursor)
-        elif isinstance(low, str):
-            text = low.encode("utf-8", "surrogatepass")
+        elif text is not None:
             _lib.seek_text(opened, text, len(text), cursor)
         elif low < self._limit:
             _lib.seek_number(opened, max(low, self._least) % 2**64, cursor)
         return self._entries(cursor, high)
 
     def _entries(self, cursor: _Cursor, high: Union[Key, None]) -> Iterator[tuple[Key, Value]]:
-        opened, data, (keys_are_texts, values_are_texts) = self._opened(), self._data, self._texts
+        opened, data, (key_type, value_type) = self._opened(), self._data, self._types
         form = _ENTRIES[self._types]
         # Texts are compared as their bytes, as the archive's order is.
-        limit = high.encode("utf-8", "surrogatepass") if isinstance(high, str) else high
+        limit: Any = high if high is None or key_type not in _CLASSES else _bytes_of(high)
         room, written = _FIRST_BATCH, _SIZE()
         while True:
             batch = _BATCHES[room]()
@@ -416,14 +446,16 @@ class Map(Mapping):
             for key, key_start, key_len, value, start, length in entries:
                 if self._map is not opened:
                     raise Error(NOT_OPEN)
-                if keys_are_texts:
-                    text = data[key_start : key_start + key_len]
-                    if limit is not None and text >= limit:
-                        return
-                    key = text.decode()
-                elif limit is not None and key >= limit:
+                if key_type in _CLASSES:
+                    key = data[key_start : key_start + key_len]
+                if limit is not None and key >= limit:
                     return
-                yield key, data[start : start + length].decode() if values_are_texts else value
+                if key_type in _CLASSES:
+                    key = key.decode() if key_type == "text" else bytes(key)
+                if value_type in _CLASSES:
+                    part = data[start : start + length]
+                    value = part.decode() if value_type == "text" else bytes(part)
+                yield key, value
             if written.value < room:
                 return
             room = min(4 * room, _LAST_BATCH)
@@ -551,17 +583,17 @@ class Edit(Map):
     def __setitem__(self, key: Key, value: int) -> None:
         """Overwrites the value of a key. Raises KeyError if the key isn't found, and Error if the value isn't of the map's type."""
         self._opened()
-        _checked(value, False, "a value")
+        _checked(value, "u64", "a value")
         least, limit = _limits_of(self._types[1])
         if not least <= value < limit:
             raise Error(BAD_VALUE)
-        if self._texts[0]:
-            text = key.encode("utf-8", "surrogatepass") if isinstance(key, str) else None
-            code = NOT_FOUND if text is None else _lib.set_text(self._edit, text, len(text), value % 2**64)
-        elif isinstance(key, int) and self._least <= key < self._limit:
-            code = _lib.set_number(self._edit, key % 2**64, value % 2**64)
-        else:
+        text = _bytes_of(key)
+        if not _is_key(key, self._types[0]):
             code = NOT_FOUND
+        elif text is not None:
+            code = _lib.set_text(self._edit, text, len(text), value % 2**64)
+        else:
+            code = _lib.set_number(self._edit, key % 2**64, value % 2**64)
         if code == NOT_FOUND:
             raise KeyError(key)
         if code != OK:
@@ -588,23 +620,18 @@ def _found(data: Any, number: int, key_type: str, value_type: str, key: Key) -> 
     entry, why = _Entry(), _Refusal()
     with memoryview(data) as view:
         address = _address_of(view)
-        if key_type == "text":
-            if not isinstance(key, str):
-                return None
-            text = key.encode("utf-8", "surrogatepass")
-            code = _lib.find_text(number, address, view.nbytes, text, len(text), entry, why)
-        else:
-            least, limit = _limits_of(key_type)
-            if not isinstance(key, int) or not least <= key < limit:
-                return None
+        if not _is_key(key, key_type):
+            return None
+        text = _bytes_of(key)
+        if text is None:
             code = _lib.find_number(number, address, view.nbytes, key % 2**64, entry, why)
+        else:
+            code = _lib.find_text(number, address, view.nbytes, text, len(text), entry, why)
         if code == NOT_FOUND:
             return None
         if code != OK:
             raise Error(code, why.at, why.found, why.allowed)
-        if value_type == "text":
-            return ctypes.string_at(address + entry.value.start, entry.value.len).decode()
-        return _number_in(entry.value.number, value_type)
+        return _value_of(_Slices(view), entry.value, value_type)
 
 
 def contains(data: Any, key_type: Type, key: Key) -> bool:
@@ -632,7 +659,7 @@ class _Numbers:
         except (OverflowError, TypeError):
             least, limit = _limits_of(self.kind)
             for at, number in enumerate(numbers, index):
-                if not least <= _checked(number, False, self.name) < limit:
+                if not least <= _checked(number, self.kind, self.name) < limit:
                     raise Error(BAD_ITEM, found=at) from None
             raise
 
@@ -646,23 +673,29 @@ class _Numbers:
 
 
 class _Texts:
-    """A column of texts, to which more are added."""
+    """A column of texts or of bytes, to which more are added."""
 
-    def __init__(self, name: str) -> None:
-        self.data, self.ends, self.name = bytearray(), array("I", [0]), name
+    def __init__(self, kind: str, name: str) -> None:
+        self.data, self.ends, self.kind, self.name = bytearray(), array("I", [0]), kind, name
 
     def extend(self, texts: list[Any], index: int) -> None:
-        """Adds texts, of which the first is that of the entry at `index`."""
+        """Adds texts or bytes, of which the first is that of the entry at `index`."""
+        if self.kind == "bytes":
+            self._add(b"".join([_checked(part, "bytes", self.name) for part in texts]), map(len, texts))
+            return
         try:
             joined = "".join(texts).encode()
             lengths = map(len, texts if len(joined) == sum(map(len, texts)) else [text.encode() for text in texts])
         except (TypeError, UnicodeEncodeError):
             for at, text in enumerate(texts, index):
                 try:
-                    _checked(text, True, self.name).encode()
+                    _checked(text, "text", self.name).encode()
                 except UnicodeEncodeError:
                     raise Error(BAD_ITEM, found=at) from None
             raise
+        self._add(joined, lengths)
+
+    def _add(self, joined: bytes, lengths: Iterable[int]) -> None:
         if len(self.data) + len(joined) >= 2**32:
             raise Error(POSITION_OVERFLOW)
         ends = accumulate(lengths, initial=len(self.data))
@@ -680,7 +713,7 @@ class _Texts:
 
 
 def _started(kind: str, name: str) -> Union[_Numbers, _Texts]:
-    return _Texts(name) if kind == "text" else _Numbers(kind, name)
+    return _Texts(kind, name) if kind in _CLASSES else _Numbers(kind, name)
 
 
 def _built(number: int, count: int, keys: _Column, values: _Column, bytes_len: int, strict: bool) -> bytes:
@@ -734,9 +767,9 @@ class _Buffers:
 
     def __init__(self, kind: str, given: Any, name: str) -> None:
         self.views: list[memoryview] = []
-        if kind == "text":
+        if kind in _CLASSES:
             if not isinstance(given, tuple) or len(given) != 2:
-                raise TypeError(f"{name} must be a pair: the offsets of the texts, and their bytes")
+                raise TypeError(f"{name} must be a pair: the offsets of the {kind}, and all of their bytes")
             offsets, data = self._view(given[0], name), self._view(given[1], name)
             if offsets.itemsize not in (4, 8) or offsets.format.lstrip("@=<") not in "iIlLqQ":
                 raise TypeError(f"{name} must have offsets of 4 or 8 bytes, not of format {offsets.format!r}")
@@ -761,8 +794,8 @@ class _Buffers:
 def build_arrays(key_type: Type, value_type: Type, keys: Any, values: Any, strict: bool = False) -> bytes:
     """Returns the archive of two columns of one length, in their order, without a Python object for each entry.
 
-    A column of numbers is a buffer of them, as an `array.array` or an array of numpy is. A column of texts is a pair of buffers, as
-    Arrow has them: offsets of 4 or 8 bytes, one more than there are texts, and the UTF-8 of all texts. The buffers aren't copied, and
+    A column of numbers is a buffer of them, as an `array.array` or an array of numpy is. A column of texts or of bytes is a pair of
+    buffers, as Arrow has them: offsets of 4 or 8 bytes, one more than there are texts, and the bytes of all texts. The buffers aren't copied, and
     must not change during the call. Raises as `build` does.
 
         >>> from array import array

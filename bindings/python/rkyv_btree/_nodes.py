@@ -17,7 +17,7 @@ _ABSENT = 1
 
 
 class Text(NamedTuple):
-    """Where a text lies, and how many bytes it has."""
+    """Where a text or bytes lie, and how many bytes they are."""
 
     start: int
     len: int
@@ -89,13 +89,13 @@ class Layout:
         return Node(keys[:count], values[:count], children)
 
     def _items(self, kind: Type, pos: int, data: bytes, at: int) -> list[Item]:
-        if kind != "text":
+        if kind not in ("text", "bytes"):
             return list(struct.unpack_from(f"<{ENTRIES}{LAYOUTS[kind][2]}", data, at))
         fields = struct.unpack_from("<" + "iI" * ENTRIES, data, at)
         return [Text(pos + at + 8 * i + fields[2 * i], fields[2 * i + 1]) for i in range(ENTRIES)]
 
     def text_at(self, text: Text) -> tuple[int, int]:
-        """Returns the part of the archive that a text is. Raises Error if it is outside."""
+        """Returns the part of the archive that a text is, or bytes. Raises Error if it is outside."""
         if not 0 <= text.start <= self.size - text.len:
             raise Error(OUT_OF_RANGE, text.start)
         return text.start, text.len
@@ -110,5 +110,5 @@ def decoded(text: Text, data: bytes) -> str:
 
 
 def order_of(key: Key) -> Union[int, bytes]:
-    """Returns what is compared of a key: a number, or the bytes of a text."""
+    """Returns what is compared of a key: a number, bytes, or the bytes of a text."""
     return key.encode("utf-8", "surrogatepass") if isinstance(key, str) else key

@@ -46,18 +46,29 @@ I64_TO_U64 = 13
 I64_TO_I64 = 14
 I64_TO_TEXT = 15
 TEXT_TO_I64 = 16
+U32_TO_BYTES = 17
+U64_TO_BYTES = 18
+I64_TO_BYTES = 19
+TEXT_TO_BYTES = 20
+BYTES_TO_U32 = 21
+BYTES_TO_U64 = 22
+BYTES_TO_I64 = 23
+BYTES_TO_TEXT = 24
+BYTES_TO_BYTES = 25
 U32_SET = 26
 U64_SET = 27
 I64_SET = 28
 TEXT_SET = 29
+BYTES_SET = 30
 
-Type = Literal["u32", "u64", "i64", "text"]
-# Of each type its size and its alignment in an archive, and the format of its numbers. A text has none.
+Type = Literal["u32", "u64", "i64", "text", "bytes"]
+# Of each type its size and its alignment in an archive, and the format of its numbers. Texts and bytes have none.
 TYPES = {
     "u32": (4, 4, "I"),
     "u64": (8, 8, "Q"),
     "i64": (8, 8, "q"),
     "text": (8, 4, ""),
+    "bytes": (8, 4, ""),
 }
 # The same of the values of a set, which have no bytes.
 EMPTY = "empty"
@@ -80,10 +91,20 @@ NUMBERS = {
     ("i64", "i64"): I64_TO_I64,
     ("i64", "text"): I64_TO_TEXT,
     ("text", "i64"): TEXT_TO_I64,
+    ("u32", "bytes"): U32_TO_BYTES,
+    ("u64", "bytes"): U64_TO_BYTES,
+    ("i64", "bytes"): I64_TO_BYTES,
+    ("text", "bytes"): TEXT_TO_BYTES,
+    ("bytes", "u32"): BYTES_TO_U32,
+    ("bytes", "u64"): BYTES_TO_U64,
+    ("bytes", "i64"): BYTES_TO_I64,
+    ("bytes", "text"): BYTES_TO_TEXT,
+    ("bytes", "bytes"): BYTES_TO_BYTES,
     ("u32", "empty"): U32_SET,
     ("u64", "empty"): U64_SET,
     ("i64", "empty"): I64_SET,
     ("text", "empty"): TEXT_SET,
+    ("bytes", "empty"): BYTES_SET,
 }
 # The codes of errors that are at a position.
 AT_POSITION = (OUT_OF_RANGE, MISALIGNED, BAD_KIND, BAD_ENTRY, TOO_DEEP)

@@ -15,7 +15,7 @@ from collections import OrderedDict
 from collections.abc import AsyncIterator, Awaitable, Callable, Generator, Iterable, Iterator, Mapping
 from typing import Any, NamedTuple, TypeVar, Union
 
-from . import Error, Key, Type, Value, _checked, _lib, _limits_of, _number_in, _number_of
+from . import Error, Key, Type, Value, _bytes_of, _checked, _is_key, _lib, _number_of, _value_of
 from ._nodes import LEVELS, ROOT, Item, Layout, Text, decoded, order_of
 from ._raw import (
     BAD_ITEM,
@@ -74,7 +74,7 @@ class _Search:
 
     def __init__(self, remote: _Lookups, key: Key) -> None:
         self.remote, self.key = remote, key
-        self.text = key.encode("utf-8", "surrogatepass") if isinstance(key, str) else None
+        self.text = _bytes_of(key)
         # Of each piece its position, where it starts in the data, and how many bytes it has.
         self.pieces, self.data = array("I"), b""
         self.value: Union[Value, None] = None
@@ -99,8 +99,7 @@ class _Search:
                 break
             remote._room = ctypes.create_string_buffer(why.found)
         if code == OK:
-            kind = remote._types[1]
-            self.value = room[value.start : value.start + value.len].decode() if kind == "text" else _number_in(value.number, kind)
+            self.value = _value_of(room, value, remote._types[1])
             return None
         if code in (NOT_FOUND, BAD_ITEM):
             return None
@@ -151,7 +150,7 @@ class _Lookups:
         if block < 1:
             raise ValueError("a block has at least one byte")
         self._size, self._number = size, _number_of(key_type, value_type)
-        self._types, self._limits = (key_type, value_type), _limits_of(key_type)
+        self._types = (key_type, value_type)
         self._layout = Layout(key_type, value_type, size)
         self._block, self._most = block, max(cache // block, 2)
         self._blocks: OrderedDict[int, bytes] = OrderedDict()
@@ -172,9 +171,7 @@ class _Lookups:
         return top.pieces
 
     def _is_key(self, key: object) -> bool:
-        if self._types[0] == "text":
-            return isinstance(key, str)
-        return isinstance(key, int) and self._limits[0] <= key < self._limits[1]
+        return _is_key(key, self._types[0])
 
     def _find(self, keys: Iterable[Key]) -> _Fetching[dict[Key, Value]]:
         """Returns the values of the keys that are found. All lookups go on together, so that each block is fetched once for all of them."""
@@ -255,7 +252,7 @@ class _Lookups:
         """Returns a walk over the entries from `low` on and before `high`."""
         for bound in (low, high):
             if bound is not None:
-                _checked(bound, self._types[0] == "text", "a bound of a range")
+                _checked(bound, self._types[0], "a bound of a range")
         return _Walk(low, high)
 
     def _next(self, walk: _Walk) -> _Fetching[list[tuple[Key, Value]]]:
@@ -271,7 +268,7 @@ class _Lookups:
             key, item = task
             if walk.ends_before(key):
                 return []
-            value = item if not isinstance(item, Text) else (yield from self._text(item))
+            value = item if not isinstance(item, Text) else (yield from self._text(item, self._types[1]))
             return [(key, value)]
         if walk.whole and walk.passed != walk.count:
             raise Error(LENGTH_MISMATCH, found=walk.passed, allowed=walk.count)
@@ -287,7 +284,7 @@ class _Lookups:
         node = self._layout.node(pos, data if len(data) == size else (yield from self._part(pos, size)))
         tasks: list[_Task] = []
         for index, item in enumerate(node.keys):
-            key = item if not isinstance(item, Text) else (yield from self._text(item))
+            key = item if not isinstance(item, Text) else (yield from self._text(item, self._types[0]))
             if low is not None and order_of(key) < low:
                 continue
             if node.children and (child := node.children[index]) is not None:
@@ -297,8 +294,9 @@ class _Lookups:
             tasks.append(_Subtree(child, level + 1))
         return tasks
 
-    def _text(self, text: Text) -> _Fetching[str]:
-        return decoded(text, (yield from self._part(*self._layout.text_at(text))))
+    def _text(self, text: Text, kind: Type) -> _Fetching[Union[str, bytes]]:
+        data = yield from self._part(*self._layout.text_at(text))
+        return decoded(text, data) if kind == "text" else data
 
 
 class Remote(_Lookups):

@@ -31,7 +31,7 @@ from collections.abc import Callable, Iterable, Iterator
 from itertools import chain, islice
 from typing import Any, NamedTuple, Union
 
-from . import Error, Key, Map, Type, Value, build
+from . import Error, Key, Map, Type, Value, _is_key, build
 from ._nodes import order_of
 from ._raw import NOT_INCREASING
 from .remote import Remote, _object_at
@@ -351,9 +351,8 @@ class Shards:
     def get_many(self, keys: Iterable[Key]) -> dict[Key, Value]:
         """Returns the values of those keys that are found. It looks up all keys of one shard together."""
         by_shard: dict[int, list[Key]] = {}
-        wanted = str if self.published.key == "text" else int
         for key in keys:
-            if isinstance(key, wanted):
+            if _is_key(key, self.published.key):
                 by_shard.setdefault(self._number(key), []).append(key)
         by_shard.pop(-1, None)
         return {key: value for number in sorted(by_shard) for key, value in self._shard(number).get_many(by_shard[number]).items()}

@@ -92,7 +92,7 @@ def _parts(data: Any, layout: Layout, levels: int) -> set[tuple[int, int]]:
 
 
 def top_of(data: Any, key_type: Type, value_type: Type, levels: int = 5, etag: str = "") -> bytes:
-    """Returns the sidecar of an archive: its nodes of the first `levels` levels, and the texts of their keys. No value's text is in it.
+    """Returns the sidecar of an archive: its nodes of the first `levels` levels, and the texts or bytes of their keys. No value's are in it.
 
     `data` is `bytes` or an `mmap`. Raises Error for a fault in a node that is read. `etag` is that of the object which the archive will be
     behind HTTP, if it is known: then `Remote.open_url` compares it.

@@ -64,7 +64,7 @@ impl<'a, K: Field<'a>, V: Field<'a>> Builder<K, V> {
 
     /// Returns room that is enough for most archives of the entries. A node of five entries has at most 40 bytes beside them.
     fn room(&self) -> usize {
-        self.keys.bytes() + self.values.bytes() + 8 * self.len + 4096
+        self.keys.len() + self.values.len() + 8 * self.len + 4096
     }
 
     fn build_by(&self, build: Build) -> Result<Vec<u8>, Error> {

@@ -45,12 +45,12 @@ impl<'a, K: Field<'a>, V: Field<'a> + Number> Edit<'a, K, V> {
     pub fn get(&self, key: impl AsKey<K>) -> Option<V> {
         let mut raw = raw::Map { data: ptr::null(), data_len: 0, pos: 0, kind: 0 };
         let mut entry = raw::Entry::default();
-        // SAFETY: the map is open, and a text is borrowed during the call.
+        // SAFETY: the map is open, and bytes are borrowed during the call.
         let code = unsafe {
             raw::rkyv_btree_read_edit(&mut raw, &self.raw);
             match key.query().passed() {
                 Passed::Number(number) => raw::rkyv_btree_get_number(&raw, number, &mut entry),
-                Passed::Text(text) => raw::rkyv_btree_get_text(&raw, text.as_ptr(), text.len(), &mut entry),
+                Passed::Bytes(bytes) => raw::rkyv_btree_get_text(&raw, bytes.as_ptr(), bytes.len(), &mut entry),
             }
         };
         (code == raw::OK).then(|| V::narrowed(entry.value.number))
@@ -73,9 +73,9 @@ impl<'a, K: Field<'a>, V: Field<'a> + Number> Edit<'a, K, V> {
             Passed::Number(number) => unsafe {
                 raw::rkyv_btree_set_number(&mut self.raw, number, value.widened())
             },
-            // SAFETY: the map is open, and the text is borrowed during the call.
-            Passed::Text(text) => unsafe {
-                raw::rkyv_btree_set_text(&mut self.raw, text.as_ptr(), text.len(), value.widened())
+            // SAFETY: the map is open, and the bytes are borrowed during the call.
+            Passed::Bytes(bytes) => unsafe {
+                raw::rkyv_btree_set_text(&mut self.raw, bytes.as_ptr(), bytes.len(), value.widened())
             },
         };
         code == raw::OK

@@ -1,14 +1,15 @@
 use crate::raw::{Column, Item, Type};
 
-/// A type of keys or of values: `u32`, `u64`, `i64` or `&str`.
+/// A type of keys or of values: `u32`, `u64`, `i64`, `&str` or `&[u8]`.
 pub trait Field<'a>: Copy + sealed::Stored<'a> {}
 
 impl<'a> Field<'a> for u32 {}
 impl<'a> Field<'a> for u64 {}
 impl<'a> Field<'a> for i64 {}
 impl<'a> Field<'a> for &'a str {}
+impl<'a> Field<'a> for &'a [u8] {}
 
-/// What is looked up in a map with keys of type `K`: a number of that type, a text of any lifetime, or a reference to one of these.
+/// What is looked up in a map with keys of type `K`: a number of that type, a text or bytes of any lifetime, or a reference to one of these.
 pub trait AsKey<K>: sealed::Asked {}
 
 impl AsKey<u32> for u32 {}
@@ -16,6 +17,9 @@ impl AsKey<u64> for u64 {}
 impl AsKey<i64> for i64 {}
 impl AsKey<&str> for str {}
 impl AsKey<&str> for String {}
+impl AsKey<&[u8]> for [u8] {}
+impl<const N: usize> AsKey<&[u8]> for [u8; N] {}
+impl AsKey<&[u8]> for Vec<u8> {}
 impl<K, Q: AsKey<K> + ?Sized> AsKey<K> for &Q {}
 
 /// The value of an entry of a set, which has no bytes.
@@ -41,13 +45,14 @@ pub(crate) mod sealed {
         Number(u64),
         Signed(i64),
         Text(&'q str),
+        Bytes(&'q [u8]),
     }
 
-    /// The same as C takes it: a number with a sign is in two's complement.
+    /// The same as C takes it: a number with a sign is in two's complement, and a text is its bytes.
     #[derive(Clone, Copy)]
     pub enum Passed<'q> {
         Number(u64),
-        Text(&'q [u8]),
+        Bytes(&'q [u8]),
     }
 
     impl<'q> Query<'q> {
@@ -55,7 +60,8 @@ pub(crate) mod sealed {
             match self {
                 Query::Number(number) => Passed::Number(number),
                 Query::Signed(number) => Passed::Number(number as u64),
-                Query::Text(text) => Passed::Text(text.as_bytes()),
+                Query::Text(text) => Passed::Bytes(text.as_bytes()),
+                Query::Bytes(bytes) => Passed::Bytes(bytes),
             }
         }
     }
@@ -66,6 +72,7 @@ pub(crate) mod sealed {
         Number(u64),
         Signed(i64),
         Text(String),
+        Bytes(Vec<u8>),
     }
 
     pub trait Asked {
@@ -83,9 +90,9 @@ pub(crate) mod sealed {
     #[derive(Default)]
     pub struct Cells {
         data: Vec<u8>,
-        /// Where each text ends.
+        /// Where each text or byte string ends.
         ends: Vec<u64>,
-        is_text: bool,
+        has_ends: bool,
     }
 
     impl Cells {
@@ -93,17 +100,17 @@ pub(crate) mod sealed {
             self.data.extend_from_slice(bytes);
         }
 
-        fn text(&mut self, text: &str) {
+        fn bytes(&mut self, bytes: &[u8]) {
             if self.ends.is_empty() {
-                self.is_text = true;
+                self.has_ends = true;
                 self.ends.push(0);
             }
-            self.data.extend_from_slice(text.as_bytes());
+            self.data.extend_from_slice(bytes);
             self.ends.push(self.data.len() as u64);
         }
 
         /// Returns how many bytes they have in an archive.
-        pub fn bytes(&self) -> usize {
+        pub fn len(&self) -> usize {
             self.data.len() + 8 * self.ends.len()
         }
 
@@ -112,7 +119,7 @@ pub(crate) mod sealed {
             Column {
                 data: self.data.as_ptr(),
                 data_len: self.data.len(),
-                offsets: if self.is_text { self.ends.as_ptr().cast() } else { ptr::null() },
+                offsets: if self.has_ends { self.ends.as_ptr().cast() } else { ptr::null() },
                 offsets_len: 8 * self.ends.len(),
                 offset_size: 8,
             }
@@ -126,10 +133,10 @@ pub(crate) mod sealed {
         /// The same type, of a buffer that is borrowed for less time.
         type At<'s>: super::Field<'s>;
 
-        /// The same type, of which a text isn't borrowed: a `String`.
+        /// The same type, of which nothing is borrowed: a `String` or a `Vec<u8>`.
         type Owned;
 
-        /// Reads an item whose text is in `data`.
+        /// Reads an item whose text or bytes are in `data`.
         fn read(data: &'a [u8], item: Item) -> Self;
 
         /// Returns a key or a value that was read in an archive of this type.
@@ -166,6 +173,24 @@ pub(crate) mod sealed {
     impl Asked for String {
         fn query(&self) -> Query<'_> {
             Query::Text(self)
+        }
+    }
+
+    impl Asked for [u8] {
+        fn query(&self) -> Query<'_> {
+            Query::Bytes(self)
+        }
+    }
+
+    impl<const N: usize> Asked for [u8; N] {
+        fn query(&self) -> Query<'_> {
+            Query::Bytes(self)
+        }
+    }
+
+    impl Asked for Vec<u8> {
+        fn query(&self) -> Query<'_> {
+            Query::Bytes(self)
         }
     }
 
@@ -213,7 +238,7 @@ pub(crate) mod sealed {
         fn owned(datum: Datum) -> u32 {
             match datum {
                 Datum::Number(number) => u32::narrowed(number),
-                Datum::Signed(_) | Datum::Text(_) => 0,
+                _ => 0,
             }
         }
 
@@ -234,7 +259,7 @@ pub(crate) mod sealed {
         fn owned(datum: Datum) -> u64 {
             match datum {
                 Datum::Number(number) => number,
-                Datum::Signed(_) | Datum::Text(_) => 0,
+                _ => 0,
             }
         }
 
@@ -255,7 +280,7 @@ pub(crate) mod sealed {
         fn owned(datum: Datum) -> i64 {
             match datum {
                 Datum::Signed(number) => number,
-                Datum::Number(_) | Datum::Text(_) => 0,
+                _ => 0,
             }
         }
 
@@ -291,20 +316,41 @@ pub(crate) mod sealed {
 
         fn owned(datum: Datum) -> String {
             match datum {
-                Datum::Number(_) | Datum::Signed(_) => String::new(),
                 Datum::Text(text) => text,
+                _ => String::new(),
             }
         }
 
         fn read(data: &'a [u8], item: Item) -> &'a str {
-            let start = item.start as usize;
-            let text = data.get(start..start + item.len as usize).unwrap_or_default();
+            let text = <&[u8]>::read(data, item);
             // SAFETY: the item is one of a validated map in `data`, or what a lookup has validated there. Its texts are UTF-8.
             unsafe { std::str::from_utf8_unchecked(text) }
         }
 
         fn put(self, cells: &mut Cells) {
-            cells.text(self);
+            cells.bytes(self.as_bytes());
+        }
+    }
+
+    impl<'a> Stored<'a> for &'a [u8] {
+        const TYPE: Type = Type::Bytes;
+        type At<'s> = &'s [u8];
+        type Owned = Vec<u8>;
+
+        fn owned(datum: Datum) -> Vec<u8> {
+            match datum {
+                Datum::Bytes(bytes) => bytes,
+                _ => Vec::new(),
+            }
+        }
+
+        fn read(data: &'a [u8], item: Item) -> &'a [u8] {
+            let start = item.start as usize;
+            data.get(start..start + item.len as usize).unwrap_or_default()
+        }
+
+        fn put(self, cells: &mut Cells) {
+            cells.bytes(self);
         }
     }
 }

@@ -31,13 +31,13 @@ pub fn find<'a, K: Field<'a>, V: Field<'a>>(data: &'a [u8], key: impl AsKey<K>) 
             raw::rkyv_btree_find_number(kind, data.as_ptr(), data.len(), number, &mut entry, &mut why)
         },
         // SAFETY: pointers and lengths are those of two slices, which are borrowed during the call.
-        Passed::Text(text) => unsafe {
+        Passed::Bytes(bytes) => unsafe {
             raw::rkyv_btree_find_text(
                 kind,
                 data.as_ptr(),
                 data.len(),
-                text.as_ptr(),
-                text.len(),
+                bytes.as_ptr(),
+                bytes.len(),
                 &mut entry,
                 &mut why,
             )

@@ -1,4 +1,4 @@
-//! Archived B-tree maps and sets of numbers and texts, in bytes that are validated once and then read in place.
+//! Archived B-tree maps and sets of numbers, texts and bytes, in bytes that are validated once and then read in place.
 //!
 //! ```
 //! # fn main() -> Result<(), rkyv_btree::Error> {

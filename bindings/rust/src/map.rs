@@ -1,5 +1,5 @@
 use crate::error::Error;
-use crate::field::sealed::{Passed, Query};
+use crate::field::sealed::{Passed, Query, Stored};
 use crate::field::{AsKey, Field};
 use crate::raw;
 use std::cmp::Ordering;
@@ -92,9 +92,9 @@ impl<'a, K: Field<'a>, V: Field<'a>> Map<'a, K, V> {
             Passed::Number(number) => unsafe {
                 raw::rkyv_btree_get_number(&self.raw, number, &mut entry)
             },
-            // SAFETY: the map is open, and the text is borrowed during the call.
-            Passed::Text(text) => unsafe {
-                raw::rkyv_btree_get_text(&self.raw, text.as_ptr(), text.len(), &mut entry)
+            // SAFETY: the map is open, and the bytes are borrowed during the call.
+            Passed::Bytes(bytes) => unsafe {
+                raw::rkyv_btree_get_text(&self.raw, bytes.as_ptr(), bytes.len(), &mut entry)
             },
         };
         (code == raw::OK).then(|| (K::read(self.data, entry.key), V::read(self.data, entry.value)))
@@ -136,9 +136,9 @@ impl<'a, K: Field<'a>, V: Field<'a>> Map<'a, K, V> {
                 Passed::Number(number) => unsafe {
                     raw::rkyv_btree_seek_number(&self.raw, number, &mut cursor);
                 },
-                // SAFETY: the map is open, and the text is borrowed during the call.
-                Passed::Text(text) => unsafe {
-                    raw::rkyv_btree_seek_text(&self.raw, text.as_ptr(), text.len(), &mut cursor);
+                // SAFETY: the map is open, and the bytes are borrowed during the call.
+                Passed::Bytes(bytes) => unsafe {
+                    raw::rkyv_btree_seek_text(&self.raw, bytes.as_ptr(), bytes.len(), &mut cursor);
                 },
             },
         }
@@ -155,6 +155,19 @@ impl<'a, K: Field<'a>, Q: AsKey<K>> Index<Q> for Map<'a, K, &'a str> {
     ///
     /// If the key isn't found.
     fn index(&self, key: Q) -> &str {
+        self.get(key).expect("no such key")
+    }
+}
+
+impl<'a, K: Field<'a>, Q: AsKey<K>> Index<Q> for Map<'a, K, &'a [u8]> {
+    type Output = [u8];
+
+    /// Returns the bytes of a key.
+    ///
+    /// # Panics
+    ///
+    /// If the key isn't found.
+    fn index(&self, key: Q) -> &[u8] {
         self.get(key).expect("no such key")
     }
 }
@@ -301,11 +314,8 @@ fn compare(data: &[u8], key: raw::Item, query: Query<'_>) -> Ordering {
     match query {
         Query::Number(number) => key.number.cmp(&number),
         Query::Signed(number) => (key.number as i64).cmp(&number),
-        Query::Text(text) => {
-            let start = key.start as usize;
-            let bytes = data.get(start..start + key.len as usize).unwrap_or_default();
-            bytes.cmp(text.as_bytes())
-        }
+        Query::Text(text) => <&[u8]>::read(data, key).cmp(text.as_bytes()),
+        Query::Bytes(bytes) => <&[u8]>::read(data, key).cmp(bytes),
     }
 }
 

@@ -11,12 +11,13 @@ pub const ROOT: u64 = 8;
 /// The offset of a pointer to nothing.
 const ABSENT: i32 = 1;
 
-/// A key or a value: a number, or the place of a text.
+/// A key or a value: a number, or the place of a text or of bytes.
 #[derive(Clone, Copy, Debug, PartialEq, Eq)]
 pub enum Cell {
     Number(u64),
     Signed(i64),
     Text { start: i64, len: u32 },
+    Bytes { start: i64, len: u32 },
 }
 
 /// A node. A leaf has no children; of an inner node a child that is absent is `None`.
@@ -147,12 +148,12 @@ impl Layout {
         })
     }
 
-    /// Returns the part of the archive that a text is.
+    /// Returns the part of the archive that a text is, or bytes.
     ///
     /// # Errors
     ///
-    /// If the text isn't within the archive.
-    pub fn text_at(&self, start: i64, len: u32) -> Result<Range<u64>, Error> {
+    /// If they aren't within the archive.
+    pub fn bytes_at(&self, start: i64, len: u32) -> Result<Range<u64>, Error> {
         let end = start + i64::from(len);
         match (u64::try_from(start), u64::try_from(end)) {
             (Ok(start), Ok(end)) if end <= self.size => Ok(start..end),
@@ -165,16 +166,16 @@ impl Layout {
 fn cells(kind: Type, pos: u64, data: &[u8], at: u64, len: u64) -> Vec<Cell> {
     let size = kind.layout().0;
     let places = (0..len).map(|n| at + n * size);
+    let pointed = places.clone().map(|place| {
+        let start = (pos + place) as i64 + i64::from(offset(data, place));
+        (start, number(data, place + 4, 4) as u32)
+    });
     match kind {
         Type::U32 | Type::U64 => places.map(|place| Cell::Number(number(data, place, size))).collect(),
         Type::Empty => places.map(|_| Cell::Number(0)).collect(),
         Type::I64 => places.map(|place| Cell::Signed(number(data, place, size) as i64)).collect(),
-        Type::Text => places
-            .map(|place| Cell::Text {
-                start: (pos + place) as i64 + i64::from(offset(data, place)),
-                len: number(data, place + 4, 4) as u32,
-            })
-            .collect(),
+        Type::Text => pointed.map(|(start, len)| Cell::Text { start, len }).collect(),
+        Type::Bytes => pointed.map(|(start, len)| Cell::Bytes { start, len }).collect(),
     }
 }
 

@@ -41,10 +41,20 @@ pub const I64_TO_U64: u32 = 13;
 pub const I64_TO_I64: u32 = 14;
 pub const I64_TO_TEXT: u32 = 15;
 pub const TEXT_TO_I64: u32 = 16;
+pub const U32_TO_BYTES: u32 = 17;
+pub const U64_TO_BYTES: u32 = 18;
+pub const I64_TO_BYTES: u32 = 19;
+pub const TEXT_TO_BYTES: u32 = 20;
+pub const BYTES_TO_U32: u32 = 21;
+pub const BYTES_TO_U64: u32 = 22;
+pub const BYTES_TO_I64: u32 = 23;
+pub const BYTES_TO_TEXT: u32 = 24;
+pub const BYTES_TO_BYTES: u32 = 25;
 pub const U32_SET: u32 = 26;
 pub const U64_SET: u32 = 27;
 pub const I64_SET: u32 = 28;
 pub const TEXT_SET: u32 = 29;
+pub const BYTES_SET: u32 = 30;
 
 /// A type of keys or of values.
 #[derive(Clone, Copy, Debug, PartialEq, Eq)]
@@ -53,6 +63,7 @@ pub enum Type {
     U64,
     I64,
     Text,
+    Bytes,
     Empty,
 }
 
@@ -65,6 +76,7 @@ impl Type {
             Type::U64 => "u64",
             Type::I64 => "i64",
             Type::Text => "text",
+            Type::Bytes => "bytes",
             Type::Empty => "empty",
         }
     }
@@ -76,6 +88,7 @@ impl Type {
             Type::U64 => (8, 8),
             Type::I64 => (8, 8),
             Type::Text => (8, 4),
+            Type::Bytes => (8, 4),
             Type::Empty => (0, 1),
         }
     }
@@ -100,10 +113,20 @@ pub const fn number_of(key: Type, value: Type) -> u32 {
         (Type::I64, Type::I64) => I64_TO_I64,
         (Type::I64, Type::Text) => I64_TO_TEXT,
         (Type::Text, Type::I64) => TEXT_TO_I64,
+        (Type::U32, Type::Bytes) => U32_TO_BYTES,
+        (Type::U64, Type::Bytes) => U64_TO_BYTES,
+        (Type::I64, Type::Bytes) => I64_TO_BYTES,
+        (Type::Text, Type::Bytes) => TEXT_TO_BYTES,
+        (Type::Bytes, Type::U32) => BYTES_TO_U32,
+        (Type::Bytes, Type::U64) => BYTES_TO_U64,
+        (Type::Bytes, Type::I64) => BYTES_TO_I64,
+        (Type::Bytes, Type::Text) => BYTES_TO_TEXT,
+        (Type::Bytes, Type::Bytes) => BYTES_TO_BYTES,
         (Type::U32, Type::Empty) => U32_SET,
         (Type::U64, Type::Empty) => U64_SET,
         (Type::I64, Type::Empty) => I64_SET,
         (Type::Text, Type::Empty) => TEXT_SET,
+        (Type::Bytes, Type::Empty) => BYTES_SET,
         (Type::Empty, _) => 0,
     }
 }

@@ -63,7 +63,7 @@ pub struct Top {
 }
 
 impl Top {
-    /// Returns the sidecar of an archive: its nodes of the first `levels` levels, and the texts of their keys. No value's text is in it.
+    /// Returns the sidecar of an archive: its nodes of the first `levels` levels, and the texts or bytes of their keys. No value's are in it.
     ///
     /// `etag` is that of the object which the archive will be behind HTTP, or empty. At least one level is taken.
     ///
@@ -209,8 +209,8 @@ fn parts(data: &[u8], layout: &Layout, levels: u32) -> Result<BTreeSet<(u64, u64
             }
             let node = layout.node(pos, &data[pos as usize..end as usize])?;
             for key in node.keys {
-                if let Cell::Text { start, len } = key {
-                    let text = layout.text_at(start, len)?;
+                if let Cell::Text { start, len } | Cell::Bytes { start, len } = key {
+                    let text = layout.bytes_at(start, len)?;
                     parts.insert((text.start, text.end));
                 }
             }

@@ -60,7 +60,7 @@ fn refusals_are_errors() {
 fn all_types() {
     let numbers: Vec<u32> = (0..1000).map(|n| 7 * n).collect();
     let texts: Vec<String> = (0..1000).map(|n| format!("key {n:05}")).collect();
-    let signed: Vec<i64> = (0..1000).map(|n| i64::MIN + n * (i64::MAX / 500)).collect();
+    let signed: Vec<i64> = (0..1000).map(|n| (n - 500) * (i64::MAX / 500)).collect();
     let mut bytes: Vec<Vec<u8>> = vec![Vec::new(); 16];
     let mut bytes = bytes.iter_mut();
     let all = 0..1000;
@@ -80,6 +80,35 @@ fn all_types() {
     given_back(&all.clone().map(|i| (signed[i], !signed[999 - i])).collect::<Vec<_>>(), bytes.next().unwrap());
     given_back(&all.clone().map(|i| (signed[i], &*texts[i])).collect::<Vec<_>>(), bytes.next().unwrap());
     given_back(&all.map(|i| (&*texts[i], signed[i])).collect::<Vec<_>>(), bytes.next().unwrap());
+}
+
+#[test]
+fn bytes() {
+    let keys: Vec<Vec<u8>> = (0..=255u8).map(|n| vec![n; n as usize % 40]).collect::<BTreeSet<_>>().into_iter().collect();
+    let texts: Vec<String> = (0..keys.len()).map(|n| format!("key {n:05}")).collect();
+    let mut archives = vec![Vec::new(); 9];
+    let mut archives = archives.iter_mut();
+    let all = 0..keys.len();
+    given_back(&all.clone().map(|i| (i as u32, &*keys[i])).collect::<Vec<_>>(), archives.next().unwrap());
+    given_back(&all.clone().map(|i| (i as u64, &*keys[i])).collect::<Vec<_>>(), archives.next().unwrap());
+    given_back(&all.clone().map(|i| (i as i64 - 9, &*keys[i])).collect::<Vec<_>>(), archives.next().unwrap());
+    given_back(&all.clone().map(|i| (&*texts[i], &*keys[i])).collect::<Vec<_>>(), archives.next().unwrap());
+    given_back(&all.clone().map(|i| (&*keys[i], i as u32)).collect::<Vec<_>>(), archives.next().unwrap());
+    given_back(&all.clone().map(|i| (&*keys[i], i as u64)).collect::<Vec<_>>(), archives.next().unwrap());
+    given_back(&all.clone().map(|i| (&*keys[i], -(i as i64))).collect::<Vec<_>>(), archives.next().unwrap());
+    given_back(&all.clone().map(|i| (&*keys[i], &*texts[i])).collect::<Vec<_>>(), archives.next().unwrap());
+    given_back(&all.clone().map(|i| (&*keys[i], &*keys[i])).collect::<Vec<_>>(), archives.next().unwrap());
+    let mut set = Vec::new();
+    set_given_back(&keys.iter().map(Vec::as_slice).collect::<Vec<_>>(), &mut set);
+    let mut bytes = Builder::new().entry(&b"\x80"[..], 1u32).entry(&b"\xff\xfe"[..], 2).build_strict().unwrap();
+    let map = Map::<&[u8], u32>::open_strict(&bytes).unwrap();
+    assert_eq!([map.get(b"\xff\xfe"), map.get(&b"\x80"[..]), map.get(vec![0x80])], [Some(2), Some(1), Some(1)]);
+    assert_eq!(map.get(b"\xff"), None);
+    assert_eq!(map.range::<[u8; 1], _>(b"\x81".to_owned()..).count(), 1);
+    assert_eq!(find::<&[u8], u32>(&bytes, b"\x80").unwrap(), Some(1));
+    assert!(Edit::<&[u8], u32>::open(&mut bytes).unwrap().set(b"\x80", 3));
+    let named = Builder::new().entry(1u32, &b"one\xff"[..]).build().unwrap();
+    assert_eq!(&Map::<u32, &[u8]>::open(&named).unwrap()[1], b"one\xff");
 }
 
 #[test]

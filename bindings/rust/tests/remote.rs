@@ -72,6 +72,12 @@ fn all_types() {
     let around = |n: u32| 2 * i64::from(n) - 3000;
     same::<i64, i64, _>(numbers().map(|n| (around(n), -around(n))).collect::<Builder<_, _>>().build().unwrap().leak(), &signed);
     same::<i64, &str, _>(numbers().map(|n| (around(n), of(n))).collect::<Builder<_, _>>().build().unwrap().leak(), &signed);
+    let raw: Vec<Vec<u8>> = (0..3000u16).map(|n| [&n.to_be_bytes()[..], &vec![0xff; n as usize % 40]].concat()).collect();
+    let keys: Vec<&[u8]> = raw.iter().step_by(131).map(Vec::as_slice).chain([&b""[..], b"\xff\xff"]).collect();
+    let bytes = |n: u32| raw[n as usize].as_slice();
+    same::<&[u8], &[u8], _>(numbers().map(|n| (bytes(n), bytes(n))).collect::<Builder<_, _>>().build().unwrap().leak(), &keys);
+    same::<&[u8], u32, _>(numbers().map(|n| (bytes(n), n)).collect::<Builder<_, _>>().build().unwrap().leak(), &keys);
+    same::<u32, &[u8], _>(numbers().map(|n| (2 * n, bytes(n))).collect::<Builder<_, _>>().build().unwrap().leak(), &small);
     same::<&str, &str, _>(numbers().map(|n| (of(n), of(n))).collect::<Builder<_, _>>().build().unwrap().leak(), &words);
 }
 
@@ -229,6 +235,17 @@ fn ranges_of_signed_numbers() {
     for low in [i64::MIN, -101, -100, -1, 0, 1, 99, 100] {
         let found: Result<Vec<_>, _> = remote.range::<i64, i64, _>(low..50).collect();
         assert_eq!(found.unwrap(), entries.iter().copied().filter(|entry| (low..50).contains(&entry.0)).collect::<Vec<_>>());
+    }
+}
+
+#[test]
+fn ranges_of_bytes() {
+    let entries: Vec<(Vec<u8>, Vec<u8>)> = (0..200u8).map(|n| (vec![n, 0xff], vec![0xff; n as usize])).collect();
+    let data = entries.iter().map(|(key, value)| (&**key, &**value)).collect::<Builder<&[u8], &[u8]>>().build_strict().unwrap();
+    let mut remote = counted(&data, 64, 2);
+    for low in [&b""[..], b"\x05", b"\x05\xff", b"\x05\xff\0", b"\xff"] {
+        let found: Result<Vec<_>, _> = remote.range::<&[u8], &[u8], _>(low..).collect();
+        assert_eq!(found.unwrap(), entries.iter().filter(|entry| &*entry.0 >= low).cloned().collect::<Vec<_>>());
     }
 }
 

@@ -50,7 +50,7 @@ use Rattle.rkyv_btree_ffi.specs.declared.order.Order.{Order}
 use Rattle.rkyv_btree_ffi.specs.declared.order.Order.TheVariants.{Any, Increasing}
 use Rattle.rkyv_btree_ffi.specs.declared.item.BtreeEntry.{BtreeEntry}
 use Rattle.rkyv_btree_ffi.specs.declared.map_type.ItemType.{ItemType}
-use Rattle.rkyv_btree_ffi.specs.declared.map_type.ItemType.TheVariants.{U32, U64, I64, Text, Empty}
+use Rattle.rkyv_btree_ffi.specs.declared.map_type.ItemType.TheVariants.{U32, U64, I64, Text, Bytes, Empty}
 use Rattle.rkyv_btree_ffi.specs.declared.map_type.MapType.{MapType}
 use Rattle.rkyv_btree_ffi.specs.mirror.Natives.{GivesBoth, native_meaning, NativesStop, TreeFault, NativeFault, AreGiven, ArchivesNatives, BuiltGiven, UnbuiltGiven}
 use Rattle.rkyv_btree_ffi.proofs.Never.{never_refused}
@@ -305,6 +305,7 @@ never U32 x at f h = h
 never U64 x at f h = h
 never I64 x at f h = h
 never Text x at f h = h
+never Bytes x at f h = h
 never Empty x at f h = h
 
 -- at the types of a map, whose native keys are ordered as what they mean

@@ -17,13 +17,14 @@ use Rattle.rkyv_btree_source.specs.declared.piece.Missing.{Missing}
 use Rattle.rkyv_btree_unverified.specs.Lookups.{LookupGives}
 use Rattle.rkyv_btree_unverified.specs.Steps.{misplaced}
 use Rattle.rkyv_btree_ffi.specs.Codes.{refusal_for}
-use Rattle.rkyv_btree_ffi.specs.Items.{kind_at, IsItem, IsItemAt, IsNumberItem, IsTextItem}
+use Rattle.rkyv_btree_ffi.specs.Finding.{IsRefusal}
+use Rattle.rkyv_btree_ffi.specs.Items.{kind_at, IsItem, IsItemAt, IsNumberItem, IsBytesItem}
 use Rattle.rkyv_btree_ffi.specs.MapTypes.{key_kind, value_kind}
 use Rattle.rkyv_btree_ffi.specs.Pieces.{Steps, StepsOf, IsLack, IsMissingPart, PutsValue}
 use Rattle.rkyv_btree_ffi.specs.declared.codes.BtreeRefusal.{BtreeRefusal}
 use Rattle.rkyv_btree_ffi.specs.declared.item.BtreeItem.{BtreeItem}
 use Rattle.rkyv_btree_ffi.specs.declared.map_type.ItemType.{ItemType}
-use Rattle.rkyv_btree_ffi.specs.declared.map_type.ItemType.TheVariants.{U32, U64, I64, Text, Empty}
+use Rattle.rkyv_btree_ffi.specs.declared.map_type.ItemType.TheVariants.{U32, U64, I64, Text, Bytes, Empty}
 use Rattle.rkyv_btree_ffi.specs.declared.map_type.MapType.{MapType}
 
 -- bytes of the first part of a buffer
@@ -31,11 +32,11 @@ front : (first rest : List ℕ) (start len : ℕ) → start + len ≤ length fir
 front first rest start len inside =
     ap (take len) (drop-append-le start first rest (omega (arith, inside))) ∙ take-append-le len (drop start first) rest (omega (arith, inside, length-drop start first))
 
-text_in_front : (first rest value : List ℕ) (item : BtreeItem) → IsTextItem first value item → IsTextItem (first ++ rest) value item
-text_in_front first rest value item h = record {
+bytes_in_front : (first rest value : List ℕ) (item : BtreeItem) → IsBytesItem first value item → IsBytesItem (first ++ rest) value item
+bytes_in_front first rest value item h = record {
   number = h.number;
   inside = omega (arith, h.inside, length-append first rest);
-  text = front first rest item.start item.len h.inside ∙ h.text;
+  bytes = front first rest item.start item.len h.inside ∙ h.bytes;
 }
 
 -- an item of the first part of a buffer
@@ -43,7 +44,8 @@ in_front : (i : ItemType) (first rest : List ℕ) (at : ℕ) (item : BtreeItem) 
 in_front U32 first rest at item value h same = subst (λ (v : ℕ). IsNumberItem v item) same h
 in_front U64 first rest at item value h same = subst (λ (v : ℕ). IsNumberItem v item) same h
 in_front I64 first rest at item value h same = subst (λ (v : ℤ). IsNumberItem (cast_unsigned w64 v) item) same h
-in_front Text first rest at item value h same = text_in_front first rest value item (subst (λ (v : List ℕ). IsTextItem first v item) same h)
+in_front Text first rest at item value h same = bytes_in_front first rest value item (subst (λ (v : List ℕ). IsBytesItem first v item) same h)
+in_front Bytes first rest at item value h same = bytes_in_front first rest value item (subst (λ (v : List ℕ). IsBytesItem first v item) same h)
 in_front Empty first rest at item value h same = h
 
 -- at a map's type
@@ -92,6 +94,17 @@ missing_part known room (Some (Err (Refused error))) old new old_why why code pu
 missing_part known room (Some (Err (Read part))) old new old_why why code puts lack is = record { part = part; missing = lack; at = ap (λ (w : BtreeRefusal). w.at) puts.1; len = ap (λ (w : BtreeRefusal). w.found) puts.1 }
 missing_part known room (Some (Err (NoRoom needed))) old new old_why why code puts lack is = absurd (omega (arith, puts.0, is, ap (λ (w : BtreeRefusal). w.code) puts.1))
 missing_part known room (Some (Err OverBudget)) old new old_why why code puts lack is = absurd lack
+
+-- a code below 10 is that of the lookup's error
+pub refused_by : (t : MapType) (b buffer : List ℕ) (comparison : (key_kind t).Value → Ordering) (stepped : Option (Result (Option BtreeItem) (SourceFault Missing))) (old new : BtreeItem) (old_why why : BtreeRefusal) (code : ℕ)
+    → PutsValue stepped old new old_why why code → (Of : List ℕ → Type 0) → IfSome stepped (λ found. (c : List ℕ) → Of c → StepsOf t c comparison buffer found) → Of b → 0 < code → code < 10 → IsRefusal t b comparison why code
+refused_by t b buffer comparison None old new old_why why code puts Of gives of some low = absurd (omega (arith, puts.0, low))
+refused_by t b buffer comparison (Some (Ok None)) old new old_why why code puts Of gives of some low = absurd (omega (arith, puts.0, low))
+refused_by t b buffer comparison (Some (Ok (Some item))) old new old_why why code puts Of gives of some low = absurd (omega (arith, puts.0, some))
+refused_by t b buffer comparison (Some (Err (Refused error))) old new old_why why code puts Of gives of some low = record { error = error; returned = gives b of; same_code = puts.0; cause = puts.1 }
+refused_by t b buffer comparison (Some (Err (Read part))) old new old_why why code puts Of gives of some low = absurd (omega (arith, puts.0, low, ap (λ (w : BtreeRefusal). w.code) puts.1))
+refused_by t b buffer comparison (Some (Err (NoRoom needed))) old new old_why why code puts Of gives of some low = absurd (omega (arith, puts.0, low, ap (λ (w : BtreeRefusal). w.code) puts.1))
+refused_by t b buffer comparison (Some (Err OverBudget)) old new old_why why code puts Of gives of some low = absurd (omega (arith, puts.0, low, ap (λ (w : BtreeRefusal). w.code) puts.1))
 
 -- no lookup is over the largest budget
 pub within_budget : (here before after : ℕ) → before ≡ 18446744073709551615 → here ≤ 4294967295 → before ≤ after + most_read 5 (here + 8) → after < here + 8 → ⊥

@@ -12,7 +12,7 @@ use Rattle.rkyv_btree_ffi.specs.declared.item.BtreeItem.{BtreeItem}
 use Rattle.rkyv_btree_ffi.specs.declared.item.BtreeEntry.{BtreeEntry}
 use Rattle.rkyv_btree_ffi.specs.declared.map_type.MapType.{MapType}
 use Rattle.rkyv_btree_ffi.specs.declared.map_type.ItemType.{ItemType}
-use Rattle.rkyv_btree_ffi.specs.declared.map_type.ItemType.TheVariants.{U32, U64, I64, Text, Empty}
+use Rattle.rkyv_btree_ffi.specs.declared.map_type.ItemType.TheVariants.{U32, U64, I64, Text, Bytes, Empty}
 use Rattle.rkyv_btree_ffi.specs.declared.query.Query.TheVariants.{Number, Text as TextQuery}
 
 -- a type of maps, by the type of its keys
@@ -25,6 +25,7 @@ number_at U32 n = refl
 number_at U64 n = refl
 number_at I64 n = refl
 number_at Text n = refl
+number_at Bytes n = refl
 number_at Empty n = refl
 
 pub number_is : (t : MapType) (n : ℕ) → comparison_with t (Number n) ≡ by_number t n
@@ -35,6 +36,7 @@ text_at U32 text = refl
 text_at U64 text = refl
 text_at I64 text = refl
 text_at Text text = refl
+text_at Bytes text = refl
 text_at Empty text = refl
 
 pub text_is : (t : MapType) (text : Bor (List ℕ)) → comparison_with t (TextQuery text) ≡ by_text t text.now

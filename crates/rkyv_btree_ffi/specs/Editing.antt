@@ -7,7 +7,7 @@ use Rattle.rkyv_btree_seal.specs.Places.{SetsFound}
 use Rattle.rkyv_btree_ffi.specs.MapTypes.{key_kind, value_kind}
 use Rattle.rkyv_btree_ffi.specs.declared.map_type.MapType.{MapType}
 use Rattle.rkyv_btree_ffi.specs.declared.map_type.ItemType.{ItemType}
-use Rattle.rkyv_btree_ffi.specs.declared.map_type.ItemType.TheVariants.{U32, U64, I64, Text, Empty}
+use Rattle.rkyv_btree_ffi.specs.declared.map_type.ItemType.TheVariants.{U32, U64, I64, Text, Bytes, Empty}
 
 -- the own bytes of a number of 32 bits, if it is one
 abbrev pub narrow : ℕ → Option (List ℕ)
@@ -19,6 +19,7 @@ own_of U32 value = narrow value
 own_of U64 value = Some (to_le_bytes w64 value)
 own_of I64 value = Some (to_le_bytes w64 value)
 own_of Text value = None
+own_of Bytes value = None
 own_of Empty value = None
 
 -- the value of the entry that a lookup finds is overwritten by these own bytes, and no other byte; or the code is that there is no

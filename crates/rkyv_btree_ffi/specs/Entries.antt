@@ -16,7 +16,7 @@ use Rattle.rkyv_btree_ffi.specs.declared.item.BtreeEntry.{BtreeEntry}
 use Rattle.rkyv_btree_ffi.specs.declared.query.Query.{Query}
 use Rattle.rkyv_btree_ffi.specs.declared.map_type.MapType.{MapType}
 use Rattle.rkyv_btree_ffi.specs.declared.map_type.ItemType.{ItemType}
-use Rattle.rkyv_btree_ffi.specs.declared.map_type.ItemType.TheVariants.{U32, U64, I64, Text, Empty}
+use Rattle.rkyv_btree_ffi.specs.declared.map_type.ItemType.TheVariants.{U32, U64, I64, Text, Bytes, Empty}
 
 -- what comparing a query with a key of a type gives. No map has keys of the empty type
 abbrev pub comparison_at : (i : ItemType) → Query → (kind_at i).Value → Ordering
@@ -24,22 +24,25 @@ comparison_at U32 = number_comparison
 comparison_at U64 = number_comparison
 comparison_at I64 = signed_comparison
 comparison_at Text = text_comparison
+comparison_at Bytes = text_comparison
 comparison_at Empty = λ query key. Less
 
--- what comparing a number with a key gives; it is before every text. Among keys with a sign it is in two's complement
+-- what comparing a number with a key gives; it is before every text and all bytes. Among keys with a sign it is in two's complement
 abbrev pub by_number_at : (i : ItemType) → ℕ → (kind_at i).Value → Ordering
 by_number_at U32 n = nat_cmp n
 by_number_at U64 n = nat_cmp n
 by_number_at I64 n = int_cmp (cast_signed w64 n)
 by_number_at Text n = λ key. Less
+by_number_at Bytes n = λ key. Less
 by_number_at Empty n = λ key. Less
 
--- what comparing a text with a key gives; it is before every number
+-- what comparing a text or bytes with a key gives; they are before every number
 abbrev pub by_text_at : (i : ItemType) → List ℕ → (kind_at i).Value → Ordering
 by_text_at U32 text = λ key. Less
 by_text_at U64 text = λ key. Less
 by_text_at I64 text = λ key. Less
 by_text_at Text text = slice_cmp nat_cmp text
+by_text_at Bytes text = slice_cmp nat_cmp text
 by_text_at Empty text = λ key. Less
 
 -- the same of the keys of a map

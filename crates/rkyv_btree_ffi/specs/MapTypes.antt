@@ -5,7 +5,7 @@ use Rattle.rkyv_btree_verify.specs.Map.{map_kind}
 use Rattle.rkyv_btree_format.specs.Read.{read_map}
 use Rattle.rkyv_btree_ffi.specs.Items.{kind_at}
 use Rattle.rkyv_btree_ffi.specs.declared.map_type.ItemType.{ItemType}
-use Rattle.rkyv_btree_ffi.specs.declared.map_type.ItemType.TheVariants.{U32, U64, I64, Text, Empty}
+use Rattle.rkyv_btree_ffi.specs.declared.map_type.ItemType.TheVariants.{U32, U64, I64, Text, Bytes, Empty}
 use Rattle.rkyv_btree_ffi.specs.declared.map_type.MapType.{MapType}
 
 -- the type of maps with keys and values of two types
@@ -31,10 +31,20 @@ type_of n =
     if nat_eq n 14 then Some (typed I64 I64) else
     if nat_eq n 15 then Some (typed I64 Text) else
     if nat_eq n 16 then Some (typed Text I64) else
+    if nat_eq n 17 then Some (typed U32 Bytes) else
+    if nat_eq n 18 then Some (typed U64 Bytes) else
+    if nat_eq n 19 then Some (typed I64 Bytes) else
+    if nat_eq n 20 then Some (typed Text Bytes) else
+    if nat_eq n 21 then Some (typed Bytes U32) else
+    if nat_eq n 22 then Some (typed Bytes U64) else
+    if nat_eq n 23 then Some (typed Bytes I64) else
+    if nat_eq n 24 then Some (typed Bytes Text) else
+    if nat_eq n 25 then Some (typed Bytes Bytes) else
     if nat_eq n 26 then Some (typed U32 Empty) else
     if nat_eq n 27 then Some (typed U64 Empty) else
     if nat_eq n 28 then Some (typed I64 Empty) else
-    if nat_eq n 29 then Some (typed Text Empty) else None
+    if nat_eq n 29 then Some (typed Text Empty) else
+    if nat_eq n 30 then Some (typed Bytes Empty) else None
 
 abbrev pub key_kind : MapType → Kind
 key_kind t = kind_at t.key

@@ -20,7 +20,7 @@ use Rattle.rkyv_btree_ffi.specs.declared.codes.BtreeRefusal.{BtreeRefusal}
 use Rattle.rkyv_btree_ffi.specs.declared.item.BtreeItem.{BtreeItem}
 use Rattle.rkyv_btree_ffi.specs.declared.map_type.MapType.{MapType}
 use Rattle.rkyv_btree_ffi.specs.declared.map_type.ItemType.{ItemType}
-use Rattle.rkyv_btree_ffi.specs.declared.map_type.ItemType.TheVariants.{U32, U64, I64, Text, Empty}
+use Rattle.rkyv_btree_ffi.specs.declared.map_type.ItemType.TheVariants.{U32, U64, I64, Text, Bytes, Empty}
 
 module _ (K V : Kind) (ShowsValue : List ℕ → ℕ → BtreeItem → Type 0) (KRefuses VRefuses : List ℕ → ℕ → ℕ → ℕ → Refusal → Type 0)
     (b : List ℕ) (comparison : K.Value → Ordering) where
@@ -91,6 +91,7 @@ IsNumberKey U32 n = n < 4294967296
 IsNumberKey U64 n = Unit {0}
 IsNumberKey I64 n = Unit {0}
 IsNumberKey Text n = ⊥
+IsNumberKey Bytes n = ⊥
 IsNumberKey Empty n = ⊥
 
 abbrev pub IsTextKey : ItemType → List ℕ → Type 0
@@ -98,6 +99,7 @@ IsTextKey U32 text = ⊥
 IsTextKey U64 text = ⊥
 IsTextKey I64 text = ⊥
 IsTextKey Text text = IsUtf8 text
+IsTextKey Bytes text = Unit {0}
 IsTextKey Empty text = ⊥
 
 -- a value is written, or the code that there is none, or why it isn't known, or that the key is none of the type

@@ -12,6 +12,7 @@ macro_rules! at_type {
             ItemType::U64 => $call::<$($before,)* ArchivedU64>($($argument),*),
             ItemType::I64 => $call::<$($before,)* ArchivedI64>($($argument),*),
             ItemType::Text => $call::<$($before,)* ArchivedText>($($argument),*),
+            ItemType::Bytes => $call::<$($before,)* ArchivedBytes>($($argument),*),
             ItemType::Empty => $call::<$($before,)* ()>($($argument),*),
         }
     };

@@ -30,6 +30,7 @@ use crate::map_type::{ItemType, MapType};
 use crate::order::Order;
 use rkyv_btree_archive::build::{BTreeMapResolver, written_maps_are_held};
 use rkyv_btree_archive::build_map::BuildMap;
+use rkyv_btree_portable::byte_string::ArchivedBytes;
 use rkyv_btree_portable::numbers::{ArchivedU32, ArchivedU64};
 use rkyv_btree_portable::signed::ArchivedI64;
 use rkyv_btree_portable::text::ArchivedText;

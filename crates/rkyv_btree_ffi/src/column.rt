@@ -1,17 +1,17 @@
 //! Keys or values that C has one after the other, as columns of a table are.
 ghost use Rattle.std.specs.Prelude.{◌≡◌, ◌+◌, ◌*◌, ◌≤◌, ◌<◌, IfSome, None, length};
 ghost use Rattle.rkyv_btree_portable.specs.Bytes.{number_at};
-ghost use Rattle.rkyv_btree_ffi.specs.Columns.{HasOffset, IsText, offset, text_in};
+ghost use Rattle.rkyv_btree_ffi.specs.Columns.{HasBytes, HasOffset, IsText, bytes_in, offset};
 
 use std::str::from_utf8;
 
-/// Numbers one after the other, the least byte of each first; or texts by their offsets in one buffer.
+/// Numbers one after the other, the least byte of each first; or texts or byte strings by their offsets in one buffer.
 #[repr(C)]
 #[derive(Clone, Copy, Drop)]
 pub struct BtreeColumn<'a> {
-    /// The numbers, of four or eight bytes as the type has them; or the bytes of all texts.
+    /// The numbers, of four or eight bytes as the type has them; or the bytes of all texts or byte strings.
     pub buf: &'a [u8],
-    /// Of texts where each begins in `buf`, and then where the last ends. Of numbers nothing.
+    /// Of texts and byte strings where each begins in `buf`, and then where the last ends. Of numbers nothing.
     pub offsets: &'a [u8],
     /// How many bytes each offset has: 4 or 8. Of numbers it isn't read.
     pub offset_size: u32,
@@ -70,19 +70,29 @@ fn offset_at(column: &BtreeColumn<'_>, index: usize) -> Option<u64>
     }
 }
 
-/// Returns the text at an index, or `None` if the column has none there.
-pub(crate) fn text_at<'t>(column: &BtreeColumn<'t>, index: usize) -> Option<&'t str>
+/// Returns the bytes at an index, or `None` if the column has none there.
+pub(crate) fn bytes_at<'t>(column: &BtreeColumn<'t>, index: usize) -> Option<&'t [u8]>
     requires { index < 18446744073709551615 }
-    ensures there { IfSome result (λ _. IsText column.now index) }
-    ensures text { IfSome result (λ text. text.now ≡ text_in column.now index) }
-    ensures none { result ≡ None → IsText column.now index → ⊥ }
+    ensures there { IfSome result (λ _. HasBytes column.now index) }
+    ensures bytes { IfSome result (λ bytes. bytes.now ≡ bytes_in column.now index) }
+    ensures none { result ≡ None → HasBytes column.now index → ⊥ }
 {
     let start = offset_at(column, index)?;
     let end = offset_at(column, index + 1)?;
     if start > end || end > column.buf.len() as u64 {
         return None;
     }
-    match from_utf8(&column.buf[start as usize..end as usize]) {
+    Some(&column.buf[start as usize..end as usize])
+}
+
+/// Returns the text at an index, or `None` if the column has none there.
+pub(crate) fn text_at<'t>(column: &BtreeColumn<'t>, index: usize) -> Option<&'t str>
+    requires { index < 18446744073709551615 }
+    ensures there { IfSome result (λ _. IsText column.now index) }
+    ensures text { IfSome result (λ text. text.now ≡ bytes_in column.now index) }
+    ensures none { result ≡ None → IsText column.now index → ⊥ }
+{
+    match from_utf8(bytes_at(column, index)?) {
         Ok(text) => Some(text),
         Err(_) => None,
     }

@@ -19,6 +19,7 @@ use crate::item::Shown;
 use crate::map_type::{ItemType, MapType};
 use crate::opening::opened_at;
 use crate::query::Query;
+use rkyv_btree_portable::byte_string::ArchivedBytes;
 use rkyv_btree_portable::in_place::InPlace;
 use rkyv_btree_portable::numbers::{ArchivedU32, ArchivedU64};
 use rkyv_btree_portable::refusal::Refusal;
@@ -166,7 +167,7 @@ fn set_with<K: Shown>(
         ItemType::U32 => set_narrow::<K>(buf, pos, query, value),
         ItemType::U64 => set_wide::<K>(buf, pos, query, value),
         ItemType::I64 => set_signed::<K>(buf, pos, query, value),
-        ItemType::Text | ItemType::Empty => BAD_VALUE,
+        ItemType::Text | ItemType::Bytes | ItemType::Empty => BAD_VALUE,
     }
 }
 

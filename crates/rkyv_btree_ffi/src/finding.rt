@@ -16,6 +16,7 @@ use crate::codes::{BAD_TYPE, BtreeRefusal, NOT_FOUND, OK, refusal_of};
 use crate::item::{BtreeEntry, Shown};
 use crate::map_type::{ItemType, MapType};
 use crate::query::Query;
+use rkyv_btree_portable::byte_string::ArchivedBytes;
 use rkyv_btree_portable::numbers::{ArchivedU32, ArchivedU64};
 use rkyv_btree_portable::refusal::Refusal;
 use rkyv_btree_portable::signed::ArchivedI64;

@@ -4,12 +4,13 @@ ghost use Rattle.rkyv_btree_ffi.specs.Columns.{IsCell as IsCellOf, IsNativeCell}
 ghost use Rattle.rkyv_btree_ffi.specs.Items.{IsOfType, IsNative};
 ghost use Rattle.rkyv_btree_ffi.specs.declared.column.BtreeColumn.{BtreeColumn as Column};
 ghost use Rattle.rkyv_btree_ffi.specs.declared.item.BtreeItem.{BtreeItem};
-ghost use Rattle.rkyv_btree_ffi.specs.declared.map_type.ItemType.TheVariants.{U32, U64, I64, Text, Empty};
+ghost use Rattle.rkyv_btree_ffi.specs.declared.map_type.ItemType.TheVariants.{U32, U64, I64, Text, Bytes, Empty};
 ghost use Rattle.rkyv_btree_ffi.specs.mirror.Natives.{IsOfBoth, IsRow};
 
-use crate::column::{BtreeColumn, narrow_at, text_at, wide_at};
+use crate::column::{BtreeColumn, bytes_at, narrow_at, text_at, wide_at};
 use crate::item::{BtreeEntry, BtreeItem, Shown};
 use rkyv_btree_archive::archive::{Archive, Serialize};
+use rkyv_btree_portable::byte_string::ArchivedBytes;
 use rkyv_btree_portable::numbers::{ArchivedU32, ArchivedU64};
 use rkyv_btree_portable::signed::ArchivedI64;
 use rkyv_btree_portable::text::ArchivedText;
@@ -19,7 +20,7 @@ use std::str::from_utf8;
 
 /// A type of keys and values that C gives.
 pub trait Given<'t>: Shown {
-    /// The native type. A text is borrowed.
+    /// The native type. A text is borrowed, and so are bytes.
     type Native: Archive<Archived = Self> + Serialize<VecWriter, Global> + Ord + Drop;
 
     /// An item, whose text is in a buffer, is of the type.
@@ -111,6 +112,31 @@ impl<'t> Given<'t> for ArchivedI64 {
             Some(number) => Some(number.cast_signed()),
             None => None,
         }
+    }
+}
+
+impl<'t> Given<'t> for ArchivedBytes {
+    type Native = &'t [u8];
+
+    ghost IsItem = { IsOfType Bytes };
+
+    ghost Gives = { IsNative Bytes };
+
+    ghost IsCell = { IsCellOf Bytes };
+
+    ghost CellGives = { IsNativeCell Bytes };
+
+    fn given(texts: &'t [u8], item: &BtreeItem) -> Option<&'t [u8]> {
+        let start = item.start as usize;
+        let end = start + item.len as usize;
+        if end > texts.len() {
+            return None;
+        }
+        Some(&texts[start..end])
+    }
+
+    fn cell(column: &BtreeColumn<'t>, index: usize) -> Option<&'t [u8]> {
+        bytes_at(column, index)
     }
 }
 

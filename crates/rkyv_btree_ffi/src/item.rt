@@ -4,13 +4,15 @@ ghost use Rattle.std.specs.Int.{w64, cast_unsigned};
 ghost use Rattle.std.specs.declared.cmp.Ordering.{Ordering as Comparison};
 ghost use Rattle.std.specs.declared.cmp.Ordering.TheVariants.{Less};
 ghost use Rattle.rkyv_btree_portable.specs.Scalars.{u32_kind, u64_kind, i64_kind};
+ghost use Rattle.rkyv_btree_portable.specs.ByteStrings.{bytes_kind};
 ghost use Rattle.rkyv_btree_portable.specs.Text.{text_kind};
-ghost use Rattle.rkyv_btree_ffi.specs.Items.{IsNumberItem, IsTextItem};
+ghost use Rattle.rkyv_btree_ffi.specs.Items.{IsNumberItem, IsBytesItem};
 ghost use Rattle.rkyv_btree_ffi.specs.Queries.{number_comparison, signed_comparison, text_comparison};
 ghost use Rattle.rkyv_btree_ffi.specs.declared.item.BtreeItem.{BtreeItem};
 ghost use Rattle.rkyv_btree_ffi.specs.declared.query.Query.{Query};
 
 use crate::query::Query;
+use rkyv_btree_portable::byte_string::ArchivedBytes;
 use rkyv_btree_portable::bytes::{num32, pointed_at};
 use rkyv_btree_portable::check::CheckBytes;
 use rkyv_btree_portable::numbers::{ArchivedU32, ArchivedU64};
@@ -20,15 +22,15 @@ use rkyv_btree_view::compare::ViewOrd;
 use rkyv_btree_view::view::View;
 use std::cmp::Ordering;
 
-/// A key or a value: a number, or a text by its place in a buffer. The value of an entry of a set is all zeros.
+/// A key or a value: a number, or a text or bytes by their place in a buffer. The value of an entry of a set is all zeros.
 #[repr(C)]
 #[derive(Clone, Copy, Debug, PartialEq, Eq)]
 pub struct BtreeItem {
-    /// The number, in two's complement if it has a sign. That of a text is 0.
+    /// The number, in two's complement if it has a sign. That of a text or bytes is 0.
     pub number: u64,
-    /// The position of the text, or 0 for a number.
+    /// The position of the text or the bytes, or 0 for a number.
     pub start: u32,
-    /// How many bytes the text has. That of a number is 0.
+    /// How many bytes they are. That of a number is 0.
     pub len: u32,
 }
 
@@ -120,6 +122,28 @@ impl Shown for ArchivedI64 {
     }
 }
 
+impl Shown for ArchivedBytes {
+    ghost ShowsAt = { λ b at item. IsBytesItem b (bytes_kind.read b at) item };
+
+    ghost query_compared_at = { λ query b at. text_comparison query (bytes_kind.read b at) };
+
+    fn item(view: &View<'_, ArchivedBytes>) -> BtreeItem {
+        // A view stands on bytes that lie before it.
+        BtreeItem {
+            number: 0,
+            start: pointed_at(view.buf, view.pos) as u32,
+            len: num32(view.buf, view.pos + 4),
+        }
+    }
+
+    fn compare_query(query: &Query<'_>, view: &View<'_, ArchivedBytes>) -> Ordering {
+        match query {
+            Query::Number(_) => Ordering::Less,
+            Query::Text(bytes) => (*bytes).cmp(view.as_bytes()),
+        }
+    }
+}
+
 impl Shown for () {
     ghost ShowsAt = { λ b at item. IsNumberItem 0 item };
 
@@ -139,7 +163,7 @@ impl Shown for () {
 }
 
 impl Shown for ArchivedText {
-    ghost ShowsAt = { λ b at item. IsTextItem b (text_kind.read b at) item };
+    ghost ShowsAt = { λ b at item. IsBytesItem b (text_kind.read b at) item };
 
     ghost query_compared_at = { λ query b at. text_comparison query (text_kind.read b at) };
 

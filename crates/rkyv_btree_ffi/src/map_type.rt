@@ -9,6 +9,7 @@ pub enum ItemType {
     U64,
     I64,
     Text,
+    Bytes,
     /// That of the values of a set, which have no bytes. No map has such keys.
     Empty,
 }
@@ -42,10 +43,20 @@ impl MapType {
             14 => (ItemType::I64, ItemType::I64),
             15 => (ItemType::I64, ItemType::Text),
             16 => (ItemType::Text, ItemType::I64),
+            17 => (ItemType::U32, ItemType::Bytes),
+            18 => (ItemType::U64, ItemType::Bytes),
+            19 => (ItemType::I64, ItemType::Bytes),
+            20 => (ItemType::Text, ItemType::Bytes),
+            21 => (ItemType::Bytes, ItemType::U32),
+            22 => (ItemType::Bytes, ItemType::U64),
+            23 => (ItemType::Bytes, ItemType::I64),
+            24 => (ItemType::Bytes, ItemType::Text),
+            25 => (ItemType::Bytes, ItemType::Bytes),
             26 => (ItemType::U32, ItemType::Empty),
             27 => (ItemType::U64, ItemType::Empty),
             28 => (ItemType::I64, ItemType::Empty),
             29 => (ItemType::Text, ItemType::Empty),
+            30 => (ItemType::Bytes, ItemType::Empty),
             _ => return None,
         };
         Some(MapType { key, value })

@@ -16,6 +16,7 @@ use crate::item::Shown;
 use crate::map_type::{ItemType, MapType};
 use crate::order::Order;
 use rkyv_btree_convert::from_archive::open;
+use rkyv_btree_portable::byte_string::ArchivedBytes;
 use rkyv_btree_portable::check::CheckBytes;
 use rkyv_btree_portable::numbers::{ArchivedU32, ArchivedU64};
 use rkyv_btree_portable::refusal::Refusal;

@@ -15,6 +15,7 @@ use crate::codes::{BAD_ITEM, BAD_TYPE, BtreeRefusal, MISSING, NO_ROOM, NOT_FOUND
 use crate::item::{BtreeItem, Shown};
 use crate::map_type::{ItemType, MapType};
 use crate::reading::item_at;
+use rkyv_btree_portable::byte_string::ArchivedBytes;
 use rkyv_btree_portable::numbers::{ArchivedU32, ArchivedU64};
 use rkyv_btree_portable::refusal::Refusal;
 use rkyv_btree_portable::signed::ArchivedI64;
@@ -145,6 +146,12 @@ fn step_text(
 {
     match (map_type.key, from_utf8(key)) {
         (ItemType::Text, Ok(key)) => Some(step_with::<&str, ArchivedText>(
+            map_type.value,
+            source,
+            key,
+            buffer,
+        )),
+        (ItemType::Bytes, _) => Some(step_with::<&[u8], ArchivedBytes>(
             map_type.value,
             source,
             key,

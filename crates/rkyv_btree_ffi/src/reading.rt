@@ -27,6 +27,7 @@ use crate::handle::BtreeMap;
 use crate::item::{BtreeEntry, BtreeItem, Shown};
 use crate::map_type::{ItemType, MapType};
 use crate::query::Query;
+use rkyv_btree_portable::byte_string::ArchivedBytes;
 use rkyv_btree_portable::check::Portable;
 use rkyv_btree_portable::numbers::{ArchivedU32, ArchivedU64};
 use rkyv_btree_portable::signed::ArchivedI64;

@@ -30,7 +30,7 @@ pub struct RemoteRange<'r, R, K, V> {
     of: PhantomData<(K, V)>,
 }
 
-/// An entry of which a text isn't borrowed.
+/// An entry of which nothing is borrowed.
 type Owned<'r, K, V> = (<K as Stored<'r>>::Owned, <V as Stored<'r>>::Owned);
 
 fn owned<Q: AsKey<K>, K>(bound: Bound<&Q>) -> Bound<Datum> {
@@ -38,6 +38,7 @@ fn owned<Q: AsKey<K>, K>(bound: Bound<&Q>) -> Bound<Datum> {
         Query::Number(number) => Datum::Number(number),
         Query::Signed(number) => Datum::Signed(number),
         Query::Text(text) => Datum::Text(text.to_owned()),
+        Query::Bytes(bytes) => Datum::Bytes(bytes.to_owned()),
     })
 }
 
@@ -70,8 +71,12 @@ impl<'r, R: ReadRange, K: Field<'r>, V: Field<'r>> RemoteRange<'r, R, K, V> {
             Cell::Number(number) => Datum::Number(number),
             Cell::Signed(number) => Datum::Signed(number),
             Cell::Text { start, len } => {
-                let part = self.layout.text_at(start, len)?;
+                let part = self.layout.bytes_at(start, len)?;
                 Datum::Text(decoded(part.start, self.part(part.clone())?)?)
+            }
+            Cell::Bytes { start, len } => {
+                let part = self.layout.bytes_at(start, len)?;
+                Datum::Bytes(self.part(part)?)
             }
         })
     }

@@ -56,7 +56,7 @@ impl Pieces {
                 )
             },
             // SAFETY: the same.
-            Passed::Text(text) => unsafe {
+            Passed::Bytes(bytes) => unsafe {
                 raw::rkyv_btree_find_text_in(
                     kind,
                     size,
@@ -64,8 +64,8 @@ impl Pieces {
                     places_len,
                     data,
                     data_len,
-                    text.as_ptr(),
-                    text.len(),
+                    bytes.as_ptr(),
+                    bytes.len(),
                     buffer,
                     buffer_len,
                     &mut value,

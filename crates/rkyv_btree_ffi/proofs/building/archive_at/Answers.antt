@@ -4,7 +4,7 @@ use Rattle.rkyv_btree_ffi.proofs.Fits.{all_fit}
 use Rattle.rkyv_btree_ffi.specs.MapTypes.{typed}
 use Rattle.rkyv_btree_ffi.proofs.Built.{archives}
 use Rattle.rkyv_btree_ffi.proofs.Types.{with_key}
-use Rattle.rkyv_btree_ffi.specs.declared.map_type.ItemType.TheVariants.{U32, U64, I64, Text, Empty}
+use Rattle.rkyv_btree_ffi.specs.declared.map_type.ItemType.TheVariants.{U32, U64, I64, Text, Bytes, Empty}
 use Rattle.rkyv_btree_ffi.proofs.building.archive_at.Goals as goal
 
 pub archive_with-requires : goal.archive_with-requires
@@ -30,6 +30,12 @@ archive_with-requires-in-Text c = λ k. ((refl, tt), all_fit Text c.args.map_typ
 
 pub returns-in-Text : goal.returns-in-Text
 returns-in-Text c = rw (with_key c.args.map_type Text c.in-Text.is) (archives (typed Text c.args.map_type.value) _ (λ x y. refl) c.args.order c.args.texts.now c.args.entries.now c.archive_with-in-Text.result c.archive_with-in-Text.ensures.built c.archive_with-in-Text.ensures.unbuilt)
+
+pub archive_with-requires-in-Bytes : goal.archive_with-requires-in-Bytes
+archive_with-requires-in-Bytes c = λ k. ((refl, tt), all_fit Bytes c.args.map_type.value)
+
+pub returns-in-Bytes : goal.returns-in-Bytes
+returns-in-Bytes c = rw (with_key c.args.map_type Bytes c.in-Bytes.is) (archives (typed Bytes c.args.map_type.value) _ (λ x y. refl) c.args.order c.args.texts.now c.args.entries.now c.archive_with-in-Bytes.result c.archive_with-in-Bytes.ensures.built c.archive_with-in-Bytes.ensures.unbuilt)
 
 pub archive_with-requires-in-Empty : goal.archive_with-requires-in-Empty
 archive_with-requires-in-Empty c = λ k. ((refl, tt), all_fit Empty c.args.map_type.value)

@@ -26,6 +26,12 @@ archive_columns-requires-in-Text g c = λ k. ((refl, tt), rw c.in-Text.is at c.r
 pub returns-in-Text : goal.returns-in-Text
 returns-in-Text g c = rw c.in-Text.is (record { built = c.archive_columns-in-Text.ensures.built; unbuilt = c.archive_columns-in-Text.ensures.unbuilt })
 
+pub archive_columns-requires-in-Bytes : goal.archive_columns-requires-in-Bytes
+archive_columns-requires-in-Bytes g c = λ k. ((refl, tt), rw c.in-Bytes.is at c.requires)
+
+pub returns-in-Bytes : goal.returns-in-Bytes
+returns-in-Bytes g c = rw c.in-Bytes.is (record { built = c.archive_columns-in-Bytes.ensures.built; unbuilt = c.archive_columns-in-Bytes.ensures.unbuilt })
+
 pub archive_columns-requires-in-Empty : goal.archive_columns-requires-in-Empty
 archive_columns-requires-in-Empty g c = λ k. ((refl, tt), rw c.in-Empty.is at c.requires)
 

@@ -26,6 +26,12 @@ archive-requires-in-Text g c = λ k. ((refl, tt), rw c.in-Text.is at c.requires)
 pub returns-in-Text : goal.returns-in-Text
 returns-in-Text g c = rw c.in-Text.is (record { built = c.archive-in-Text.ensures.built; unbuilt = c.archive-in-Text.ensures.unbuilt })
 
+pub archive-requires-in-Bytes : goal.archive-requires-in-Bytes
+archive-requires-in-Bytes g c = λ k. ((refl, tt), rw c.in-Bytes.is at c.requires)
+
+pub returns-in-Bytes : goal.returns-in-Bytes
+returns-in-Bytes g c = rw c.in-Bytes.is (record { built = c.archive-in-Bytes.ensures.built; unbuilt = c.archive-in-Bytes.ensures.unbuilt })
+
 pub archive-requires-in-Empty : goal.archive-requires-in-Empty
 archive-requires-in-Empty g c = λ k. ((refl, tt), rw c.in-Empty.is at c.requires)
 

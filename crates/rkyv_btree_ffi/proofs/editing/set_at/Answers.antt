@@ -2,7 +2,7 @@
 use Rattle.std.proofs.Common.{refl}
 use Rattle.rkyv_btree_ffi.specs.Entries.{comparison_at}
 use Rattle.rkyv_btree_ffi.proofs.Types.{with_key}
-use Rattle.rkyv_btree_ffi.specs.declared.map_type.ItemType.TheVariants.{U32, U64, I64, Text, Empty}
+use Rattle.rkyv_btree_ffi.specs.declared.map_type.ItemType.TheVariants.{U32, U64, I64, Text, Bytes, Empty}
 use Rattle.rkyv_btree_ffi.proofs.editing.set_at.Goals as goal
 
 pub set_with-requires : goal.set_with-requires
@@ -40,6 +40,15 @@ returns-in-Text-clause-sets c = rw (with_key c.args.map_type Text c.in-Text.is) 
 
 pub returns-in-Text-clause-stands : goal.returns-in-Text-clause-stands
 returns-in-Text-clause-stands c = rw (with_key c.args.map_type Text c.in-Text.is) c.set_with-in-Text.ensures.stands
+
+pub set_with-requires-in-Bytes : goal.set_with-requires-in-Bytes
+set_with-requires-in-Bytes c = rw (with_key c.args.map_type Bytes c.in-Bytes.is) at c.requires
+
+pub returns-in-Bytes-clause-sets : goal.returns-in-Bytes-clause-sets
+returns-in-Bytes-clause-sets c = rw (with_key c.args.map_type Bytes c.in-Bytes.is) (c.set_with-in-Bytes.ensures.sets (comparison_at Bytes) (λ n b at. refl))
+
+pub returns-in-Bytes-clause-stands : goal.returns-in-Bytes-clause-stands
+returns-in-Bytes-clause-stands c = rw (with_key c.args.map_type Bytes c.in-Bytes.is) c.set_with-in-Bytes.ensures.stands
 
 pub set_with-requires-in-Empty : goal.set_with-requires-in-Empty
 set_with-requires-in-Empty c = rw (with_key c.args.map_type Empty c.in-Empty.is) at c.requires

@@ -1,6 +1,6 @@
 -- What is written is the value.
 use Rattle.std.proofs.Common.{◌≡◌, ◌∙◌, ap, arith, rules, ℕ}
-use Rattle.std.specs.Int.{w64, cast_signed, cast_unsigned, to_le_bytes}
+use Rattle.std.specs.Int.{w64, cast_signed, cast_unsigned}
 use Rattle.std.proofs.lemmas.Int.{of_z-to_z}
 use Rattle.rkyv_btree_ffi.proofs.editing.set_signed.Goals as goal
 

@@ -3,7 +3,7 @@ use Rattle.std.proofs.Common.{refl}
 use Rattle.rkyv_btree_ffi.specs.Entries.{comparison_at}
 use Rattle.rkyv_btree_ffi.proofs.Fits.{all_fit}
 use Rattle.rkyv_btree_ffi.proofs.Types.{with_key}
-use Rattle.rkyv_btree_ffi.specs.declared.map_type.ItemType.TheVariants.{U32, U64, I64, Text, Empty}
+use Rattle.rkyv_btree_ffi.specs.declared.map_type.ItemType.TheVariants.{U32, U64, I64, Text, Bytes, Empty}
 use Rattle.rkyv_btree_ffi.proofs.finding.lookup_at.Goals as goal
 
 pub lookup_with-requires : goal.lookup_with-requires
@@ -29,6 +29,12 @@ lookup_with-requires-in-Text c = all_fit Text c.args.map_type.value
 
 pub returns-in-Text : goal.returns-in-Text
 returns-in-Text c = rw (with_key c.args.map_type Text c.in-Text.is) (c.lookup_with-in-Text.ensures (comparison_at Text) (λ n b at. refl))
+
+pub lookup_with-requires-in-Bytes : goal.lookup_with-requires-in-Bytes
+lookup_with-requires-in-Bytes c = all_fit Bytes c.args.map_type.value
+
+pub returns-in-Bytes : goal.returns-in-Bytes
+returns-in-Bytes c = rw (with_key c.args.map_type Bytes c.in-Bytes.is) (c.lookup_with-in-Bytes.ensures (comparison_at Bytes) (λ n b at. refl))
 
 pub lookup_with-requires-in-Empty : goal.lookup_with-requires-in-Empty
 lookup_with-requires-in-Empty c = all_fit Empty c.args.map_type.value

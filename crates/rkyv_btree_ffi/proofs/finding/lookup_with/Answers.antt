@@ -25,6 +25,12 @@ lookup-requires-in-Text g c = rw c.in-Text.is at c.requires
 pub returns-in-Text : goal.returns-in-Text
 returns-in-Text g c = rw c.in-Text.is (c.lookup-in-Text.ensures)
 
+pub lookup-requires-in-Bytes : goal.lookup-requires-in-Bytes
+lookup-requires-in-Bytes g c = rw c.in-Bytes.is at c.requires
+
+pub returns-in-Bytes : goal.returns-in-Bytes
+returns-in-Bytes g c = rw c.in-Bytes.is (c.lookup-in-Bytes.ensures)
+
 pub lookup-requires-in-Empty : goal.lookup-requires-in-Empty
 lookup-requires-in-Empty g c = rw c.in-Empty.is at c.requires
 

@@ -1,6 +1,6 @@
 -- Each type of keys has its own call.
 use Rattle.rkyv_btree_ffi.proofs.Types.{with_key}
-use Rattle.rkyv_btree_ffi.specs.declared.map_type.ItemType.TheVariants.{U32, U64, I64, Text, Empty}
+use Rattle.rkyv_btree_ffi.specs.declared.map_type.ItemType.TheVariants.{U32, U64, I64, Text, Bytes, Empty}
 use Rattle.rkyv_btree_ffi.proofs.opening.count_at.Goals as goal
 
 pub count_with-requires : goal.count_with-requires
@@ -26,6 +26,12 @@ count_with-requires-in-Text c = rw (with_key c.args.map_type Text c.in-Text.is) 
 
 pub returns-in-Text : goal.returns-in-Text
 returns-in-Text c = rw (with_key c.args.map_type Text c.in-Text.is) (c.count_with-in-Text.ensures)
+
+pub count_with-requires-in-Bytes : goal.count_with-requires-in-Bytes
+count_with-requires-in-Bytes c = rw (with_key c.args.map_type Bytes c.in-Bytes.is) at c.requires
+
+pub returns-in-Bytes : goal.returns-in-Bytes
+returns-in-Bytes c = rw (with_key c.args.map_type Bytes c.in-Bytes.is) (c.count_with-in-Bytes.ensures)
 
 pub count_with-requires-in-Empty : goal.count_with-requires-in-Empty
 count_with-requires-in-Empty c = rw (with_key c.args.map_type Empty c.in-Empty.is) at c.requires

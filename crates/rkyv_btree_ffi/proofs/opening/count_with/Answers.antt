@@ -25,6 +25,12 @@ count-requires-in-Text g c = rw c.in-Text.is at c.requires
 pub returns-in-Text : goal.returns-in-Text
 returns-in-Text g c = rw c.in-Text.is (c.count-in-Text.ensures)
 
+pub count-requires-in-Bytes : goal.count-requires-in-Bytes
+count-requires-in-Bytes g c = rw c.in-Bytes.is at c.requires
+
+pub returns-in-Bytes : goal.returns-in-Bytes
+returns-in-Bytes g c = rw c.in-Bytes.is (c.count-in-Bytes.ensures)
+
 pub count-requires-in-Empty : goal.count-requires-in-Empty
 count-requires-in-Empty g c = rw c.in-Empty.is at c.requires
 

@@ -1,7 +1,7 @@
 -- Each type of keys has its own call.
 use Rattle.rkyv_btree_ffi.proofs.Fits.{all_fit}
 use Rattle.rkyv_btree_ffi.proofs.Types.{with_key}
-use Rattle.rkyv_btree_ffi.specs.declared.map_type.ItemType.TheVariants.{U32, U64, I64, Text, Empty}
+use Rattle.rkyv_btree_ffi.specs.declared.map_type.ItemType.TheVariants.{U32, U64, I64, Text, Bytes, Empty}
 use Rattle.rkyv_btree_ffi.proofs.opening.opened_at.Goals as goal
 
 pub opened_with-requires : goal.opened_with-requires
@@ -27,6 +27,12 @@ opened_with-requires-in-Text c = all_fit Text c.args.map_type.value
 
 pub returns-in-Text : goal.returns-in-Text
 returns-in-Text c = rw (with_key c.args.map_type Text c.in-Text.is) (c.opened_with-in-Text.ensures)
+
+pub opened_with-requires-in-Bytes : goal.opened_with-requires-in-Bytes
+opened_with-requires-in-Bytes c = all_fit Bytes c.args.map_type.value
+
+pub returns-in-Bytes : goal.returns-in-Bytes
+returns-in-Bytes c = rw (with_key c.args.map_type Bytes c.in-Bytes.is) (c.opened_with-in-Bytes.ensures)
 
 pub opened_with-requires-in-Empty : goal.opened_with-requires-in-Empty
 opened_with-requires-in-Empty c = all_fit Empty c.args.map_type.value

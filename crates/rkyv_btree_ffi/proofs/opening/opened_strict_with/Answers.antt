@@ -25,6 +25,12 @@ opened_strict-requires-in-Text g c = rw c.in-Text.is at c.requires
 pub returns-in-Text : goal.returns-in-Text
 returns-in-Text g c = rw c.in-Text.is (c.opened_strict-in-Text.ensures)
 
+pub opened_strict-requires-in-Bytes : goal.opened_strict-requires-in-Bytes
+opened_strict-requires-in-Bytes g c = rw c.in-Bytes.is at c.requires
+
+pub returns-in-Bytes : goal.returns-in-Bytes
+returns-in-Bytes g c = rw c.in-Bytes.is (c.opened_strict-in-Bytes.ensures)
+
 pub opened_strict-requires-in-Empty : goal.opened_strict-requires-in-Empty
 opened_strict-requires-in-Empty g c = rw c.in-Empty.is at c.requires
 

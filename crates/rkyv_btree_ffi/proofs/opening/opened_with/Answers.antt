@@ -25,6 +25,12 @@ opened-requires-in-Text g c = rw c.in-Text.is at c.requires
 pub returns-in-Text : goal.returns-in-Text
 returns-in-Text g c = rw c.in-Text.is (c.opened-in-Text.ensures)
 
+pub opened-requires-in-Bytes : goal.opened-requires-in-Bytes
+opened-requires-in-Bytes g c = rw c.in-Bytes.is at c.requires
+
+pub returns-in-Bytes : goal.returns-in-Bytes
+returns-in-Bytes g c = rw c.in-Bytes.is (c.opened-in-Bytes.ensures)
+
 pub opened-requires-in-Empty : goal.opened-requires-in-Empty
 opened-requires-in-Empty g c = rw c.in-Empty.is at c.requires
 

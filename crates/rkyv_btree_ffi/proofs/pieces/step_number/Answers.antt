@@ -1,5 +1,7 @@
 -- Each type of keys has its own call.
-use Rattle.std.proofs.Common.{◌≡◌, refl, subst, arith, ℕ}
+use Rattle.std.proofs.Common.{◌≡◌, refl, subst, arith, rules, ℕ}
+use Rattle.std.proofs.lemmas.Int.{of_z-to_z}
+use Rattle.std.specs.Int.{w64, cast_signed, cast_unsigned}
 use Rattle.std.specs.Ordering.{int_cmp}
 use Rattle.rkyv_btree_ffi.specs.Entries.{by_number_at}
 use Rattle.rkyv_btree_ffi.specs.MapTypes.{typed}
@@ -34,4 +36,7 @@ step_with-requires-in-I64-default c = all_fit I64 c.args.map_type.value
 pub returns-in-I64-default-clause-gives : goal.returns-in-I64-default-clause-gives
 returns-in-I64-default-clause-gives c = λ b e.
     let t = typed I64 c.args.map_type.value in
-    rw (with_key c.args.map_type I64 c.in-I64-default.is-0) (steps_of t b c.step_with-in-I64-default.new.buffer (by_number_at I64 c.args.key) c.step_with-in-I64-default.result (c.step_with-in-I64-default.ensures.gives b e int_cmp (λ n c at. refl)))
+    let once : cast_unsigned w64 (cast_signed w64 c.args.key) ≡ c.args.key = of_z-to_z w64 c.args.key (omega arith) in
+    let same : cast_unsigned w64 c.cast_signed.result ≡ c.args.key = search (rules, once) in
+    let gives = steps_of t b c.step_with-in-I64-default.new.buffer (by_number_at I64 (cast_unsigned w64 c.cast_signed.result)) c.step_with-in-I64-default.result (c.step_with-in-I64-default.ensures.gives b e int_cmp (λ n c at. refl)) in
+    rw (with_key c.args.map_type I64 c.in-I64-default.is-0) (subst (λ (n : ℕ). StepsOf t b (by_number_at I64 n) c.step_with-in-I64-default.new.buffer c.step_with-in-I64-default.result) same gives)

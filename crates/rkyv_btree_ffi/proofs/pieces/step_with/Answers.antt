@@ -25,6 +25,12 @@ step-requires-in-Text g c = rw c.in-Text.is at c.requires
 pub returns-in-Text : goal.returns-in-Text
 returns-in-Text g c = rw c.in-Text.is (record { gives = c.step-in-Text.ensures.gives; lacks = c.step-in-Text.ensures.lacks })
 
+pub step-requires-in-Bytes : goal.step-requires-in-Bytes
+step-requires-in-Bytes g c = rw c.in-Bytes.is at c.requires
+
+pub returns-in-Bytes : goal.returns-in-Bytes
+returns-in-Bytes g c = rw c.in-Bytes.is (record { gives = c.step-in-Bytes.ensures.gives; lacks = c.step-in-Bytes.ensures.lacks })
+
 pub step-requires-in-Empty : goal.step-requires-in-Empty
 step-requires-in-Empty g c = rw c.in-Empty.is at c.requires
 

@@ -2,7 +2,7 @@
 use Rattle.rkyv_btree_ffi.specs.MapTypes.{typed}
 use Rattle.rkyv_btree_ffi.proofs.Types.{batches}
 use Rattle.rkyv_btree_ffi.proofs.Types.{with_key}
-use Rattle.rkyv_btree_ffi.specs.declared.map_type.ItemType.TheVariants.{U32, U64, I64, Text, Empty}
+use Rattle.rkyv_btree_ffi.specs.declared.map_type.ItemType.TheVariants.{U32, U64, I64, Text, Bytes, Empty}
 use Rattle.rkyv_btree_ffi.proofs.reading.batch_at.Goals as goal
 
 pub batch_with-requires : goal.batch_with-requires
@@ -28,6 +28,12 @@ batch_with-requires-in-Text c = rw (with_key c.args.map_type Text c.in-Text.is) 
 
 pub returns-in-Text : goal.returns-in-Text
 returns-in-Text c = rw (with_key c.args.map_type Text c.in-Text.is) (record { batch = batches (typed Text c.args.map_type.value) _ _ _ _ c.batch_with-in-Text.result c.batch_with-in-Text.ensures.room c.batch_with-in-Text.ensures.shown c.batch_with-in-Text.ensures.last; place = c.batch_with-in-Text.ensures.place; none = c.batch_with-in-Text.ensures.none })
+
+pub batch_with-requires-in-Bytes : goal.batch_with-requires-in-Bytes
+batch_with-requires-in-Bytes c = rw (with_key c.args.map_type Bytes c.in-Bytes.is) at c.requires
+
+pub returns-in-Bytes : goal.returns-in-Bytes
+returns-in-Bytes c = rw (with_key c.args.map_type Bytes c.in-Bytes.is) (record { batch = batches (typed Bytes c.args.map_type.value) _ _ _ _ c.batch_with-in-Bytes.result c.batch_with-in-Bytes.ensures.room c.batch_with-in-Bytes.ensures.shown c.batch_with-in-Bytes.ensures.last; place = c.batch_with-in-Bytes.ensures.place; none = c.batch_with-in-Bytes.ensures.none })
 
 pub batch_with-requires-in-Empty : goal.batch_with-requires-in-Empty
 batch_with-requires-in-Empty c = rw (with_key c.args.map_type Empty c.in-Empty.is) at c.requires

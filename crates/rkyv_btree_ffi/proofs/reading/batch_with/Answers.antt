@@ -25,6 +25,12 @@ batch-requires-in-Text g c = rw c.in-Text.is at c.requires
 pub returns-in-Text : goal.returns-in-Text
 returns-in-Text g c = rw c.in-Text.is (record { room = c.batch-in-Text.ensures.room; shown = c.batch-in-Text.ensures.shown; last = c.batch-in-Text.ensures.last; place = c.batch-in-Text.ensures.place; none = c.batch-in-Text.ensures.none })
 
+pub batch-requires-in-Bytes : goal.batch-requires-in-Bytes
+batch-requires-in-Bytes g c = rw c.in-Bytes.is at c.requires
+
+pub returns-in-Bytes : goal.returns-in-Bytes
+returns-in-Bytes g c = rw c.in-Bytes.is (record { room = c.batch-in-Bytes.ensures.room; shown = c.batch-in-Bytes.ensures.shown; last = c.batch-in-Bytes.ensures.last; place = c.batch-in-Bytes.ensures.place; none = c.batch-in-Bytes.ensures.none })
+
 pub batch-requires-in-Empty : goal.batch-requires-in-Empty
 batch-requires-in-Empty g c = rw c.in-Empty.is at c.requires
 

@@ -1,6 +1,6 @@
 -- Each type of keys has its own call.
 use Rattle.rkyv_btree_ffi.proofs.Types.{with_key}
-use Rattle.rkyv_btree_ffi.specs.declared.map_type.ItemType.TheVariants.{U32, U64, I64, Text, Empty}
+use Rattle.rkyv_btree_ffi.specs.declared.map_type.ItemType.TheVariants.{U32, U64, I64, Text, Bytes, Empty}
 use Rattle.rkyv_btree_ffi.proofs.reading.first_at.Goals as goal
 
 pub first_with-requires : goal.first_with-requires
@@ -26,6 +26,12 @@ first_with-requires-in-Text c = rw (with_key c.args.map_type Text c.in-Text.is) 
 
 pub returns-in-Text : goal.returns-in-Text
 returns-in-Text c = rw (with_key c.args.map_type Text c.in-Text.is) (record { place = c.first_with-in-Text.ensures.place; all = c.first_with-in-Text.ensures.all })
+
+pub first_with-requires-in-Bytes : goal.first_with-requires-in-Bytes
+first_with-requires-in-Bytes c = rw (with_key c.args.map_type Bytes c.in-Bytes.is) at c.requires
+
+pub returns-in-Bytes : goal.returns-in-Bytes
+returns-in-Bytes c = rw (with_key c.args.map_type Bytes c.in-Bytes.is) (record { place = c.first_with-in-Bytes.ensures.place; all = c.first_with-in-Bytes.ensures.all })
 
 pub first_with-requires-in-Empty : goal.first_with-requires-in-Empty
 first_with-requires-in-Empty c = rw (with_key c.args.map_type Empty c.in-Empty.is) at c.requires

@@ -25,6 +25,12 @@ first-requires-in-Text g c = rw c.in-Text.is at c.requires
 pub returns-in-Text : goal.returns-in-Text
 returns-in-Text g c = rw c.in-Text.is (record { place = c.first-in-Text.ensures.place; all = c.first-in-Text.ensures.all })
 
+pub first-requires-in-Bytes : goal.first-requires-in-Bytes
+first-requires-in-Bytes g c = rw c.in-Bytes.is at c.requires
+
+pub returns-in-Bytes : goal.returns-in-Bytes
+returns-in-Bytes g c = rw c.in-Bytes.is (record { place = c.first-in-Bytes.ensures.place; all = c.first-in-Bytes.ensures.all })
+
 pub first-requires-in-Empty : goal.first-requires-in-Empty
 first-requires-in-Empty g c = rw c.in-Empty.is at c.requires
 

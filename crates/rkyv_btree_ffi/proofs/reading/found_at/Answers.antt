@@ -4,7 +4,7 @@ use Rattle.rkyv_btree_ffi.specs.Entries.{comparison_at}
 use Rattle.rkyv_btree_ffi.specs.MapTypes.{typed}
 use Rattle.rkyv_btree_ffi.proofs.Types.{finds}
 use Rattle.rkyv_btree_ffi.proofs.Types.{with_key}
-use Rattle.rkyv_btree_ffi.specs.declared.map_type.ItemType.TheVariants.{U32, U64, I64, Text, Empty}
+use Rattle.rkyv_btree_ffi.specs.declared.map_type.ItemType.TheVariants.{U32, U64, I64, Text, Bytes, Empty}
 use Rattle.rkyv_btree_ffi.proofs.reading.found_at.Goals as goal
 
 pub found_with-requires : goal.found_with-requires
@@ -30,6 +30,12 @@ found_with-requires-in-Text c = rw (with_key c.args.map_type Text c.in-Text.is) 
 
 pub returns-in-Text : goal.returns-in-Text
 returns-in-Text c = rw (with_key c.args.map_type Text c.in-Text.is) (finds (typed Text c.args.map_type.value) _ _ c.found_with-in-Text.result (c.found_with-in-Text.ensures (comparison_at Text) (λ n b at. refl)))
+
+pub found_with-requires-in-Bytes : goal.found_with-requires-in-Bytes
+found_with-requires-in-Bytes c = rw (with_key c.args.map_type Bytes c.in-Bytes.is) at c.requires
+
+pub returns-in-Bytes : goal.returns-in-Bytes
+returns-in-Bytes c = rw (with_key c.args.map_type Bytes c.in-Bytes.is) (finds (typed Bytes c.args.map_type.value) _ _ c.found_with-in-Bytes.result (c.found_with-in-Bytes.ensures (comparison_at Bytes) (λ n b at. refl)))
 
 pub found_with-requires-in-Empty : goal.found_with-requires-in-Empty
 found_with-requires-in-Empty c = rw (with_key c.args.map_type Empty c.in-Empty.is) at c.requires

@@ -25,6 +25,12 @@ found-requires-in-Text g c = rw c.in-Text.is at c.requires
 pub returns-in-Text : goal.returns-in-Text
 returns-in-Text g c = rw c.in-Text.is (c.found-in-Text.ensures)
 
+pub found-requires-in-Bytes : goal.found-requires-in-Bytes
+found-requires-in-Bytes g c = rw c.in-Bytes.is at c.requires
+
+pub returns-in-Bytes : goal.returns-in-Bytes
+returns-in-Bytes g c = rw c.in-Bytes.is (c.found-in-Bytes.ensures)
+
 pub found-requires-in-Empty : goal.found-requires-in-Empty
 found-requires-in-Empty g c = rw c.in-Empty.is at c.requires
 

@@ -2,7 +2,7 @@
 use Rattle.std.proofs.Common.{refl}
 use Rattle.rkyv_btree_ffi.specs.Entries.{comparison_at}
 use Rattle.rkyv_btree_ffi.proofs.Types.{with_key}
-use Rattle.rkyv_btree_ffi.specs.declared.map_type.ItemType.TheVariants.{U32, U64, I64, Text, Empty}
+use Rattle.rkyv_btree_ffi.specs.declared.map_type.ItemType.TheVariants.{U32, U64, I64, Text, Bytes, Empty}
 use Rattle.rkyv_btree_ffi.proofs.reading.sought_at.Goals as goal
 
 pub sought_with-requires : goal.sought_with-requires
@@ -28,6 +28,12 @@ sought_with-requires-in-Text c = rw (with_key c.args.map_type Text c.in-Text.is)
 
 pub returns-in-Text : goal.returns-in-Text
 returns-in-Text c = rw (with_key c.args.map_type Text c.in-Text.is) (record { place = c.sought_with-in-Text.ensures.place; from = record { run = c.sought_with-in-Text.ensures.run; within = c.sought_with-in-Text.ensures.within (comparison_at Text) (λ n b at. refl) } })
+
+pub sought_with-requires-in-Bytes : goal.sought_with-requires-in-Bytes
+sought_with-requires-in-Bytes c = rw (with_key c.args.map_type Bytes c.in-Bytes.is) at c.requires
+
+pub returns-in-Bytes : goal.returns-in-Bytes
+returns-in-Bytes c = rw (with_key c.args.map_type Bytes c.in-Bytes.is) (record { place = c.sought_with-in-Bytes.ensures.place; from = record { run = c.sought_with-in-Bytes.ensures.run; within = c.sought_with-in-Bytes.ensures.within (comparison_at Bytes) (λ n b at. refl) } })
 
 pub sought_with-requires-in-Empty : goal.sought_with-requires-in-Empty
 sought_with-requires-in-Empty c = rw (with_key c.args.map_type Empty c.in-Empty.is) at c.requires

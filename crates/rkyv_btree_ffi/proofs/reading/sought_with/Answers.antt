@@ -25,6 +25,12 @@ sought-requires-in-Text g c = rw c.in-Text.is at c.requires
 pub returns-in-Text : goal.returns-in-Text
 returns-in-Text g c = rw c.in-Text.is (record { place = c.sought-in-Text.ensures.place; run = c.sought-in-Text.ensures.run; within = c.sought-in-Text.ensures.within })
 
+pub sought-requires-in-Bytes : goal.sought-requires-in-Bytes
+sought-requires-in-Bytes g c = rw c.in-Bytes.is at c.requires
+
+pub returns-in-Bytes : goal.returns-in-Bytes
+returns-in-Bytes g c = rw c.in-Bytes.is (record { place = c.sought-in-Bytes.ensures.place; run = c.sought-in-Bytes.ensures.run; within = c.sought-in-Bytes.ensures.within })
+
 pub sought-requires-in-Empty : goal.sought-requires-in-Empty
 sought-requires-in-Empty g c = rw c.in-Empty.is at c.requires
 
