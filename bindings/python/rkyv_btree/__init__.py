@@ -18,6 +18,7 @@ import struct
 from array import array
 from collections.abc import ItemsView, Iterable, Iterator, Mapping, ValuesView
 from collections.abc import Set as AbstractSet
+from functools import cache
 from itertools import accumulate, islice
 from typing import Any, Union, overload
 
@@ -146,6 +147,7 @@ def _set_number_of(key_type: str) -> int:
     return NUMBERS[key_type, EMPTY]
 
 
+@cache
 def _limits_of(kind: str) -> tuple[int, int]:
     """Returns the least number of a type, and the least that is past all its numbers."""
     size, _, form = LAYOUTS[kind]
@@ -616,7 +618,8 @@ def find(data: Any, key_type: Type, value_type: Type, key: Key) -> Union[Value, 
     return _found(data, _number_of(key_type, value_type), key_type, value_type, key)
 
 
-def _found(data: Any, number: int, key_type: str, value_type: str, key: Key) -> Union[Value, None]:
+def _found(data: Any, number: int, key_type: str, value_type: str, key: Any) -> Union[Value, None]:
+    """Returns the value of a key in bytes that nobody has validated, as an archive of the type with this number, or None."""
     entry, why = _Entry(), _Refusal()
     with memoryview(data) as view:
         address = _address_of(view)

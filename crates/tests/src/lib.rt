@@ -43,8 +43,8 @@ mod native_maps;
 mod natives;
 #[cfg(test)]
 mod numbers;
-mod options;
 #[cfg(test)]
+mod options;
 #[cfg(test)]
 mod pairs;
 #[cfg(test)]
