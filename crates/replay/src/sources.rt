@@ -56,17 +56,15 @@ fn shown_in<
     K: Fetch + CompareWith<T>,
     V: Fetch + Shown,
     const E: usize,
->(
-    alloc: Global,
-    source: S,
-    limits: Limits,
-    key: T,
-) -> anyhow::Result<String> {
+>(alloc: Global, source: S, limits: Limits, key: T) -> anyhow::Result<String> {
     ensure!(layout::fits::<K, V, E>(), "the map doesn't fit");
     let mut room = [0u8; 4096];
     let room = &mut room[..limits.lent.min(4096)];
-    let mut map =
-        UnverifiedSource::<S, ArchivedBTreeMap<K, V, E>>::new(source, limits.pos, limits.budget);
+    let mut map = UnverifiedSource::<S, ArchivedBTreeMap<K, V, E>>::new(
+        source,
+        limits.pos,
+        limits.budget,
+    );
     let mut found = String::new(alloc);
     show_found(map.get_by(key, room), &mut found)?;
     let read = limits.budget.saturating_sub(map.budget_left());
