@@ -4,6 +4,7 @@ use crate::lookups_types::are_found;
 use crate::same::{same, shown};
 use crate::views::hashed;
 use rkyv_btree::prelude::*;
+use rkyv_btree_base::layout;
 use std::collections::BTreeMap;
 use std::test::Fail;
 
@@ -56,6 +57,7 @@ fn options_are_found(rt: HostRuntime) -> Result<(), Fail> {
 
 #[test]
 fn typed_files_name_options(rt: HostRuntime) -> Result<(), Fail> {
+    assert!(rt; layout::fits::<Optional, ArchivedOption<ArchivedText>, 5>());
     let mut map = BTreeMap::new(rt.alloc());
     map.insert(Some(7u32), None::<String>)?;
     let bytes = to_typed_archive(rt.alloc(), &map)?;
