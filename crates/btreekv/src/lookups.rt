@@ -15,6 +15,7 @@ use rkyv_btree_source::cached::CachedSource;
 use rkyv_btree_source::source::{ReadAt, SeekSource};
 use rkyv_btree_source::unverified_source::UnverifiedSource;
 use std::fs::File;
+use std::io;
 use std::io::{BufRead, Read};
 use std::str::from_utf8;
 
@@ -23,6 +24,49 @@ const FEW_BLOCKS: usize = 16;
 
 /// The number of blocks that the look-ups of many keys keep.
 const MANY_BLOCKS: usize = 2048;
+
+/// A regular file as a source, whose size was asked for once: a lookup asks for it each time.
+#[derive(Drop)]
+struct SizedFile {
+    source: SeekSource<File>,
+    size: u64,
+}
+
+impl SizedFile {
+    /// Asks for the size of a file.
+    fn new(file: File) -> Result<SizedFile, ProgramFault> {
+        let mut source = SeekSource { file };
+        match source.size() {
+            Ok(size) => Ok(SizedFile { source, size }),
+            Err(_) => Err(ProgramFault::InputFailed),
+        }
+    }
+}
+
+impl ReadAt for SizedFile {
+    type Error = io::Error;
+
+    fn size(&mut self) -> Result<u64, io::Error> {
+        Ok(self.size)
+    }
+
+    fn read_at(&mut self, pos: u32, part: &mut [u8]) -> Result<(), io::Error> {
+        self.source.read_at(pos, part)
+    }
+}
+
+/// Returns a file as a source that keeps so many blocks.
+fn cached(
+    system: &System<'_>,
+    file: File,
+    blocks: usize,
+) -> Result<CachedSource<SizedFile>, ProgramFault> {
+    let source = SizedFile::new(file)?;
+    match CachedSource::new(system.alloc(), source, blocks) {
+        Ok(cached) => Ok(cached),
+        Err(_) => Err(ProgramFault::Memory),
+    }
+}
 
 /// Writes how much of an input was read, if the words ask for it.
 fn write_stats(system: &System<'_>, matches: &ArgMatches<'_>, read: u64, size: u64) {
@@ -58,9 +102,7 @@ fn get_in_parts(
     let Ok(key) = words::owned(alloc, matches, "KEY") else {
         return Err(ProgramFault::Memory);
     };
-    let Ok(mut source) = CachedSource::new(alloc, SeekSource { file }, FEW_BLOCKS) else {
-        return Err(ProgramFault::Memory);
-    };
+    let mut source = cached(system, file, FEW_BLOCKS)?;
     let Ok(size) = source.size() else {
         return Err(ProgramFault::InputFailed);
     };
@@ -183,9 +225,9 @@ fn get_keys(system: &System<'_>, matches: &ArgMatches<'_>, keys: &str) -> Result
     let path = matches.get_str("KEY").unwrap_or("");
     let file = system.open(path)?;
     if is_regular(&file) && !matches.get_flag("validate") {
-        return match CachedSource::new(system.alloc(), SeekSource { file }, MANY_BLOCKS) {
+        return match cached(system, file, MANY_BLOCKS) {
             Ok(source) => get_keys_in(system, matches, source, keys),
-            Err(_) => Err(system.fail(Names::of_input(Some(path)), &ProgramFault::Memory)),
+            Err(fault) => Err(system.fail(Names::of_input(Some(path)), &fault)),
         };
     }
     match validated(system, file) {
