@@ -3,7 +3,8 @@ export RT ?= rt
 PROGRAM := crates/btreearc/out/btreearc
 MAPS := crates/bench/out/bench
 
-# Where make install puts what is built. DESTDIR is put before it; BINDIR, MANDIR, INCLUDEDIR and LIBDIR name other folders than those below it.
+# Where make install puts what is built. DESTDIR is put before it; BINDIR, MANDIR, COMPLETIONSDIR, INCLUDEDIR and LIBDIR name other
+# folders than those below it.
 export PREFIX ?= /usr/local
 
 .PHONY: run test wrong programs install uninstall bench bindings man reference drawing program maps
@@ -54,8 +55,8 @@ reference:
 
 # The drawings of the format and of a lookup, made of the program's archives of 17 and of 215 entries; and that of the crates, made of crates.txt.
 drawing: program
-	@awk 'BEGIN { for (i = 1; i <= 17; i++) print i, 10 * i }' | $(PROGRAM) build | tools/drawing.py > docs/format.svg
-	@awk 'BEGIN { for (i = 1; i <= 215; i++) print i, 10 * i }' | $(PROGRAM) build | tools/drawing.py 100 > docs/lookup.svg
+	@awk 'BEGIN { for (i = 1; i <= 17; i++) print i, 10 * i }' | $(PROGRAM) build untyped | tools/drawing.py > docs/format.svg
+	@awk 'BEGIN { for (i = 1; i <= 215; i++) print i, 10 * i }' | $(PROGRAM) build untyped | tools/drawing.py 100 > docs/lookup.svg
 	@tools/house.py
 
 # btreearc alone, which bench and drawing need.

@@ -212,6 +212,12 @@ uint32_t rkyv_btree_read_edit(rkyv_btree_map *map, const rkyv_btree_edit *edit);
 uint32_t rkyv_btree_set_number(rkyv_btree_edit *edit, uint64_t key, uint64_t value);
 uint32_t rkyv_btree_set_text(rkyv_btree_edit *edit, const uint8_t *key, size_t key_len, uint64_t value);
 
+/* Writes a length that is enough for the archive of so many entries, whose texts and bytes have `texts_len` bytes together: with an `out` of
+ * that length none of the four calls below returns RKYV_BTREE_NO_ROOM. A text or bytes that several entries share count for each of them. More
+ * is enough too: for columns the lengths of both buffers of texts or bytes. RKYV_BTREE_LENGTH_OVERFLOW and RKYV_BTREE_POSITION_OVERFLOW, and
+ * nothing is written, if no archive has so many. */
+uint32_t rkyv_btree_build_bound(uint32_t type, size_t entries_len, size_t texts_len, size_t *bound);
+
 /* Builds the archive of entries, whose texts and bytes are in one buffer, in their order; or only if the keys increase. Where the archive has
  * more bytes than there is room for, nothing is written to `out`, and the call returns RKYV_BTREE_NO_ROOM. Both then and on success
  * `archive_len` is how many bytes the archive has. After another code but RKYV_BTREE_BAD_TYPE `why` has the cause, and nothing else is

@@ -363,10 +363,11 @@ def main():
         sys.exit(f"no crates: {', '.join({*given.crates} - {*crates})}")
     of_all = [edit for it in crates.values() for edit in edits_of(it)]
     names = {it.full_name for it in of_all}
-    every = [it for it in of_all if it.crate.name in (given.crates or crates) and re.search(given.only, it.name)]
-    lost = [it.full_name for it in every if not it.apply({})]
+    # of all of them, so that a run of a few finds what would stop the gate
+    lost = [it.full_name for it in of_all if not it.apply({})]
     if lost:
         sys.exit(f"an old text isn't there once: {', '.join(lost)}")
+    every = [it for it in of_all if it.crate.name in (given.crates or crates) and re.search(given.only, it.name)]
     keys, lock = Keys(KIT_ID).of(every), read_lock()
     untried = [it for it in every if given.all or lock.get(it.full_name) != keys[it]]
     if given.gate:

@@ -33,6 +33,11 @@ def texts_of(archive, node, count):
 
 def parts_of(archive):
     """Yields position, length and meaning of each part of the archive, in any order."""
+    if archive.startswith(b"rkyvbt\x01\x00"):
+        length = number(archive, 8)
+        yield 0, 8, "header of a typed file"
+        yield 8, 4, f"the name of the type has {length} bytes"
+        yield 12, length, "the name of the type"
     pos = len(archive) - 8
     count = number(archive, pos + 4)
     yield pos + 4, 4, f"{count} entries in the map"

@@ -1,17 +1,19 @@
 #!/usr/bin/env bash
-# Installs what is built, or removes what it installs: the programs with their man pages, and the library for C with its header and its
-# file for pkg-config. It proves and builds nothing: where a file isn't built, it names the command that builds it.
+# Installs what is built, or removes what it installs: the programs with their man pages and the words that bash completes, and the library
+# for C with its header and its file for pkg-config. It proves and builds nothing: where a file isn't built, it names the command that builds
+# it.
 #
 #     tools/install.sh [--remove] programs|library..
 #
-# The folders are below PREFIX, /usr/local if it isn't given: BINDIR, MANDIR, INCLUDEDIR and LIBDIR name others. DESTDIR is put before
-# each of them, and no installed file names it.
+# The folders are below PREFIX, /usr/local if it isn't given: BINDIR, MANDIR, COMPLETIONSDIR, INCLUDEDIR and LIBDIR name others. DESTDIR is
+# put before each of them, and no installed file names it.
 set -euo pipefail
 cd "$(dirname "${BASH_SOURCE[0]}")/.."
 
 prefix=${PREFIX:-/usr/local}
 bin=${BINDIR:-$prefix/bin}
 man=${MANDIR:-$prefix/share/man}/man1
+completions=${COMPLETIONSDIR:-$prefix/share/bash-completion/completions}
 include=${INCLUDEDIR:-$prefix/include}
 lib=${LIBDIR:-$prefix/lib}
 root=${DESTDIR:-}
@@ -67,9 +69,10 @@ END
 }
 
 install_programs() {
-    install -d "$root$bin" "$root$man"
+    install -d "$root$bin" "$root$man" "$root$completions"
     install -m 755 crates/btreearc/out/btreearc crates/btreekv/out/btreekv "$root$bin"
     install -m 644 docs/btreearc.1 docs/btreekv.1 "$root$man"
+    install -m 644 completions/btreekv "$root$completions"
 }
 
 install_library() {
@@ -84,7 +87,7 @@ install_library() {
 }
 
 remove_programs() {
-    rm -f "$root$bin"/btree{arc,kv} "$root$man"/btree{arc,kv}.1
+    rm -f "$root$bin"/btree{arc,kv} "$root$man"/btree{arc,kv}.1 "$root$completions/btreekv"
 }
 
 remove_library() {

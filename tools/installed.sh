@@ -18,7 +18,7 @@ fail() {
 }
 
 # folders of the caller's choice are no part of the test
-unset BINDIR MANDIR INCLUDEDIR LIBDIR PKG_CONFIG_LIBDIR
+unset BINDIR MANDIR COMPLETIONSDIR INCLUDEDIR LIBDIR PKG_CONFIG_LIBDIR
 export DESTDIR=$work/root PREFIX=/opt/maps
 installed=$DESTDIR$PREFIX
 version=$(sed -n 's/^version = "\(.*\)"$/\1/p' bindings/rust/Cargo.toml)
@@ -27,7 +27,7 @@ parts=(library)
 files=(include/rkyv_btree.h lib/librkyv_btree.{a,so,so.0} "lib/librkyv_btree.so.$version" lib/pkgconfig/rkyv_btree.pc)
 if [[ -f crates/btreearc/out/btreearc && -f crates/btreekv/out/btreekv ]]; then
     parts+=(programs)
-    files+=(bin/btree{arc,kv} share/man/man1/btree{arc,kv}.1)
+    files+=(bin/btree{arc,kv} share/man/man1/btree{arc,kv}.1 share/bash-completion/completions/btreekv)
 else
     echo "installed: the programs left out: they aren't built (make programs builds them)"
 fi

@@ -41,7 +41,8 @@ archive_of() {
     printf '%b' "$1" | "$program" build | od -An -v -t x1 | tr -d '\n' | sed 's/ /\\x/g'
 }
 
-usage='usage: btreearc build | list | get KEY | range LOW HIGH | check | set KEY VALUE | build-strict | check-strict | migrate'
+usage='usage: btreearc build [untyped] | list | get KEY | range LOW HIGH | check | set KEY VALUE | build-strict [untyped] | check-strict | migrate'
+header='rkyvbt\x01\x00\x10\x00\x00\x00[u32 -> u32 / 5]\x00\x00\x00\x00'
 none='\x00\x00\x00\x00'
 one='\x01\x00\x00\x00'
 empty="$one$none"
@@ -61,11 +62,20 @@ sorted+='\x03\x00\x00\x00\xd0\xff\xff\xff\x03\x00\x00\x00'
 six=$(archive_of '1 10\n2 20\n3 30\n4 40\n5 50\n6 60\n')
 
 #    status  line on standard error                           input            output                      words
-ends 0       ''                                               ''               "$empty"                    build
-ends 0       ''                                               '7 11\n'         "$seven"                    build
-ends 0       ''                                               '0000000007 11'  "$seven"                    build
-ends 0       ''                                               '1 10\n2 20\n'   "$two"                      build
-ends 0       ''                                               '4294967295 4294967295'  "$greatest"         build
+ends 0       ''                                               ''               "$header$empty"  build
+ends 0       ''                                               '7 11\n'         "$header$seven"  build
+ends 0       ''                                               '0000000007 11'  "$header$seven"  build
+ends 0       ''                                               '1 10\n2 20\n'   "$header$two"  build
+ends 0       ''                                               '4294967295 4294967295'  "$header$greatest"  build
+ends 0       ''                                               ''               "$empty"                    build untyped
+ends 0       ''                                               '7 11\n'         "$seven"                    build untyped
+ends 0       ''                                               '1 10\n2 20\n'   "$two"                      build-strict untyped
+ends 0       ''                                               "$header$seven"  '7 11\n'                    list
+ends 0       ''                                               "$header$two"    'ok 2 entries\n'            check
+ends 0       ''                                               "$header$two"    'ok 2 entries\n'            check-strict
+ends 0       ''                                               "$header$seven"  '11\n'                      get 7
+ends 0       ''                                               "$header$two"    '2 20\n'                    range 2 9
+ends 0       ''                                               "$header$seven"  "$header${seven/x0b/x0d}"   set 7 13
 ends 0       ''                                               "$empty"         ''                          list
 ends 0       ''                                               '\xff\xff\xff\xff\x00\x00\x00\x00'  ''       list
 ends 0       ''                                               "$seven"         '7 11\n'                    list
@@ -99,16 +109,16 @@ ends 1       ''                                               "$two"           '
 ends 1       ''                                               "$two"           ''                          set 10 99
 ends 1       ''                                               "$unordered"     ''                          set 1 99
 ends 1       ''                                               "$empty"         ''                          set 1 99
-ends 0       ''                                               ''               "$empty"                    build-strict
-ends 0       ''                                               '1 10\n2 20\n'   "$two"                      build-strict
+ends 0       ''                                               ''               "$header$empty"  build-strict
+ends 0       ''                                               '1 10\n2 20\n'   "$header$two"  build-strict
 ends 0       ''                                               '1 10\n2 20\n3 30\n4 40\n5 50\n6 60'  "$six"   build-strict
 ends 0       ''                                               "$empty"         'ok 0 entries\n'            check-strict
 ends 0       ''                                               "$two"           'ok 2 entries\n'            check-strict
 ends 0       ''                                               "$sorted"        'ok 3 entries\n'            check-strict
 ends 0       ''                                               "$empty"         "$empty"                    migrate
-ends 0       ''                                               "$unordered"     "$sorted"                   migrate
+ends 0       ''                                               "$unordered"     "$header$sorted"  migrate
 ends 0       ''                                               "$sorted"        "$sorted"                   migrate
-ends 0       ''                                               "$repeated"      "$last"                     migrate
+ends 0       ''                                               "$repeated"      "$header$last"  migrate
 ends 0       ''                                               "$six"           "$six"                      migrate
 ends 2       'btreearc: not built: entry 1 is out of order'   '2 20\n1 10\n'   ''                          build-strict
 ends 2       'btreearc: not built: entry 1 is out of order'   '1 10\n1 20\n'   ''                          build-strict
@@ -134,6 +144,8 @@ ends 2       "$usage"                                         ''               '
 ends 2       "$usage"                                         '1 2\n'          ''                          ''
 ends 2       "$usage"                                         '1 2\n'          ''                          Build
 ends 2       "$usage"                                         '1 2\n'          ''                          build 1
+ends 2       "$usage"                                         '1 2\n'          ''                          build untyped untyped
+ends 2       "$usage"                                         "$seven"         ''                          list untyped
 ends 2       "$usage"                                         "$empty"         ''                          lists
 ends 2       "$usage"                                         "$empty"         ''                          list list
 ends 2       "$usage"                                         "$seven"         ''                          check ''
@@ -150,6 +162,14 @@ ends 2       "$usage"                                         "$three"         '
 ends 2       "$usage"                                         "$three"         ''                          migrate 1
 ends 2       "$usage"                                         "$three"         ''                          check-strict 1
 ends 2       "$usage"                                         "$empty"         ''                          $'\xff'
+
+# A header of another type or another version is refused by its name.
+foreign='rkyvbt\x01\x00\x12\x00\x00\x00[text -> text / 5]\x00\x00'
+for words in list check 'get 7' 'range 1 9' 'set 7 99' check-strict migrate; do
+    read -ra words <<< "$words"
+    ends 2 'btreearc: refused: the bytes are of type [text -> text / 5], not [u32 -> u32 / 5]' "$foreign$seven" '' "${words[@]}"
+    ends 2 'btreearc: refused: the type header has version 2, not 1' "${header/x01/x02}$seven" '' "${words[@]}"
+done
 
 for word in '' x 1x -1 +1 ' 1' '2 ' 4294967296 00000000001; do
     ends 2 "$usage" "$seven" '' get "$word"
@@ -259,7 +279,8 @@ resident() { python3 "$work/resident.py" 32768 "$program" "$@"; }
 awk 'BEGIN { for (i = 0; i < 1000000; i++) printf "%d %d\n", 4 * i + 1, 10 * i }' > "$work/million"
 resident build < "$work/million" > "$work/large" 2> "$work/said" || fail "a million lines: not built"
 sum=078210dc9da914477e430f99de770f3abdbe8653ebc42cb1b82839136eb32099
-[[ $(sha256sum < "$work/large") == "$sum  -" ]] || fail "a million lines: another archive"
+[[ $(tail -c +33 "$work/large" | sha256sum) == "$sum  -" ]] || fail "a million lines: another archive"
+[[ $(resident build untyped < "$work/million" 2>> "$work/said" | sha256sum) == "$sum  -" ]] || fail "a million lines: another untyped archive"
 cat "$work/million" | resident build 2>> "$work/said" | cmp -s - "$work/large" || fail "a million lines by a pipe: another archive"
 resident build-strict < "$work/million" 2>> "$work/said" | cmp -s - "$work/large" || fail "a million lines: another strict archive"
 cat "$work/million" | resident build-strict 2>> "$work/said" | cmp -s - "$work/large" ||
@@ -289,9 +310,9 @@ if [[ -e /dev/full ]]; then
 fi
 [[ -z $(ls "$work/spool") ]] || fail "a temporary file is left: $(ls "$work/spool")"
 
-awk 'BEGIN { for (i = 1; i <= 17; i++) print i, 10 * i }' | "$program" build | "$tools/drawing.py" |
+awk 'BEGIN { for (i = 1; i <= 17; i++) print i, 10 * i }' | "$program" build untyped | "$tools/drawing.py" |
     cmp -s - "$tools/../docs/format.svg" || fail "docs/format.svg isn't the drawing of 17 entries; run make drawing"
-awk 'BEGIN { for (i = 1; i <= 215; i++) print i, 10 * i }' | "$program" build | "$tools/drawing.py" 100 |
+awk 'BEGIN { for (i = 1; i <= 215; i++) print i, 10 * i }' | "$program" build untyped | "$tools/drawing.py" 100 |
     cmp -s - "$tools/../docs/lookup.svg" || fail "docs/lookup.svg isn't the drawing of 215 entries; run make drawing"
 
 ((failed)) || echo "processes: $program ends as it must"

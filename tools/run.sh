@@ -21,8 +21,10 @@ failed() {
 zeros='\0\0\0\0'
 mkdir "$work/cases"
 printf '7 11\n8 12\n' > "$work/lines"
-printf "$zeros"'\7\0\0\0\10\0\0\0'"$zeros$zeros$zeros"'\13\0\0\0\14\0\0\0'"$zeros$zeros$zeros"'\2\0\0\0\320\377\377\377\2\0\0\0' \
-    > "$work/archive"
+{
+    printf 'rkyvbt\1\0\20\0\0\0[u32 -> u32 / 5]\0\0\0\0'"$zeros"
+    printf '\7\0\0\0\10\0\0\0'"$zeros$zeros$zeros"'\13\0\0\0\14\0\0\0'"$zeros$zeros$zeros"'\2\0\0\0\320\377\377\377\2\0\0\0'
+} > "$work/archive"
 cp "$work/lines" "$work/cases/build"
 cp "$work/archive" "$work/cases/list"
 echo build > "$work/cases/build.args"

@@ -44,12 +44,16 @@ archive_of() {
     printf '%b' "$1" | "$program" build "${@:2}" | od -An -v -t x1 | tr -d '\n' | sed 's/ /\\x/g'
 }
 
-empty='\x01\x00\x00\x00\x00\x00\x00\x00'
+header='rkyvbt\x01\x00\x12\x00\x00\x00[text -> text / 5]\x00\x00'
+bare='\x01\x00\x00\x00\x00\x00\x00\x00'
+empty=$header$bare
 three=$(archive_of 'apple\tred\nfig\tblue and green\npear\tyellow\n')
 unordered=$(archive_of 'b\t1\na\t2\nb\t3\n')
 sorted=$(archive_of 'a\t2\nb\t3\n')
 long=$(archive_of '\xc3\xa4\t\xf0\x9d\x84\x9e\n')
-nothing='00000000  01 00 00 00              root node: there is none\n00000004  00 00 00 00              0 entries in the map\n'
+nothing='00000000  72 6b 79 76 62 74 01 00  header of a typed file\n00000008  12 00 00 00              the name of the type has 18 bytes\n'
+nothing+='0000000c  5b 74 65 78 74 20 2d 3e  the name of the type\n00000014  20 74 65 78 74 20 2f 20  \n0000001c  35 5d                    \n'
+nothing+='0000001e  00 00                    unused\n00000020  01 00 00 00              root node: there is none\n00000024  00 00 00 00              0 entries in the map\n'
 fruit=$(archive_of 'a\t1\nab\t2\nabc\t3\nb\t4\n')
 quoted=$(archive_of 'q"\x08\x0c\r\x01\tx\ty\\\\\x1f\x7f\xc3\xa4\n')
 
@@ -93,8 +97,8 @@ ends 0 ''                                          "$fruit"                    '
 ends 0 ''                                          "$fruit"                    ''                            prefix abcd
 ends 0 ''                                          "$fruit"                    ''                            prefix c
 ends 0 ''                                          "$long"                     '\xc3\xa4\t\xf0\x9d\x84\x9e\n' prefix ä
-ends 0 ''                                          "$empty"                    "$(figures 0 0 0 0 0 0 0 0 0 0 8 0 8)" stat
-ends 0 ''                                          "$three"                    "$(figures 3 1 1 0 1 60 0 88 12 23 8 1 132)" stat
+ends 0 ''                                          "$empty"                    "$(figures 0 0 0 0 0 0 0 0 0 0 8 32 40)" stat
+ends 0 ''                                          "$three"                    "$(figures 3 1 1 0 1 60 0 88 12 23 8 33 164)" stat
 ends 0 ''                                          "$empty"                    '{}\n'                        list --json
 ends 0 ''                                          "$three"                    '{"apple":"red","fig":"blue and green","pear":"yellow"}\n' list --json
 ends 0 ''                                          "$unordered"                '{"b":"1","a":"2","b":"3"}\n' list --json
@@ -155,6 +159,25 @@ ends 2 'btreekv: entry 1: not a JSON object of key and value' '{"key":"\\ud834",
 ends 2 'btreekv: entry 1: not a JSON object of key and value' '{"key":"\xff","value":"b"}\n'               ''  build --ndjson
 ends 2 "error: the argument '--strict' cannot be used with '--ndjson'" '' ''                                    build --strict --ndjson
 
+# typed files and others: the tree is the same, and a header of another type or version is refused
+untyped=$(archive_of 'a\t2\nb\t3\n' --untyped)
+[[ $sorted == "$(printf '%b' "$header" | od -An -v -t x1 | tr -d '\n' | sed 's/ /\\x/g')$untyped" ]] || fail "a typed file isn't the header and the archive"
+ends 0 ''                                          ''                          "$bare"                       build --untyped
+ends 0 ''                                          'a\t2\nb\t3\n'              "$untyped"                    build --untyped
+ends 0 ''                                          'a\t2\nb\t3\n'              "$untyped"                    build --untyped --strict
+ends 0 ''                                          'b\t3\na\t2\n'              "$untyped"                    build --untyped --sort
+ends 0 ''                                          '{"key":"b","value":"3"}\n{"key":"a","value":"2"}\n' "$untyped" build --untyped --ndjson
+ends 0 ''                                          "$untyped"                  'a\t2\nb\t3\n'              list
+ends 0 ''                                          "$untyped"                  'ok 2 entries\n'              check --strict
+ends 0 ''                                          "$untyped"                  '3\n'                         get b
+foreign='rkyvbt\x01\x00\x10\x00\x00\x00[u32 -> u32 / 5]\x00\x00\x00\x00'$untyped
+later='rkyvbt\x02\x00'$untyped
+for words in list 'list --json' check 'check --strict' stat explain 'get a' 'range a b' 'prefix a'; do
+    read -ra words <<< "$words"
+    ends 2 'btreekv: refused: the bytes are of type [u32 -> u32 / 5], not [text -> text / 5]' "$foreign" '' "${words[@]}"
+    ends 2 'btreekv: refused: the type header has version 2, not 1' "$later" '' "${words[@]}"
+done
+
 # carriage returns are part of the values, and a warning says so if each line has one
 ends 0 'btreekv: warning: each line ends with CR LF, and the CR is part of the value' 'a\tb\r\n' "$(archive_of 'a\tb\r\n' 2> crs)" build
 ends 0 ''                                          'a\tb\r\nc\td\n'            "$(archive_of 'a\tb\r\nc\td\n')" build
@@ -171,18 +194,29 @@ ends 0 '' '' 'ok 3 entries\n' check archive
 ends 0 '' '' 'yellow\n' get pear archive
 ends 0 '' '' '"blue and green"\n' get --json fig archive
 ends 1 '' '' '' get banana archive
-ends 0 'btreekv: 118 of 132 bytes read' '' 'blue and green\n' get --stats fig archive
-ends 1 'btreekv: 104 of 132 bytes read' '' '' get --stats banana archive
-ends 0 'btreekv: 132 of 132 bytes read' '' 'yellow\n' get --stats --validate pear archive
-ends 0 'btreekv: 132 of 132 bytes read' "$three" 'yellow\n' get --stats pear
+ends 0 'btreekv: 118 of 164 bytes read' '' 'blue and green\n' get --stats fig archive
+ends 1 'btreekv: 104 of 164 bytes read' '' '' get --stats banana archive
+ends 0 'btreekv: 164 of 164 bytes read' '' 'yellow\n' get --stats --validate pear archive
+ends 0 'btreekv: 164 of 164 bytes read' "$three" 'yellow\n' get --stats pear
 ends 2 'btreekv: input failed: absent: No such file or directory (os error 2)' '' '' get pear absent
 ends 2 'btreekv: input failed: .: Is a directory (os error 21)' '' '' get pear .
 ends 2 'btreekv: input failed: .: Is a directory (os error 21)' '' '' get --validate pear .
 printf 'abc' > short
 ends 2 'btreekv: refused: short: position 0 is out of range' '' '' get pear short
 ends 2 'btreekv: refused: short: position 0 is out of range' '' '' check short
+ends 0 '' '' 'apple\tred\nfig\tblue and green\n' range apple fig archive
+ends 0 '' '' 'fig\tblue and green\n' prefix f archive
+ends 0 '' '' '{"key":"pear","value":"yellow"}\n' prefix --ndjson p archive
+ends 0 '' '' '' range z a archive
+ends 0 'btreekv: 164 of 164 bytes read' '' 'fig\tblue and green\n' range --stats --validate b ofen archive
+ends 0 'btreekv: 164 of 164 bytes read' "$three" 'fig\tblue and green\n' prefix --stats f
+ends 2 'btreekv: refused: short: position 0 is out of range' '' '' range a z short
+ends 2 'btreekv: refused: short: position 0 is out of range' '' '' prefix a short
+ends 2 'btreekv: input failed: absent: No such file or directory (os error 2)' '' '' range a z absent
+ends 2 'btreekv: input failed: .: Is a directory (os error 21)' '' '' prefix a .
 truncate -s 4294967296 huge
 ends 2 'btreekv: refused: huge: buffer is longer than 4294967295 bytes' '' '' get pear huge
+ends 2 'btreekv: refused: huge: buffer is longer than 4294967295 bytes' '' '' prefix pear huge
 rm huge
 
 # Many keys: a line for each that is found, in their order.
@@ -191,7 +225,7 @@ found='pear\tyellow\nfig\tblue and green\npear\tyellow\n'
 ends 1 '' '' "$found" get --keys-from keys archive
 ends 1 '' 'pear\n\nbanana\nfig\npear' "$found" get --keys-from - archive
 ends 1 '' 'pear\n\nbanana\nfig\npear' "$found" get --keys-from - --validate archive
-ends 0 'btreekv: 118 of 132 bytes read' 'fig\n' 'fig\tblue and green\n' get --stats --keys-from - archive
+ends 0 'btreekv: 118 of 164 bytes read' 'fig\n' 'fig\tblue and green\n' get --stats --keys-from - archive
 ends 0 '' '' '' get --keys-from - archive
 ends 2 'btreekv: line 2: byte 2 is not UTF-8' 'fig\nf\xff\n' '' get --keys-from - archive
 ends 2 'btreekv: refused: short: position 0 is out of range' 'fig\n' '' get --keys-from - short
@@ -271,12 +305,17 @@ shuf --random-source=many many | "$program" build --sort | cmp -s - archive || f
 
 # A file with an error that the look-up doesn't meet, and that it meets
 cp archive damaged
-printf '\xff' | dd of=damaged conv=notrunc 2> said
+printf '\xff' | dd of=damaged bs=1 seek=32 conv=notrunc 2> said
 ends 0 '' '' 'value of key 012345\n' get 'key 012345' damaged
-ends 2 'btreekv: refused: damaged: entry at position 152 is bad' '' '' get --validate 'key 012345' damaged
-ends 2 'btreekv: refused: damaged: entry at position 152 is bad' '' '' get 'key 000001' damaged
+ends 2 'btreekv: refused: damaged: entry at position 184 is bad' '' '' get --validate 'key 012345' damaged
+ends 2 'btreekv: refused: damaged: entry at position 184 is bad' '' '' get 'key 000001' damaged
+ends 0 '' '' 'key 012345\tvalue of key 012345\nkey 012346\tvalue of key 012346\n' range 'key 012345' 'key 012346' damaged
+ends 2 'btreekv: refused: damaged: entry at position 184 is bad' '' '' range --validate 'key 012345' 'key 012346' damaged
+ends 2 'btreekv: refused: damaged: entry at position 184 is bad' '' '' range 'key 000001' 'key 012346' damaged
+ends 2 'btreekv: refused: damaged: entry at position 184 is bad' '' '' prefix 'key 00000' damaged
 
-# Any bytes are looked up in, or refused. Where all are valid the values are alike.
+# Any bytes are looked up in, or refused. Where all are valid the values are alike, and so are the lines of a range and of a prefix if the
+# keys increase.
 head -n 215 many | "$program" build > few
 cat > damaged.py <<'E'
 import random, subprocess, sys
@@ -290,15 +329,19 @@ for _ in range(300):
         held[chance.choice([chance.randrange(len(held)), len(held) - 1 - chance.randrange(400)])] = chance.randrange(256)
     open("damaged", "wb").write(held)
     key = f"key {chance.randrange(217):06}"
-    parts, whole = (subprocess.run([program, "get", *flags, key, "damaged"], capture_output=True) for flags in ([], ["--validate"]))
-    kinds.add((parts.returncode, whole.returncode))
-    is_refused = parts.returncode == 2 and not parts.stdout and parts.stderr.startswith(b"btreekv: refused: damaged: ") and parts.stderr.count(b"\n") == 1
-    if not is_refused and (parts.returncode not in (0, 1) or parts.stderr):
-        sys.exit(f"damaged: status {parts.returncode}: {parts.stderr}")
-    if whole.returncode != 2 and (parts.returncode, parts.stdout) != (whole.returncode, whole.stdout):
-        sys.exit(f"damaged: {key}: {parts.stdout} and {whole.stdout}")
-if not {(0, 0), (0, 2), (2, 2)} <= kinds:
-    sys.exit(f"damaged: only {kinds}")
+    is_strict = subprocess.run([program, "check", "--strict", "damaged"], capture_output=True).returncode == 0
+    for command, *words in (["get", key], ["range", key, "key 0001"], ["prefix", key[:-1]]):
+        parts, whole = (subprocess.run([program, command, *flags, *words, "damaged"], capture_output=True) for flags in ([], ["--validate"]))
+        kinds.add((command, parts.returncode, whole.returncode))
+        is_line = parts.stderr.startswith(b"btreekv: refused: damaged: ") and parts.stderr.count(b"\n") == 1
+        is_refused = parts.returncode == 2 and not parts.stdout and is_line
+        if not is_refused and (parts.returncode not in (0, 1) or parts.stderr):
+            sys.exit(f"damaged: {command}: status {parts.returncode}: {parts.stderr}")
+        if whole.returncode != 2 and (is_strict or command == "get") and (parts.returncode, parts.stdout) != (whole.returncode, whole.stdout):
+            sys.exit(f"damaged: {command} {words}: {parts.stdout} and {whole.stdout}")
+for command in ("get", "range", "prefix"):
+    if not {(command, 0, 0), (command, 0, 2), (command, 2, 2)} <= kinds:
+        sys.exit(f"damaged: {command}: only {kinds}")
 E
 python3 damaged.py "$program" 2> said || fail "$(cat said)"
 
@@ -326,6 +369,9 @@ resident build --strict <(cat million) 2>> said | cmp -s - large || fail "a mill
 [[ $(resident get --stats 1500000 large 2> said) == 'value of 1500000' ]] || fail "a million lines: another value: $(cat said)"
 read -r _ count of size words < said
 [[ $of == of && $size == "$(stat -c %s large)" && $words == 'bytes read' && $count -lt 4096 ]] || fail "a million lines: a look-up: $(cat said)"
+cmp -s <(resident range --stats 1500000 1500099 large 2> said) <(sed -n '500001,500100p' million) || fail "a million lines: another range: $(cat said)"
+read -r _ count of size words < said
+[[ $of == of && $words == 'bytes read' && $count -lt 32768 ]] || fail "a million lines: a range: $(cat said)"
 unbuilt() {
     local got=0
     "$program" build "${@:2}" > written 2> said || got=$?
@@ -442,6 +488,31 @@ for words in 'merge old absent' 'update absent' 'update old absent' 'diff absent
 done
 refuses 'error: the following required arguments were not provided:' '' merge old
 
+# headers: a new file has one if the first old one has, and a foreign one is refused by its name
+printf '%b' "$foreign" > foreign
+printf '%b' "$later" > later
+"$program" build --untyped old.lines > bare
+"$program" build old.lines > typed
+printf 'zebra\tblack\n' > changes
+cat old.lines changes | "$program" build --sort --untyped > expected
+"$program" update bare changes | cmp -s - expected || fail "update of an untyped file: another one"
+"$program" build changes > more
+"$program" merge bare more | cmp -s - expected || fail "merge of an untyped file: another one"
+cat old.lines changes | "$program" build --sort > expected
+"$program" update typed changes | cmp -s - expected || fail "update of a typed file: another one"
+"$program" build --untyped changes > more
+"$program" merge typed more | cmp -s - expected || fail "merge of a typed file: another one"
+"$program" diff bare typed | cmp -s - /dev/null || fail "diff of a typed file: other lines"
+for name in foreign later; do
+    why='the type header has version 2, not 1'
+    [[ $name == later ]] || why='the bytes are of type [u32 -> u32 / 5], not [text -> text / 5]'
+    for words in "get a $name" "get --validate a $name" "get --keys-from keys $name" "update $name changes" "merge $name typed" "merge typed $name" \
+        "diff $name typed" "diff typed $name" "top 1 $name"; do
+        read -ra words <<< "$words"
+        refuses "btreekv: refused: $name: $why" '' "${words[@]}"
+    done
+done
+
 # merges
 printf 'a\t1\nc\t1\ne\t1\n' > first.lines
 printf 'b\t2\nc\t2\nd\t2\n' > second.lines
@@ -475,7 +546,7 @@ import pathlib, sys, types
 folder = pathlib.Path(sys.argv[1]) / "bindings" / "python" / "rkyv_btree"
 package = types.ModuleType("rkyv_btree")
 package.__path__, package.Type, package.Key, package.Error = [str(folder)], str, str, ValueError
-package._number_of = lambda key_type, value_type: 9
+package._types_of = lambda key_type, value_type: (9, key_type, value_type)
 sys.modules["rkyv_btree"] = package
 from rkyv_btree.top import top_of
 sys.stdout.buffer.write(top_of(open(sys.argv[3], "rb").read(), "text", "text", int(sys.argv[2])))
@@ -646,5 +717,22 @@ if [[ -e /dev/full ]]; then
     "$program" build million > /dev/full 2> said || got=$?
     [[ $got == 2 && $(cat said) == 'btreekv: output failed: No space left on device (os error 28)' ]] || fail "a million lines to a full device: status $got: $(cat said)"
 fi
+
+# What bash completes: the commands of the help, and of each command the flags of its help.
+source "$tools/../completions/btreekv"
+completes() {
+    COMP_WORDS=(btreekv "$@") COMP_CWORD=$# COMPREPLY=()
+    _btreekv
+    printf '%s\n' "${COMPREPLY[@]}" | sort
+}
+mapfile -t commands < <("$program" help | sed -n '/^Commands:/,/^$/s/^  \([a-z]*\) .*/\1/p')
+((${#commands[@]} > 10)) || fail "completion: the help has ${#commands[@]} commands"
+cmp -s <(printf '%s\n' "${commands[@]}" --help --version | sort) <(completes '') || fail "completion: other commands than those of the help"
+for command in "${commands[@]}"; do
+    [[ $command != help ]] || continue
+    cmp -s <("$program" help "$command" | grep -o '^ *\(-., \)\?--[a-z-]*' | grep -o -e '--.*' | sort) <(completes "$command" -) ||
+        fail "completion of $command: other flags than those of its help"
+done
+[[ $(completes list arch) == archive ]] || fail "completion: no file"
 
 exit "$failed"

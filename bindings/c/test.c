@@ -140,6 +140,25 @@ static void columns(uint32_t type, unsigned count, const uint8_t *data, size_t d
     }
 }
 
+/* One call is enough with as much room as the bound, of entries and of columns. It is the length where no text is, and else at most 7 bytes
+ * a node more. */
+static void one_call(uint32_t type, unsigned count) {
+    static uint8_t key_room[64 * MOST], value_room[64 * MOST], key_offsets[8 * MOST + 8], value_offsets[8 * MOST + 8], out[256 * MOST];
+    rkyv_btree_refusal why = {0};
+    size_t bound = 0, of_buffers = 0, len = 0;
+    give(type, count);
+    assert(rkyv_btree_build_bound(type, count, texts_len, &bound) == RKYV_BTREE_OK && bound <= sizeof out);
+    assert(rkyv_btree_build(type, given, count, texts, texts_len, out, bound, &len, &why) == RKYV_BTREE_OK);
+    assert(len <= bound && bound <= len + (texts_len == 0 ? 0 : 7 * ((count + 4) / 5)));
+    assert(rkyv_btree_build_strict(type, given, count, texts, texts_len, out, bound, &len, &why) == RKYV_BTREE_OK);
+    rkyv_btree_column keys = column(kinds[type].key, count, 0, 8, key_room, key_offsets);
+    rkyv_btree_column values = column(kinds[type].value, count, 1, 8, value_room, value_offsets);
+    assert(rkyv_btree_build_arrays(type, count, &keys, &values, out, bound, &len, &why) == RKYV_BTREE_OK);
+    size_t buffers = (is_pointed(kinds[type].key) ? keys.data_len : 0) + (is_pointed(kinds[type].value) ? values.data_len : 0);
+    assert(rkyv_btree_build_bound(type, count, buffers, &of_buffers) == RKYV_BTREE_OK && of_buffers == bound);
+    assert(rkyv_btree_build_arrays_strict(type, count, &keys, &values, out, bound, &len, &why) == RKYV_BTREE_OK && why.code == 0);
+}
+
 static int same(const uint8_t *data, rkyv_btree_item found, rkyv_btree_item wanted) {
     return found.number == wanted.number && found.len == wanted.len &&
            memcmp(data + found.start, texts + wanted.start, found.len) == 0;
@@ -354,6 +373,13 @@ static void misuse(void) {
     memset(&why, 0xa5, sizeof why);
     const rkyv_btree_refusal before = why;
     const rkyv_btree_column none = {0};
+    size_t bound = 5;
+    assert(rkyv_btree_build_bound(0, 0, 0, &bound) == RKYV_BTREE_BAD_TYPE && rkyv_btree_build_bound(NO_TYPE, 0, 0, &bound) == RKYV_BTREE_BAD_TYPE);
+    assert(rkyv_btree_build_bound(1, 1ull << 32, 0, &bound) == RKYV_BTREE_LENGTH_OVERFLOW);
+    assert(rkyv_btree_build_bound(1, SIZE_MAX, SIZE_MAX, &bound) == RKYV_BTREE_LENGTH_OVERFLOW);
+    assert(rkyv_btree_build_bound(1, (1ull << 32) - 1, 0, &bound) == RKYV_BTREE_POSITION_OVERFLOW);
+    assert(rkyv_btree_build_bound(RKYV_BTREE_TEXT_SET, 1, SIZE_MAX, &bound) == RKYV_BTREE_POSITION_OVERFLOW && bound == 5);
+    assert(rkyv_btree_build_bound(RKYV_BTREE_TEXT_SET, 0, 0, &bound) == RKYV_BTREE_OK && bound == 8);
     assert(rkyv_btree_build(NO_TYPE, NULL, 0, NULL, 0, out, 8, &archive_len, &why) == RKYV_BTREE_BAD_TYPE);
     assert(rkyv_btree_build_arrays(0, 0, &none, &none, out, 8, &archive_len, &why) == RKYV_BTREE_BAD_TYPE);
     assert(rkyv_btree_build_arrays_strict(NO_TYPE, 0, &none, &none, out, 8, &archive_len, &why) == RKYV_BTREE_BAD_TYPE);
@@ -462,8 +488,8 @@ static void save(const char *name, uint32_t type) {
 int main(int count_of_words, char **words) {
     if (count_of_words > 1 && strcmp(words[1], "short") == 0) step = 31;
     for (uint32_t type = 1; type <= LAST; type++) {
-        for (unsigned count = 0; count <= 220; count += step) one_type(type, count);
-        if (step == 1) one_type(type, MOST);
+        for (unsigned count = 0; count <= 220; count += step) one_type(type, count), one_call(type, count);
+        if (step == 1) one_type(type, MOST), one_call(type, MOST);
         for (unsigned count = 0; count <= MOST; count += step + count / 3) pieces(type, count);
         unvalidated(type);
     }

@@ -32,58 +32,59 @@ def pairs(part):
 
 
 def written_by(workers):
-    """Returns the seconds of the whole, and of each task by its name, on so many workers."""
+    """Returns the seconds of the whole on so many workers, and those of the processor that they spent on it together."""
     with tempfile.TemporaryDirectory() as folder, distributed.LocalCluster(
         n_workers=workers, threads_per_worker=1, dashboard_address=None, local_directory=folder, silence_logs=logging.CRITICAL
-    ) as cluster, distributed.Client(cluster):
+    ) as cluster, distributed.Client(cluster) as client:
         parts = dask.persist(*(dask.delayed(pairs)(part) for part in range(PARTS)))
         distributed.wait(parts)
-        started = time.perf_counter()
+        started, spent = time.perf_counter(), sum(client.run(time.process_time).values())
         published = write_partitions(parts, f"{folder}/set", *TYPES, SHARDS)
-        took = time.perf_counter() - started
+        took, spent = time.perf_counter() - started, sum(client.run(time.process_time).values()) - spent
         assert published.entries == COUNT
         with Shards(f"{folder}/set") as shards:
             assert shards.get(2_654_435_761 * 7 % 2**32) == 7
-        return took
+        return took, spent
 
 
 def timed(call, *given):
-    started = time.perf_counter()
+    """Returns the seconds of a call, those of the processor, and what it returns."""
+    started, spent = time.perf_counter(), time.process_time()
     result = call(*given)
-    return time.perf_counter() - started, result
+    return time.perf_counter() - started, time.process_time() - spent, result
 
 
 def parts_of_the_work():
-    """Yields the name of each part of the work and its seconds, for all pairs by one process without Dask."""
+    """Yields of each part of the work its name, its seconds and those of the processor, for all pairs by one process without Dask."""
     given = [pairs(part) for part in range(PARTS)]
-    took, ordered = timed(lambda: [_sorted(part) for part in given])
-    yield "sort each part", took
+    *took, ordered = timed(lambda: [_sorted(part) for part in given])
+    yield "sort each part", *took
     del given
     bounds = _bounds([_sample(part) for part in ordered], SHARDS)
-    took, split = timed(lambda: [_split(part, bounds) for part in ordered])
-    yield "split each part by the bounds of shards", took
+    *took, split = timed(lambda: [_split(part, bounds) for part in ordered])
+    yield "split each part by the bounds of shards", *took
     del ordered
-    took, merged = timed(lambda: [sorted(chain.from_iterable(part[number] for part in split), key=_order) for number in range(SHARDS)])
-    yield "merge the parts of each shard", took
+    *took, merged = timed(lambda: [sorted(chain.from_iterable(part[number] for part in split), key=_order) for number in range(SHARDS)])
+    yield "merge the parts of each shard", *took
     del split
-    took, archives = timed(lambda: [build(*TYPES, shard, strict=True) for shard in merged])
-    yield "build the archives", took
+    *took, archives = timed(lambda: [build(*TYPES, shard, strict=True) for shard in merged])
+    yield "build the archives", *took
     del merged
-    yield "make the sidecars, with a SHA-256", timed(lambda: [top_of(data, *TYPES) for data in archives])[0]
-    yield "name the archives by their SHA-256", timed(lambda: [hashlib.sha256(data).hexdigest() for data in archives])[0]
+    yield "make the sidecars, with a SHA-256", *timed(lambda: [top_of(data, *TYPES) for data in archives])[:2]
+    yield "name the archives by their SHA-256", *timed(lambda: [hashlib.sha256(data).hexdigest() for data in archives])[:2]
     with tempfile.TemporaryDirectory() as folder:
-        yield "write and sync the files", timed(lambda: [_Local(folder).write(str(at), data) for at, data in enumerate(archives)])[0]
+        yield "write and sync the files", *timed(lambda: [_Local(folder).write(str(at), data) for at, data in enumerate(archives)])[:2]
 
 
 def main():
     load = os.getloadavg()[0]
-    print(f"| Part of the work, for {COUNT} pairs by one process | Seconds | Nanoseconds a pair |\n|---|---|---|")
-    for name, took in parts_of_the_work():
-        print(f"| {name} | {took:.1f} | {took / COUNT * 1e9:.0f} |", flush=True)
-    print("\n| Workers of Dask | Seconds | Pairs a second |\n|---|---|---|")
+    print(f"| Part of the work, for {COUNT} pairs by one process | Seconds | Processor | Nanoseconds of it a pair |\n|---|---|---|---|")
+    for name, took, spent in parts_of_the_work():
+        print(f"| {name} | {took:.1f} | {spent:.1f} | {spent / COUNT * 1e9:.0f} |", flush=True)
+    print("\n| Workers of Dask | Seconds | Pairs a second | Processor, all workers |\n|---|---|---|---|")
     for workers in (1, 4):
-        took = written_by(workers)
-        print(f"| {workers} | {took:.0f} | {COUNT / took:.0f} |", flush=True)
+        took, spent = written_by(workers)
+        print(f"| {workers} | {took:.0f} | {COUNT / took:.0f} | {spent:.0f} |", flush=True)
     most = max(resource.getrusage(who).ru_maxrss for who in (resource.RUSAGE_SELF, resource.RUSAGE_CHILDREN))
     print(f"\nMost memory of a process {most >> 10} MiB. Load {load:.0f} before, {os.getloadavg()[0]:.0f} after.")
 

@@ -1,6 +1,7 @@
 """Tests of lookups in an archive that lies elsewhere: over a list of reads, and over a server of HTTP on this machine."""
 
 import asyncio
+import doctest
 import http.server
 import pathlib
 import random
@@ -10,7 +11,8 @@ import threading
 import unittest
 from array import array
 
-from rkyv_btree import Error, Map, build, build_arrays
+import rkyv_btree.remote
+from rkyv_btree import Error, Map, Set, build, build_arrays, build_set
 from rkyv_btree._nodes import Layout
 from rkyv_btree.remote import AsyncRemote, Changed, Remote
 from rkyv_btree.top import Top, top_of, write_top
@@ -79,6 +81,40 @@ class Lookups(unittest.TestCase):
                         self.assertRaises(Error, Map, data, key_type, value_type)
                     else:
                         self.assertIn(type(found), (type(entries[0][1]), type(None)))
+
+    def test_sets(self):
+        for key_type, value_type in (("u32", "u32"), ("i64", "i64"), ("text", "u32"), ("bytes", "bytes")):
+            keys = [key for key, _ in ENTRIES[key_type, value_type]]
+            data = build_set(key_type, keys, strict=True)
+            absent = {"text": ["", "zz", "\ud800"], "bytes": [b"", b"\xff", b"zz"]}.get(key_type, [1, 2**32 - 1, 2**64])
+            for settings in ({}, {"block": 64, "cache": 0}, {"block": 1000, "top": top_of(data, key_type, None)}):
+                remote = Remote(lambda pos, count: data[pos : pos + count], len(data), key_type, None, **settings)
+                self.assertEqual([remote.contains(key) for key in keys[::700]], [True] * len(keys[::700]))
+                self.assertEqual([remote.contains(key) for key in [*absent, None]], [False] * (len(absent) + 1))
+                self.assertEqual(remote.contains_many([*absent, *keys[::300]]), set(keys[::300]))
+                self.assertEqual(list(remote.range()), keys)
+                self.assertEqual(list(remote.range(keys[70], keys[95])), keys[70:95])
+                for call in (remote.get, lambda key: remote.get_many([key])):
+                    with self.assertRaisesRegex(TypeError, "^a set has no values: `contains` looks a key up$"):
+                        call(keys[0])
+        pairs = build("u32", "u32", ENTRIES["u32", "u32"])
+        prices = Remote(lambda pos, count: pairs[pos : pos + count], len(pairs), "u32", "u32")
+        self.assertEqual(prices.contains_many([0, 1, 2]), {0, 2})
+        self.assertRaises(ValueError, Remote, lambda pos, count: data, len(data), "bytes", "u32", top=top_of(data, "bytes", None))
+
+    def test_sets_of_bad_bytes(self):
+        good, rest = build_set("text", WORDS[:200]), random.Random(7)
+        for _ in range(300):
+            data = bytearray(good)
+            for _ in range(rest.randrange(1, 20)):
+                data[rest.randrange(len(data))] = rest.randrange(256)
+            data = bytes(data)
+            remote = Remote(lambda pos, count: data[pos : pos + count], len(data), "text", None, block=128)
+            for call in (lambda: remote.contains(WORDS[60]), lambda: list(remote.range())):
+                try:
+                    call()
+                except Error:
+                    self.assertRaises(Error, Set, data, "text", strict=True)
 
     def test_fetches_that_fail(self):
         data = build("u32", "u32", ENTRIES["u32", "u32"])
@@ -492,6 +528,11 @@ class Served(unittest.TestCase):
         for url in ("ftp://127.0.0.1/a", "http:///a", "archive"):
             with self.assertRaises(ValueError):
                 Remote.open_url(url, "text", "text")
+
+
+def load_tests(loader, tests, ignore):
+    tests.addTests(doctest.DocTestSuite(rkyv_btree.remote))
+    return tests
 
 
 if __name__ == "__main__":

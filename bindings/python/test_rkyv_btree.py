@@ -320,13 +320,18 @@ class Maps(unittest.TestCase):
             build("u32", "text", [(1, "a"), (2, "\ud800")])
         self.assertEqual(str(caught.exception), "an item is no key or value of the type at entry 1")
 
-    def test_build_where_the_guess_is_short(self):
+    def test_build_in_one_call(self):
         for key_type, value_type in (("u32", "u32"), ("u64", "text"), ("text", "text")):
             for length in (0, 1, 5, 6, 7, 36, 100, 1000, 5000):
                 def cell(kind, n):
                     return "" if kind == "text" and n < 5000 else n
                 entries = [(cell(key_type, n), cell(value_type, n)) for n in range(length)]
                 self.assertEqual(list(Map(build(key_type, value_type, entries), key_type, value_type).items()), entries)
+        # A slice of a table's column: its texts are few, and their buffer is long.
+        columns = (array.array("q", [900, 905, 909]), b"-" * 900 + b"applepear" + b"-" * 900), array.array("I", [3, 5])
+        self.assertEqual(dict(Map(build_arrays("text", "u32", *columns), "text", "u32")), {"apple": 3, "pear": 5})
+        with self.assertRaisesRegex(Error, "at entry 0"):
+            build_arrays("text", "u32", (array.array("q", [909, 905, 900]), columns[0][1]), columns[1])
 
     def test_build_arrays(self):
         codes = {"u32": "I", "u64": "Q", "i64": "q"}

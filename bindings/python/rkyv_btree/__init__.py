@@ -32,7 +32,6 @@ from ._raw import (
     BAD_VALUE,
     EMPTY,
     LAYOUTS,
-    NO_ROOM,
     NOT_FOUND,
     NOT_OPEN,
     NUMBERS,
@@ -145,6 +144,13 @@ def _number_of(key_type: str, value_type: str) -> int:
 def _set_number_of(key_type: str) -> int:
     _known(key_type)
     return NUMBERS[key_type, EMPTY]
+
+
+def _types_of(key_type: str, value_type: Union[str, None]) -> tuple[int, str, str]:
+    """Returns the number of the type of a map or a set, and what its keys and values are. A set has no type of values."""
+    if value_type is None:
+        return _set_number_of(key_type), key_type, EMPTY
+    return _number_of(key_type, value_type), key_type, value_type
 
 
 @cache
@@ -671,8 +677,8 @@ class _Numbers:
         address, length = self.data.buffer_info()
         return _Column(address, length * self.data.itemsize, None, 0, 0)
 
-    def __len__(self) -> int:
-        return len(self.data) * self.data.itemsize
+    # How many bytes of texts they have.
+    texts_len = 0
 
 
 class _Texts:
@@ -711,28 +717,28 @@ class _Texts:
         address, length = self.ends.buffer_info()
         return _Column(_address_of(memoryview(self.data)), len(self.data), address, 4 * length, 4)
 
-    def __len__(self) -> int:
-        return len(self.data) + 8 * len(self.ends)
+    @property
+    def texts_len(self) -> int:
+        return len(self.data)
 
 
 def _started(kind: str, name: str) -> Union[_Numbers, _Texts]:
     return _Texts(kind, name) if kind in _CLASSES else _Numbers(kind, name)
 
 
-def _built(number: int, count: int, keys: _Column, values: _Column, bytes_len: int, strict: bool) -> bytes:
-    """Returns the archive of two columns, which are `bytes_len` bytes long in it."""
-    call = _lib.build_arrays_strict if strict else _lib.build_arrays
-    # A node of five entries has at most 40 bytes beside them. If the guess is too small, the call gives the length.
-    room, length, why = bytes_len + 8 * count + 4096, _SIZE(), _Refusal()
-    while True:
-        out = mmap.mmap(-1, room)
-        with memoryview(out) as view:
-            code = call(number, count, keys, values, _address_of(view), room, length, why)
-        if code == OK:
-            return out[: length.value]
-        if code != NO_ROOM or length.value <= room:
-            raise Error(code, found=why.found)
-        room = length.value
+def _built(number: int, count: int, keys: _Column, values: _Column, texts_len: int, strict: bool) -> bytes:
+    """Returns the archive of two columns, whose texts and byte strings have so many bytes."""
+    bound, length, why = _SIZE(), _SIZE(), _Refusal()
+    code = _lib.build_bound(number, count, texts_len, bound)
+    if code != OK:
+        raise Error(code)
+    out = mmap.mmap(-1, bound.value)
+    with memoryview(out) as view:
+        call = _lib.build_arrays_strict if strict else _lib.build_arrays
+        code = call(number, count, keys, values, _address_of(view), bound.value, length, why)
+    if code != OK:
+        raise Error(code, found=why.found)
+    return out[: length.value]
 
 
 def build(
@@ -750,7 +756,7 @@ def build(
         keys.extend([key for key, _ in chunk], count)
         values.extend([value for _, value in chunk], count)
         count += len(chunk)
-    return _built(number, count, keys.column(), values.column(), len(keys) + len(values), strict)
+    return _built(number, count, keys.column(), values.column(), keys.texts_len + values.texts_len, strict)
 
 
 def build_set(key_type: Type, keys: Iterable[Key], strict: bool = False) -> bytes:
@@ -762,7 +768,7 @@ def build_set(key_type: Type, keys: Iterable[Key], strict: bool = False) -> byte
     while chunk := list(islice(rest, _CHUNK)):
         column.extend(chunk, count)
         count += len(chunk)
-    return _built(number, count, column.column(), _Column(), len(column), strict)
+    return _built(number, count, column.column(), _Column(), column.texts_len, strict)
 
 
 class _Buffers:
@@ -777,13 +783,14 @@ class _Buffers:
             if offsets.itemsize not in (4, 8) or offsets.format.lstrip("@=<") not in "iIlLqQ":
                 raise TypeError(f"{name} must have offsets of 4 or 8 bytes, not of format {offsets.format!r}")
             self.count = max(len(offsets) - 1, 0)
-            self.bytes = data.nbytes + 8 * self.count
+            first, last = (int.from_bytes(offsets[at : at + 1].tobytes(), "little") for at in (0, self.count))
+            self.texts_len = min(max(last - first, 0), data.nbytes)
             self.column = _Column(_address_of(data), data.nbytes, _address_of(offsets), offsets.nbytes, offsets.itemsize)
         else:
             numbers, size = self._view(given, name), TYPES[kind][0]
             if numbers.itemsize != size or numbers.format.lstrip("@=<") not in ("lq" if TYPES[kind][2] == "q" else "ILQ"):
                 raise TypeError(f"{name} must be a buffer of {kind}, not of format {numbers.format!r}")
-            self.count, self.bytes = len(numbers), numbers.nbytes
+            self.count, self.texts_len = len(numbers), 0
             self.column = _Column(_address_of(numbers), numbers.nbytes, None, 0, 0)
 
     def _view(self, given: Any, name: str) -> memoryview:
@@ -810,4 +817,4 @@ def build_arrays(key_type: Type, value_type: Type, keys: Any, values: Any, stric
     given = _Buffers(key_type, keys, "keys"), _Buffers(value_type, values, "values")
     if given[0].count != given[1].count:
         raise ValueError(f"there are {given[0].count} keys and {given[1].count} values")
-    return _built(number, given[0].count, given[0].column, given[1].column, given[0].bytes + given[1].bytes, strict)
+    return _built(number, given[0].count, given[0].column, given[1].column, given[0].texts_len + given[1].texts_len, strict)

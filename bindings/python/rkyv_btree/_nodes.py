@@ -6,7 +6,7 @@ import struct
 from typing import NamedTuple, Union
 
 from . import Error, Key, Type
-from ._raw import BAD_ENTRY, BAD_KIND, INVALID_LENGTH, LAYOUTS, MISALIGNED, OUT_OF_RANGE
+from ._raw import BAD_ENTRY, BAD_KIND, EMPTY, INVALID_LENGTH, LAYOUTS, MISALIGNED, OUT_OF_RANGE
 
 ENTRIES = 5
 # More levels than any archive has that the library opens.
@@ -89,6 +89,8 @@ class Layout:
         return Node(keys[:count], values[:count], children)
 
     def _items(self, kind: Type, pos: int, data: bytes, at: int) -> list[Item]:
+        if kind == EMPTY:
+            return [0] * ENTRIES
         if kind not in ("text", "bytes"):
             return list(struct.unpack_from(f"<{ENTRIES}{LAYOUTS[kind][2]}", data, at))
         fields = struct.unpack_from("<" + "iI" * ENTRIES, data, at)

@@ -212,6 +212,7 @@ def declared(library: ctypes.CDLL) -> SimpleNamespace:
         ("read_edit", _U32, _P(_Map), _P(_Edit)),
         ("set_number", _U32, _P(_Edit), _U64, _U64),
         ("set_text", _U32, _P(_Edit), _BYTES, _SIZE, _U64),
+        ("build_bound", _U32, _U32, _SIZE, _SIZE, _P(_SIZE)),
         ("build", _U32, _U32, _BYTES, _SIZE, _BYTES, _SIZE, _BYTES, _SIZE, _P(_SIZE), _P(_Refusal)),
         ("build_strict", _U32, _U32, _BYTES, _SIZE, _BYTES, _SIZE, _BYTES, _SIZE, _P(_SIZE), _P(_Refusal)),
         ("build_arrays", _U32, _U32, _SIZE, _P(_Column), _P(_Column), _BYTES, _SIZE, _P(_SIZE), _P(_Refusal)),

@@ -15,10 +15,11 @@ from collections import OrderedDict
 from collections.abc import AsyncIterator, Awaitable, Callable, Generator, Iterable, Iterator, Mapping
 from typing import Any, NamedTuple, TypeVar, Union
 
-from . import Error, Key, Type, Value, _bytes_of, _checked, _is_key, _lib, _number_of, _value_of
+from . import Error, Key, Type, Value, _bytes_of, _checked, _is_key, _lib, _types_of, _value_of
 from ._nodes import LEVELS, ROOT, Item, Layout, Text, decoded, order_of
 from ._raw import (
     BAD_ITEM,
+    EMPTY,
     LENGTH_MISMATCH,
     MISSING,
     NO_ROOM,
@@ -145,13 +146,12 @@ class _Lookups:
     """The lookups of an archive that lies elsewhere, without the fetching: a generator yields the ranges that it needs next."""
 
     def __init__(
-        self, size: int, key_type: Type, value_type: Type, block: int, cache: int, top: Union[_Top, None]
+        self, size: int, key_type: Type, value_type: Union[Type, None], block: int, cache: int, top: Union[_Top, None]
     ) -> None:
         if block < 1:
             raise ValueError("a block has at least one byte")
-        self._size, self._number = size, _number_of(key_type, value_type)
-        self._types = (key_type, value_type)
-        self._layout = Layout(key_type, value_type, size)
+        self._size, (self._number, *self._types) = size, _types_of(key_type, value_type)
+        self._layout = Layout(*self._types, size)
         self._block, self._most = block, max(cache // block, 2)
         self._blocks: OrderedDict[int, bytes] = OrderedDict()
         self._top = _Pieces(self._pieces_of(top))
@@ -193,6 +193,12 @@ class _Lookups:
                 search.add(*self._around(blocks, *part))
             searches = [search for search, _ in waiting]
         return found
+
+    def _values(self, keys: Iterable[Key]) -> _Fetching[dict[Key, Value]]:
+        """Returns what `_find` does. Raises TypeError for a set."""
+        if self._types[1] == EMPTY:
+            raise TypeError("a set has no values: `contains` looks a key up")
+        return self._find(keys)
 
     def _around(self, blocks: Mapping[int, bytes], pos: int, length: int) -> tuple[int, bytes]:
         """Returns a part with those bytes before it that its blocks have, since what a node points to lies before it."""
@@ -255,8 +261,8 @@ class _Lookups:
                 _checked(bound, self._types[0], "a bound of a range")
         return _Walk(low, high)
 
-    def _next(self, walk: _Walk) -> _Fetching[list[tuple[Key, Value]]]:
-        """Returns the next entries of a walk, and none at its end."""
+    def _next(self, walk: _Walk) -> _Fetching[list[Any]]:
+        """Returns the next entries of a walk, of a set its keys, and none at its end."""
         if walk.stack is None:
             root, count = self._layout.root((yield from self._part(self._size - ROOT.size, ROOT.size)))
             walk.stack, walk.count = [_Subtree(root, 0)] if count else [], count
@@ -268,6 +274,8 @@ class _Lookups:
             key, item = task
             if walk.ends_before(key):
                 return []
+            if self._types[1] == EMPTY:
+                return [key]
             value = item if not isinstance(item, Text) else (yield from self._text(item, self._types[1]))
             return [(key, value)]
         if walk.whole and walk.passed != walk.count:
@@ -300,7 +308,8 @@ class _Lookups:
 
 
 class Remote(_Lookups):
-    """The map of an archive that lies elsewhere. `fetch(position, length)` returns as many of its bytes, which are `size` in all.
+    """The map of an archive that lies elsewhere. `fetch(position, length)` returns as many of its bytes, which are `size` in all. It is a set
+    if `value_type` is None.
 
     A lookup validates what it reads, and so promises what `find` does. What it reads is fetched in blocks of `block` bytes, of which
     those last used are kept, up to `cache` bytes and at least two. `top` is a sidecar, as `rkyv_btree.top.write_top` writes it: its bytes, or the path of
@@ -315,7 +324,7 @@ class Remote(_Lookups):
         fetch: Callable[[int, int], bytes],
         size: int,
         key_type: Type,
-        value_type: Type,
+        value_type: Union[Type, None],
         block: int = 16384,
         cache: int = 8 << 20,
         top: Union[_Top, None] = None,
@@ -325,7 +334,9 @@ class Remote(_Lookups):
         self._connection: Union[http.client.HTTPConnection, None] = None
 
     @classmethod
-    def open_url(cls, url: str, key_type: Type, value_type: Type, timeout: float = 60, **settings: Any) -> Remote:
+    def open_url(
+        cls, url: str, key_type: Type, value_type: Union[Type, None], timeout: float = 60, **settings: Any
+    ) -> Remote:
         """Opens an archive behind HTTP, whose server takes ranges and gives the object an ETag.
 
         Each request names the ETag of the first. If the object is another one, a lookup raises Changed. After `timeout` seconds without
@@ -366,7 +377,22 @@ class Remote(_Lookups):
 
     def get_many(self, keys: Iterable[Key]) -> dict[Key, Value]:
         """Returns the values of those keys that are found. All lookups go on together: each block is fetched once for all of them."""
-        return self._run(self._find(keys))
+        return self._run(self._values(keys))
+
+    def contains(self, key: Key) -> bool:
+        """Returns whether a set or a map has a key. Raises as `get` does.
+
+            >>> from rkyv_btree import build_set
+            >>> data = build_set("text", ["apple", "pear"])
+            >>> fruit = Remote(lambda pos, length: data[pos : pos + length], len(data), "text", None)
+            >>> fruit.contains("pear"), fruit.contains_many(["fig", "pear"]), list(fruit.range("b"))
+            (True, {'pear'}, ['pear'])
+        """
+        return bool(self.contains_many([key]))
+
+    def contains_many(self, keys: Iterable[Key]) -> set[Key]:
+        """Returns those of the keys that a set or a map has. All lookups go on together."""
+        return set(self._run(self._find(keys)))
 
     def _run(self, fetching: _Fetching[_T]) -> _T:
         """Fetches what is yielded, and returns the result."""
@@ -378,8 +404,8 @@ class Remote(_Lookups):
                 return end.value
             data = [self._fetch(pos, length) for pos, length in ranges]
 
-    def range(self, low: Union[Key, None] = None, high: Union[Key, None] = None) -> Iterator[tuple[Key, Value]]:
-        """Returns an iterator over the entries from the first key on that isn't before `low`, up to before `high`.
+    def range(self, low: Union[Key, None] = None, high: Union[Key, None] = None) -> Iterator[Any]:
+        """Returns an iterator over the entries from the first key on that isn't before `low`, up to before `high`. Of a set it gives keys.
 
         It validates the nodes that it reads, and that the keys increase. No contract says so: it is tested only. It raises Error for a
         fault, and what `fetch` raises. It takes one request for each block, so a long range wants a larger `block`.
@@ -400,7 +426,7 @@ class AsyncRemote(_Lookups):
         fetch: Callable[[int, int], Awaitable[bytes]],
         size: int,
         key_type: Type,
-        value_type: Type,
+        value_type: Union[Type, None],
         block: int = 16384,
         cache: int = 8 << 20,
         top: Union[_Top, None] = None,
@@ -414,7 +440,15 @@ class AsyncRemote(_Lookups):
 
     async def get_many(self, keys: Iterable[Key]) -> dict[Key, Value]:
         """Returns the values of those keys that are found, as `Remote.get_many` does."""
-        return await self._run(self._find(keys))
+        return await self._run(self._values(keys))
+
+    async def contains(self, key: Key) -> bool:
+        """Returns whether a set or a map has a key. Raises as `Remote.get` does."""
+        return bool(await self.contains_many([key]))
+
+    async def contains_many(self, keys: Iterable[Key]) -> set[Key]:
+        """Returns those of the keys that a set or a map has."""
+        return set(await self._run(self._find(keys)))
 
     async def _run(self, fetching: _Fetching[_T]) -> _T:
         data: Any = None
@@ -425,7 +459,7 @@ class AsyncRemote(_Lookups):
                 return end.value
             data = await asyncio.gather(*(self._fetch(pos, length) for pos, length in ranges))
 
-    async def range(self, low: Union[Key, None] = None, high: Union[Key, None] = None) -> AsyncIterator[tuple[Key, Value]]:
+    async def range(self, low: Union[Key, None] = None, high: Union[Key, None] = None) -> AsyncIterator[Any]:
         """Returns an asynchronous iterator over the entries of a range, as `Remote.range` does."""
         walk = self._start(low, high)
         while entries := await self._run(self._next(walk)):

@@ -10,7 +10,7 @@ import struct
 from collections.abc import Iterable
 from typing import Any, NamedTuple, Union
 
-from . import Type, _number_of
+from . import Type, _types_of
 from ._nodes import ROOT, Layout, Text
 
 __all__ = ["Top", "top_of", "write_top"]
@@ -91,15 +91,17 @@ def _parts(data: Any, layout: Layout, levels: int) -> set[tuple[int, int]]:
     return parts
 
 
-def top_of(data: Any, key_type: Type, value_type: Type, levels: int = 5, etag: str = "") -> bytes:
+def top_of(data: Any, key_type: Type, value_type: Union[Type, None], levels: int = 5, etag: str = "") -> bytes:
     """Returns the sidecar of an archive: its nodes of the first `levels` levels, and the texts or bytes of their keys. No value's are in it.
+    The archive is that of a set if `value_type` is None.
 
     `data` is `bytes` or an `mmap`. Raises Error for a fault in a node that is read. `etag` is that of the object which the archive will be
     behind HTTP, if it is known: then `Remote.open_url` compares it.
     """
     if levels < 1:
         raise ValueError("a sidecar has at least one level")
-    number, layout = _number_of(key_type, value_type), Layout(key_type, value_type, len(data))
+    number, *types = _types_of(key_type, value_type)
+    layout = Layout(*types, len(data))
     if layout.size < ROOT.size:
         raise ValueError("an archive has at least eight bytes")
     pieces = [(start, bytes(data[start:end])) for start, end in _joined(_parts(data, layout, levels))]
@@ -107,7 +109,7 @@ def top_of(data: Any, key_type: Type, value_type: Type, levels: int = 5, etag: s
 
 
 def write_top(
-    path: Union[str, os.PathLike], key_type: Type, value_type: Type, levels: int = 5, etag: str = ""
+    path: Union[str, os.PathLike], key_type: Type, value_type: Union[Type, None], levels: int = 5, etag: str = ""
 ) -> pathlib.Path:
     """Writes the sidecar of an archive's file beside it, with `.top` after its name, and returns its path. Raises as `top_of` does.
 

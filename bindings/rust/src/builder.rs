@@ -62,38 +62,39 @@ impl<'a, K: Field<'a>, V: Field<'a>> Builder<K, V> {
         self.build_by(raw::rkyv_btree_build_arrays_strict)
     }
 
-    /// Returns room that is enough for most archives of the entries. A node of five entries has at most 40 bytes beside them.
-    fn room(&self) -> usize {
-        self.keys.len() + self.values.len() + 8 * self.len + 4096
+    /// Returns a length that is enough for the archive of the entries.
+    fn bound(&self) -> Result<usize, Error> {
+        let texts_len = self.keys.texts_len() + self.values.texts_len();
+        let mut bound = 0;
+        // SAFETY: `bound` is exclusive.
+        match unsafe { raw::rkyv_btree_build_bound(type_number::<K, V>(), self.len, texts_len, &mut bound) } {
+            raw::OK => Ok(bound),
+            code => Err(Error::refused(raw::Refusal { code, ..raw::Refusal::default() })),
+        }
     }
 
     fn build_by(&self, build: Build) -> Result<Vec<u8>, Error> {
-        let mut archive = vec![0; self.room()];
-        loop {
-            let mut len = 0;
-            let mut why = raw::Refusal::default();
-            // SAFETY: the columns are borrowed during the call, and `archive` is exclusive.
-            let code = unsafe {
-                build(
-                    type_number::<K, V>(),
-                    self.len,
-                    &self.keys.column(),
-                    &self.values.column(),
-                    archive.as_mut_ptr(),
-                    archive.len(),
-                    &mut len,
-                    &mut why,
-                )
-            };
-            match code {
-                raw::OK => {
-                    archive.truncate(len);
-                    return Ok(archive);
-                }
-                raw::NO_ROOM if len > archive.len() => archive = vec![0; len],
-                _ => return Err(Error::refused(raw::Refusal { code, ..why })),
-            }
+        let mut archive = vec![0; self.bound()?];
+        let mut len = 0;
+        let mut why = raw::Refusal::default();
+        // SAFETY: the columns are borrowed during the call, and `archive` is exclusive.
+        let code = unsafe {
+            build(
+                type_number::<K, V>(),
+                self.len,
+                &self.keys.column(),
+                &self.values.column(),
+                archive.as_mut_ptr(),
+                archive.len(),
+                &mut len,
+                &mut why,
+            )
+        };
+        if code != raw::OK {
+            return Err(Error::refused(raw::Refusal { code, ..why }));
         }
+        archive.truncate(len);
+        Ok(archive)
     }
 }
 

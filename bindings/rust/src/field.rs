@@ -109,9 +109,9 @@ pub(crate) mod sealed {
             self.ends.push(self.data.len() as u64);
         }
 
-        /// Returns how many bytes they have in an archive.
-        pub fn len(&self) -> usize {
-            self.data.len() + 8 * self.ends.len()
+        /// Returns how many bytes they have if they are texts or byte strings, or 0.
+        pub fn texts_len(&self) -> usize {
+            if self.has_ends { self.data.len() } else { 0 }
         }
 
         /// Returns the column that C has of them while they are borrowed.

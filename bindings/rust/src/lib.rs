@@ -26,6 +26,6 @@ pub use field::Field;
 pub use field::{AsKey, Number};
 pub use find::find;
 pub use map::{Iter, Keys, Map, Range, Values};
-pub use remote::{ReadRange, Remote, RemoteError, RemoteRange};
+pub use remote::{ReadRange, Remote, RemoteError, RemoteKeys, RemoteRange};
 pub use set::{contains, Set, SetBuilder, SetIter, SetRange};
 pub use top::{Top, TopError};

@@ -341,6 +341,12 @@ unsafe extern "C" {
         key_len: usize,
         value: u64,
     ) -> u32;
+    pub fn rkyv_btree_build_bound(
+        kind: u32,
+        entries_len: usize,
+        texts_len: usize,
+        bound: *mut usize,
+    ) -> u32;
     pub fn rkyv_btree_build(
         kind: u32,
         entries: *const Entry,

@@ -9,7 +9,7 @@ use crate::map::type_number;
 use crate::raw;
 use crate::top::{Kept, Top, TopError};
 use blocks::Blocks;
-pub use entries::RemoteRange;
+pub use entries::{RemoteKeys, RemoteRange};
 use pieces::{Pieces, Step};
 use std::fmt;
 use std::fs::File;
@@ -169,6 +169,19 @@ impl<R: ReadRange> Remote<R> {
         Ok(self.get::<K, Nothing>(key)?.is_some())
     }
 
+    /// Returns of each of the keys whether a set has it, in the order of the keys. All lookups go on together, as those of `get_many`.
+    ///
+    /// # Errors
+    ///
+    /// As of `get`, for the first of them that fails.
+    pub fn contains_many<'s, K: Field<'s>, Q: AsKey<K>>(
+        &'s mut self,
+        keys: impl IntoIterator<Item = Q>,
+    ) -> Result<Vec<bool>, RemoteError<R::Error>> {
+        let found = self.get_many::<K, Nothing, Q>(keys)?;
+        Ok(found.iter().map(Option::is_some).collect())
+    }
+
     /// Returns the values of keys, in the order of the keys. All lookups go on together: each block is read once for all of them. Texts
     /// are borrowed until the next lookup.
     ///
@@ -228,6 +241,15 @@ impl<R: ReadRange> Remote<R> {
     /// ```
     pub fn range<'r, K: Field<'r>, V: Field<'r>, Q: AsKey<K>>(&'r mut self, bounds: impl RangeBounds<Q>) -> RemoteRange<'r, R, K, V> {
         RemoteRange::new(self, bounds)
+    }
+
+    /// Returns an iterator over the keys of a set that are within the bounds. It validates what `range` does, and its texts are `String`s.
+    ///
+    /// # Errors
+    ///
+    /// As of `range`.
+    pub fn keys<'r, K: Field<'r>, Q: AsKey<K>>(&'r mut self, bounds: impl RangeBounds<Q>) -> RemoteKeys<'r, R, K> {
+        RemoteKeys::new(self, bounds)
     }
 
     /// Returns what reads the parts.

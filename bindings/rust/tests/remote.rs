@@ -225,6 +225,17 @@ fn sets() {
     for key in (0..4002).step_by(37) {
         assert_eq!(remote.contains::<u32>(key), Ok(key < 4000 && key % 2 == 0));
     }
+    let keys = (0..4002).step_by(37);
+    let wanted: Vec<bool> = keys.clone().map(|key| key < 4000 && key % 2 == 0).collect();
+    assert_eq!(remote.contains_many::<u32, _>(keys), Ok(wanted));
+    let words: Vec<String> = (0..300).map(|n| format!("{n:03}")).collect();
+    let data = words.iter().map(|word| &**word).collect::<SetBuilder<&str>>().build_strict().unwrap();
+    let mut remote = counted(&data, 64, 2);
+    assert_eq!(remote.contains_many::<&str, _>(["", "007", "299", "300"]), Ok(vec![false, true, true, false]));
+    for (low, high) in [("", "zz"), ("100", "120"), ("0999", "1000"), ("200", "100")] {
+        let found: Result<Vec<String>, _> = remote.keys::<&str, &str>(low..high).collect();
+        assert_eq!(found.unwrap(), words.iter().filter(|word| low <= &***word && &***word < high).cloned().collect::<Vec<_>>());
+    }
 }
 
 #[test]

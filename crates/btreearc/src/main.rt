@@ -4,6 +4,7 @@
 use btreearc_commands::{program, streaming};
 use btreearc_lines::command::Command;
 use btreearc_lines::fault::ProgramFault;
+use btreearc_lines::heading::Heading;
 use btreearc_lines::spool::{Bytes, read_bytes};
 use std::env;
 use std::io::{BufWriter, ErrorKind};
@@ -30,7 +31,12 @@ fn words(rt: &HostRuntime) -> Result<Vec<String>, ProgramFault> {
 
 /// Runs a command that builds, which the words name, over the standard streams. A few megabytes of lines are held in memory, and more
 /// are read again from a file.
-fn build(rt: &HostRuntime, words: &[String], is_strict: bool) -> Result<u8, ProgramFault> {
+fn build(
+    rt: &HostRuntime,
+    words: &[String],
+    is_strict: bool,
+    heading: Heading,
+) -> Result<u8, ProgramFault> {
     match read_bytes(rt, rt.stdin())? {
         Bytes::Held(bytes) => {
             let mut output = rt.stdout();
@@ -40,7 +46,7 @@ fn build(rt: &HostRuntime, words: &[String], is_strict: bool) -> Result<u8, Prog
             let Ok(output) = BufWriter::with_capacity(rt.alloc(), WRITE_LEN, rt.stdout()) else {
                 return Err(ProgramFault::Memory);
             };
-            streaming::build(rt.alloc(), is_strict, &lines, output).0
+            streaming::build(rt.alloc(), is_strict, heading, &lines, output).0
         }
     }
 }
@@ -49,8 +55,8 @@ fn build(rt: &HostRuntime, words: &[String], is_strict: bool) -> Result<u8, Prog
 fn start(rt: &HostRuntime) -> Result<u8, ProgramFault> {
     let words = words(rt)?;
     match Command::from_words(&words) {
-        Some(Command::Build) => return build(rt, &words, false),
-        Some(Command::BuildStrict) => return build(rt, &words, true),
+        Some(Command::Build(heading)) => return build(rt, &words, false, heading),
+        Some(Command::BuildStrict(heading)) => return build(rt, &words, true, heading),
         _ => {}
     }
     let mut input = rt.stdin();

@@ -9,7 +9,7 @@ use Rattle.std.proofs.lemmas.List.Elements.{filter_agree}
 use Rattle.rkyv_btree_walk.specs.Bounds.{IsRun, IsWithin}
 use Rattle.btreearc_commands.specs.Commands.{IsBetween}
 use Rattle.btreearc_lines.specs.Grammar.{text_of}
-use Rattle.btreearc_commands.specs.Opening.{IsArchive}
+use Rattle.btreearc_commands.specs.Opening.{IsInput}
 
 is_le-nat_cmp : (n m : ℕ) → is_le (nat_cmp n m) ≡ nat_le n m
 is_le-nat_cmp n m = grind (arith, nat_tests)
@@ -24,8 +24,8 @@ between low high entries found run within = record {
 }
 
 -- what was written of an input that is known
-pub output_between : (input old new : Option (List ℕ)) (archive text : List ℕ) (low high : ℕ) (entries found : List (ℕ × ℕ)) → IfSome input (λ bytes. archive ≡ bytes) → IsArchive archive entries → IsBetween low high entries found → text ≡ text_of found → Appends old new text
-    → IfSome input (λ bytes. (xs ys : List (ℕ × ℕ)) × IsArchive bytes xs × IsBetween low high xs ys × Appends old new (text_of ys))
+pub output_between : (input old new : Option (List ℕ)) (archive text : List ℕ) (low high : ℕ) (entries found : List (ℕ × ℕ)) → IfSome input (λ bytes. archive ≡ bytes) → IsInput archive entries → IsBetween low high entries found → text ≡ text_of found → Appends old new text
+    → IfSome input (λ bytes. (xs ys : List (ℕ × ℕ)) × IsInput bytes xs × IsBetween low high xs ys × Appends old new (text_of ys))
 output_between None old new archive text low high entries found is opened between listed written = tt
 output_between (Some bytes) old new archive text low high entries found is opened between listed written =
-    (entries, found, subst (λ (b : List ℕ). IsArchive b entries) is opened, between, subst (λ (z : List ℕ). Appends old new z) listed written)
+    (entries, found, subst (λ (b : List ℕ). IsInput b entries) is opened, between, subst (λ (z : List ℕ). Appends old new z) listed written)

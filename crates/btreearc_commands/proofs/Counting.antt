@@ -11,6 +11,7 @@ use Rattle.btreearc_lines.specs.Grammar.{BadLine, IsEntry, IsLines}
 use Rattle.btreearc_lines.specs.Reading.{TakesLine}
 use Rattle.btreearc_lines.proofs.Splitting.{ReadLines, all_read, bad_read, one_read}
 use Rattle.btreearc_lines.specs.declared.fault.ProgramFault.{ProgramFault}
+use Rattle.btreearc_lines.specs.declared.heading.Heading.{Heading}
 use Rattle.btreearc_commands.specs.Streaming.{AreCounted, FailsToTest, IsInOrder, IsLastKey, KnowsOrder, NamesFirst}
 
 -- The order of keys.
@@ -99,10 +100,10 @@ bad_counted (Some bytes) (Some rest) None n last first c r = absurd r
 bad_counted (Some bytes) (Some rest) (Some behind) n last first c r = bad_read bytes rest r.0 behind c.0 (n + 1) c.1 r.1 r.2 (omega (arith, c.2))
 
 -- an error that names it
-pub named_fails : (is_strict : Bool) (known now : Option (List ℕ)) (n : ℕ) (last first : Option ℕ) → Counted known now n last first → IfSome now (λ bytes. bytes ≡ []) → (fault : ProgramFault) → (is_strict ≡ true) × NamesFirst first fault → FailsToTest is_strict known fault
-named_fails is_strict known now n last None c end fault named = absurd named.1
-named_fails true known now n last (Some index) c end fault named = subst (λ (f : ProgramFault). FailsToTest true known f) (sym named.1) (out_of_order known now n last index c end)
-named_fails false known now n last (Some index) c end fault named = absurd (strange named.0)
+pub named_fails : (is_strict : Bool) (heading : Heading) (known now : Option (List ℕ)) (n : ℕ) (last first : Option ℕ) → Counted known now n last first → IfSome now (λ bytes. bytes ≡ []) → (fault : ProgramFault) → (is_strict ≡ true) × NamesFirst first fault → FailsToTest is_strict heading known fault
+named_fails is_strict heading known now n last None c end fault named = absurd named.1
+named_fails true heading known now n last (Some index) c end fault named = subst (λ (f : ProgramFault). FailsToTest true heading known f) (sym named.1) (out_of_order known now n last index c end)
+named_fails false heading known now n last (Some index) c end fault named = absurd (strange named.0)
 
 pub errs_so : {T : Type 0} {P Q : ProgramFault → Type 0} (r : Result T ProgramFault) → ((fault : ProgramFault) → P fault → Q fault) → IfErr r P → IfErr r Q
 errs_so (Ok x) f h = tt

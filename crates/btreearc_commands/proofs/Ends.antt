@@ -12,10 +12,10 @@ use Rattle.rkyv_btree_view.specs.laws.Cuts.{order_cuts}
 use Rattle.rkyv_btree_view.specs.laws.Increasing.{increasing_ordered}
 use Rattle.btreearc_commands.specs.Commands.{FailsOnArchive, Lists, Checks, Gets, Ranges, PrintsValue, total}
 use Rattle.btreearc_lines.specs.Grammar.{text_of}
-use Rattle.btreearc_commands.specs.Opening.{IsArchive, RefusesArchive, found_in_archive}
+use Rattle.btreearc_commands.specs.Opening.{HasFitHeading, IsInput, IsArchive, RefusesArchive, found_in_archive}
 use Rattle.btreearc_commands.specs.Sessions.{Writes, AlwaysPrints, KeysIncrease, keys}
 use Rattle.btreearc_lines.specs.declared.fault.ProgramFault.{ProgramFault}
-use Rattle.btreearc_lines.specs.declared.fault.ProgramFault.TheVariants.{Usage, Line, Refused, NotBuilt, InputFailed, OutputFailed, Memory}
+use Rattle.btreearc_lines.specs.declared.fault.ProgramFault.TheVariants.{Usage, Line, Refused, Misheaded, NotBuilt, InputFailed, OutputFailed, Memory}
 use Rattle.btreearc_commands.proofs.Edited.{is_equal, hit_is_key}
 
 -- a comparison with a number goes with the order of numbers
@@ -57,17 +57,20 @@ present_ended key value found old new status is ended =
 pub record IsKnown (archive : List ℕ) (entries : List (ℕ × ℕ)) : Type 0 where
   pub one : (others : List (ℕ × ℕ)) → IsArchive archive others → others ≡ entries
   pub unrefused : (refusal : Refusal) → RefusesArchive archive refusal → ⊥
+  pub headed : HasFitHeading archive
 
-pub known : ((b : List ℕ) (xs ys : List (ℕ × ℕ)) → IsArchive b xs → IsArchive b ys → xs ≡ ys) → ((b : List ℕ) (refusal : Refusal) (xs : List (ℕ × ℕ)) → RefusesArchive b refusal → IsArchive b xs → ⊥) → (archive : List ℕ) (entries : List (ℕ × ℕ)) → IsArchive archive entries → IsKnown archive entries
+pub known : ((b : List ℕ) (xs ys : List (ℕ × ℕ)) → IsArchive b xs → IsArchive b ys → xs ≡ ys) → ((b : List ℕ) (refusal : Refusal) (xs : List (ℕ × ℕ)) → RefusesArchive b refusal → IsArchive b xs → ⊥) → (archive : List ℕ) (entries : List (ℕ × ℕ)) → IsInput archive entries → IsKnown archive entries
 known one_list refused_is_none archive entries is = record {
-  one = λ others other. one_list archive others entries other is;
-  unrefused = λ refusal refused. refused_is_none archive refusal entries refused is;
+  one = λ others other. one_list archive others entries other is.1;
+  unrefused = λ refusal refused. refused_is_none archive refusal entries refused is.1;
+  headed = is.0;
 }
 
 module _ (archive : List ℕ) (entries : List (ℕ × ℕ)) (is : IsKnown archive entries) where
   -- a command fails for no fault of theirs
   pub failed : (Are : List ℕ → Type 0) (status : ℕ) (old new : Option (List ℕ)) (fault : ProgramFault) → FailsOnArchive (Some archive) old new fault → Writes Are status old new (Err fault)
   failed Are status old new (Refused refusal) h = absurd (is.unrefused refusal h.0)
+  failed Are status old new (Misheaded f) h = absurd (h.0.none is.headed.0 is.headed.1)
   failed Are status old new InputFailed h = h
   failed Are status old new Memory h = h
   failed Are status old new OutputFailed h = tt
@@ -79,11 +82,11 @@ module _ (archive : List ℕ) (entries : List (ℕ × ℕ)) (is : IsKnown archiv
   unprinted text status old new fault h = failed (λ bytes. bytes ≡ text) status old new fault h
 
   pub listed : AlwaysPrints (Lists (Some archive)) (text_of entries) 0
-  listed old new (Ok status) h = (h.0, (text_of h.1.0, ap text_of (is.one h.1.0 h.1.1), h.1.2))
+  listed old new (Ok status) h = (h.0, (text_of h.1.0, ap text_of (is.one h.1.0 h.1.1.1), h.1.2))
   listed old new (Err fault) h = unprinted (text_of entries) 0 old new fault h
 
   pub counted : AlwaysPrints (Checks (Some archive)) (total (length entries)) 0
-  counted old new (Ok status) h = (h.0, (total (length h.1.0), ap (λ (xs : List (ℕ × ℕ)). total (length xs)) (is.one h.1.0 h.1.1), h.1.2))
+  counted old new (Ok status) h = (h.0, (total (length h.1.0), ap (λ (xs : List (ℕ × ℕ)). total (length xs)) (is.one h.1.0 h.1.1.1), h.1.2))
   counted old new (Err fault) h = unprinted (total (length entries)) 0 old new fault h
 
   pub absent : (key : ℕ) → (Contains (keys entries) key → ⊥) → IfSome (found_in_archive archive key) (IsHit (λ e. nat_cmp key e.0) entries) → AlwaysPrints (Gets key (Some archive)) [] 1
@@ -96,7 +99,7 @@ module _ (archive : List ℕ) (entries : List (ℕ × ℕ)) (is : IsKnown archiv
 
   pub ranged : KeysIncrease entries → (low high : ℕ) → AlwaysPrints (Ranges low high (Some archive)) (text_of (filter (λ e. nat_le low e.0 && nat_le e.0 high) entries)) 0
   ranged rise low high old new (Ok status) h =
-      let same = is.one h.1.0 h.1.2 in
+      let same = is.one h.1.0 h.1.2.1 in
       let all = h.1.3.all (subst (OrderedBy (λ e. nat_cmp low e.0)) (sym same) (ordered low entries rise)) (subst (OrderedBy (λ e. nat_cmp high e.0)) (sym same) (ordered high entries rise)) in
       (h.0, (text_of h.1.1, ap text_of (all ∙ ap (filter (λ (e : ℕ × ℕ). nat_le low e.0 && nat_le e.0 high)) same), h.1.4))
   ranged rise low high old new (Err fault) h = unprinted (text_of (filter (λ e. nat_le low e.0 && nat_le e.0 high) entries)) 0 old new fault h

@@ -14,4 +14,5 @@ pub mod Ends
 pub mod Tried
 pub mod Written
 pub mod Renewed
+pub mod Starts
 pub mod Steady

@@ -12,7 +12,7 @@ use Rattle.std.proofs.lemmas.Bool.Decides.{nat_tests}
 use Rattle.std.proofs.lemmas.List.{append_cancel_left}
 use Rattle.rkyv_btree_seal.specs.Put.{put_value}
 use Rattle.btreearc_commands.specs.Commands.{Sets, IsSetOut}
-use Rattle.btreearc_commands.specs.Opening.{IsArchive, place_in_archive}
+use Rattle.btreearc_commands.specs.Opening.{IsInput, IsArchive, place_in_archive}
 use Rattle.btreearc_commands.specs.Sessions.{Writes, AlwaysWrites, AlwaysPrints, IsSetIn, KeysIncrease, keys, with_value}
 use Rattle.btreearc_commands.specs.Setting.{IsSet}
 use Rattle.btreearc_commands.proofs.Ends.{IsKnown, failed, ordered, grown_by_nothing}
@@ -66,8 +66,8 @@ module _ (key value : ℕ) (archive : List ℕ) (entries : List (ℕ × ℕ)) wh
 
   module _ (is : IsKnown archive entries) where
     -- a run of `set` speaks of these entries
-    set_out : (others : List (ℕ × ℕ)) (old new : Option (List ℕ)) (status : ℕ) → IsArchive archive others → IsSetOut key value others archive old new status → IsSetOut key value entries archive old new status
-    set_out others old new status other out = subst (λ (xs : List (ℕ × ℕ)). IsSetOut key value xs archive old new status) (is.one others other) out
+    set_out : (others : List (ℕ × ℕ)) (old new : Option (List ℕ)) (status : ℕ) → IsInput archive others → IsSetOut key value others archive old new status → IsSetOut key value entries archive old new status
+    set_out others old new status other out = subst (λ (xs : List (ℕ × ℕ)). IsSetOut key value xs archive old new status) (is.one others other.1) out
 
     pub absent : (Contains (keys entries) key → ⊥) → AlwaysPrints (Sets key value (Some archive)) [] 1
     absent none old new (Ok status) h = absent_ended (place_in_archive archive key) old new status none (set_out h.0 old new status h.1 h.2).written

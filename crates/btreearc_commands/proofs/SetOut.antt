@@ -3,7 +3,7 @@ use Rattle.std.proofs.Common.{◌≡◌, ℕ, Bool, true, false, List, Option, S
 use Rattle.std.proofs.lemmas.List.{take_all, take-append-le}
 use Rattle.std.specs.Io.KnownBytes.{Appends}
 use Rattle.btreearc_commands.specs.Commands.{IsSetOut}
-use Rattle.btreearc_commands.specs.Opening.{IsArchive, place_in_archive}
+use Rattle.btreearc_commands.specs.Opening.{IsInput, place_in_archive}
 use Rattle.btreearc_commands.specs.Setting.{IsSet, SetsValue}
 
 -- a buffer whose whole slice was written is what was written
@@ -36,8 +36,8 @@ module _ (key value : ℕ) (entries : List (ℕ × ℕ)) (archive made : List �
   }
 
 -- what was written of an input that is known
-pub output_set : (input old new : Option (List ℕ)) (archive : List ℕ) (entries : List (ℕ × ℕ)) (key value status : ℕ) → IfSome input (λ bytes. archive ≡ bytes) → IsArchive archive entries → IsSetOut key value entries archive old new status
-    → IfSome input (λ bytes. (xs : List (ℕ × ℕ)) × IsArchive bytes xs × IsSetOut key value xs bytes old new status)
+pub output_set : (input old new : Option (List ℕ)) (archive : List ℕ) (entries : List (ℕ × ℕ)) (key value status : ℕ) → IfSome input (λ bytes. archive ≡ bytes) → IsInput archive entries → IsSetOut key value entries archive old new status
+    → IfSome input (λ bytes. (xs : List (ℕ × ℕ)) × IsInput bytes xs × IsSetOut key value xs bytes old new status)
 output_set None old new archive entries key value status is opened set = tt
 output_set (Some bytes) old new archive entries key value status is opened set =
-    (entries, subst (λ (b : List ℕ). IsArchive b entries) is opened, subst (λ (b : List ℕ). IsSetOut key value entries b old new status) is set)
+    (entries, subst (λ (b : List ℕ). IsInput b entries) is opened, subst (λ (b : List ℕ). IsSetOut key value entries b old new status) is set)

@@ -22,7 +22,11 @@ use Rattle.rkyv_btree_writer.proofs.WriteRuns.{AllReach-both, appended-append}
 use Rattle.rkyv_btree_writing_laws.proofs.Accepting.{root_length}
 use Rattle.rkyv_btree_writing_laws.proofs.Leaves.{leaf_bytes_length, length-padding}
 use Rattle.rkyv_btree_writing_laws.proofs.NodesHeld.{inner_length, length-roots}
-use Rattle.btreearc_commands.specs.Archive.{own_bytes, five, tree_writes, root_writes, HasArchive}
+use Rattle.btreearc_lines.specs.Headings.{prefix}
+use Rattle.btreearc_lines.specs.declared.heading.Heading.{Heading}
+use Rattle.btreearc_commands.specs.Archive.{own_bytes, five, start, root_node, tree_writes, root_writes, HasArchive}
+use Rattle.btreearc_commands.specs.Opening.{numbers_name}
+use Rattle.btreearc_commands.proofs.Starts.{start_small}
 use Rattle.btreearc_commands.proofs.Built.{alone_shape, numbers_fit, own_is}
 
 -- The sizes of nodes of five entries of numbers.
@@ -223,13 +227,15 @@ planned entries = planned_alone 5 (map own_bytes entries)
 planned_shape : (entries : List (ℕ × ℕ)) → ChildHasShape 5 (planned entries)
 planned_shape entries = alone_shape (map own_bytes entries)
 
-planned_length : (entries : List (ℕ × ℕ)) → length (appended (tree_writes entries)) ≡ child_end five 0 (planned entries)
-planned_length entries =
-    subst (λ (c : Child OwnBytes). length (appended (child_image five 0 c)) ≡ child_end five 0 c) (sym (alone_mapped own_bytes 5 entries))
-    (omega (arith, child_length 0 (planned_alone 5 entries) (alone_shape entries)))
+planned_length : (heading : Heading) (entries : List (ℕ × ℕ)) → start heading + length (appended (tree_writes heading entries)) ≡ child_end five (start heading) (planned entries)
+planned_length heading entries =
+    let from = start heading in
+    subst (λ (c : Child OwnBytes). from + length (appended (child_image five from c)) ≡ child_end five from c) (sym (alone_mapped own_bytes 5 entries))
+    (omega (arith, child_length from (planned_alone 5 entries) (alone_shape entries)))
 
-planned_ends : (entries : List (ℕ × ℕ)) → length entries ≤ 150000000 → child_end five 0 (planned entries) ≤ 2130000056
-planned_ends entries few = omega (arith, child_ends 0 (planned entries), planned_nodes (map own_bytes entries), length-map entries own_bytes)
+planned_ends : (heading : Heading) (entries : List (ℕ × ℕ)) → length entries ≤ 150000000 → child_end five (start heading) (planned entries) ≤ 2130000100
+planned_ends heading entries few =
+    omega (arith, child_ends (start heading) (planned entries), planned_nodes (map own_bytes entries), length-map entries own_bytes, start_small heading)
 
 child_root_within : (at : ℕ) (c : Child OwnBytes) → unwrap_or (child_root five at c) 0 ≤ child_end five at c
 child_root_within at absent = omega arith
@@ -243,25 +249,27 @@ map_reaches at root n h r = go (nat_eq n 0)
     go false = offset_near at root h r
 
 -- so few entries have an archive
-pub few_have_archives : (entries : List (ℕ × ℕ)) → length entries ≤ 150000000 → HasArchive entries
-few_have_archives entries few =
-    let tree = length (appended (tree_writes entries)) in
-    let root = unwrap_or (child_root five 0 (planned entries)) 0 in
+pub few_have_archives : (heading : Heading) (entries : List (ℕ × ℕ)) → length entries ≤ 150000000 → HasArchive heading entries
+few_have_archives heading entries few =
+    let from = start heading in
+    let tree = from + length (appended (tree_writes heading entries)) in
+    let root = root_node heading entries in
     let at = round_up tree 4 in
-    let ends = planned_ends entries few in
+    let ends = planned_ends heading entries few in
     let near : at ≤ tree + 3 = omega (arith, round_up-lt tree 4 (omega arith)) in
     let map_write : Write = record { bytes = root_bytes at root (length entries); reaches = root_reaches at root (length entries) } in
     record {
       count = omega (arith, few);
       end = omega (
         arith,
-        both_length (tree_writes entries) (root_writes entries),
+        length-append (prefix numbers_name heading) (appended (tree_writes heading entries ++ root_writes heading entries)),
+        both_length (tree_writes heading entries) (root_writes heading entries),
         node_length 4 tree map_write (omega arith),
         root_length at root (length entries),
-        planned_length entries,
+        planned_length heading entries,
         ends,
         near,
       );
-      reach = AllReach-both (tree_writes entries) (root_writes entries) (child_reaches 0 (planned entries) (planned_shape entries) (omega (arith, ends)))
-          (node_reaches 4 tree map_write (map_reaches at root (length entries) (omega (arith, planned_length entries, ends, near)) (omega (arith, child_root_within 0 (planned entries), ends))));
+      reach = AllReach-both (tree_writes heading entries) (root_writes heading entries) (child_reaches from (planned entries) (planned_shape entries) (omega (arith, ends)))
+          (node_reaches 4 tree map_write (map_reaches at root (length entries) (omega (arith, planned_length heading entries, ends, near)) (omega (arith, child_root_within from (planned entries), ends))));
     }

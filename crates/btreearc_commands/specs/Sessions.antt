@@ -5,15 +5,16 @@ use Rattle.std.specs.List.Sorted.{IsStrictlySortedBy}
 use Rattle.std.specs.Ordering.{nat_cmp}
 use Rattle.rkyv_btree_writer.specs.declared.fault.Fault.TheVariants.{Writer, Memory as NoRoom}
 use Rattle.btreearc_commands.specs.Commands.{Builds, Sets, BuildsStrict, Migrates}
+use Rattle.btreearc_lines.specs.declared.heading.Heading.{Heading}
 use Rattle.btreearc_lines.specs.Grammar.{IsLines}
 use Rattle.btreearc_lines.specs.declared.fault.ProgramFault.{ProgramFault}
 use Rattle.btreearc_lines.specs.declared.fault.ProgramFault.TheVariants.{NotBuilt, InputFailed, OutputFailed, Memory}
 
 -- `build` has written this archive, after what was there before, for a text whose lines are these entries
-pub record IsBuilt (text : List ℕ) (entries : List (ℕ × ℕ)) (archive : List ℕ) : Type 0 where
+pub record IsBuilt (heading : Heading) (text : List ℕ) (entries : List (ℕ × ℕ)) (archive : List ℕ) : Type 0 where
   pub lines : IsLines text entries
   pub before : List ℕ
-  pub built : Builds (Some text) (Some before) (Some (before ++ archive)) (Ok 0)
+  pub built : Builds heading (Some text) (Some before) (Some (before ++ archive)) (Ok 0)
 
 -- `set` has found the key in this archive, and has written that one, after what was there before
 pub record IsSetIn (key value : ℕ) (archive made : List ℕ) : Type 0 where
@@ -21,10 +22,10 @@ pub record IsSetIn (key value : ℕ) (archive made : List ℕ) : Type 0 where
   pub set : Sets key value (Some archive) (Some before) (Some (before ++ made)) (Ok 0)
 
 -- `build-strict` has written this archive, after what was there before, for a text whose lines are these entries
-pub record IsBuiltStrict (text : List ℕ) (entries : List (ℕ × ℕ)) (archive : List ℕ) : Type 0 where
+pub record IsBuiltStrict (heading : Heading) (text : List ℕ) (entries : List (ℕ × ℕ)) (archive : List ℕ) : Type 0 where
   pub lines : IsLines text entries
   pub before : List ℕ
-  pub built : BuildsStrict (Some text) (Some before) (Some (before ++ archive)) (Ok 0)
+  pub built : BuildsStrict heading (Some text) (Some before) (Some (before ++ archive)) (Ok 0)
 
 -- `migrate` has made that archive of this one, and has written it after what was there before
 pub record IsMigratedTo (archive made : List ℕ) : Type 0 where

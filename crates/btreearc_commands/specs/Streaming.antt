@@ -8,6 +8,7 @@ use Rattle.rkyv_btree_archive.specs.declared.try_build.TryFault.{TryFault}
 use Rattle.rkyv_btree_archive.specs.declared.try_build.TryFault.TheVariants.{Item, Build}
 use Rattle.btreearc_commands.specs.Archive.{HasArchive, IsUnbuilt, IsUnbuiltInOrder}
 use Rattle.btreearc_commands.specs.Commands.{Builds, BuildsStrict}
+use Rattle.btreearc_lines.specs.declared.heading.Heading.{Heading}
 use Rattle.btreearc_lines.specs.Faults.{IsReadFault}
 use Rattle.btreearc_lines.specs.Grammar.{BadLine, IsLines}
 use Rattle.btreearc_lines.specs.declared.fault.ProgramFault.{ProgramFault}
@@ -19,14 +20,14 @@ IsInOrder true entries = Increasing nat_cmp entries
 IsInOrder false entries = Unit {0}
 
 -- why entries have no archive, whose keys must increase, or may come in any order
-abbrev pub IsUnbuiltSo : {X : Type 0} → Bool → List (ℕ × ℕ) → Fault X → Type 0
-IsUnbuiltSo true entries fault = IsUnbuiltInOrder entries fault
-IsUnbuiltSo false entries fault = IsUnbuilt entries fault
+abbrev pub IsUnbuiltSo : {X : Type 0} → Bool → Heading → List (ℕ × ℕ) → Fault X → Type 0
+IsUnbuiltSo true heading entries fault = IsUnbuiltInOrder heading entries fault
+IsUnbuiltSo false heading entries fault = IsUnbuilt heading entries fault
 
 -- what `build-strict` does, or `build`
-abbrev pub BuildsSo : Bool → Option (List ℕ) → Option (List ℕ) → Option (List ℕ) → Result ℕ ProgramFault → Type 0
-BuildsSo true input old new result = BuildsStrict input old new result
-BuildsSo false input old new result = Builds input old new result
+abbrev pub BuildsSo : Bool → Heading → Option (List ℕ) → Option (List ℕ) → Option (List ℕ) → Result ℕ ProgramFault → Type 0
+BuildsSo true heading input old new result = BuildsStrict heading input old new result
+BuildsSo false heading input old new result = Builds heading input old new result
 
 -- this holds of the entries of known bytes, whose lines are so many
 abbrev pub OfLines : Option (List ℕ) → ℕ → (List (ℕ × ℕ) → Type 0) → Type 0
@@ -40,15 +41,15 @@ pub record AreCounted (is_strict : Bool) (count : ℕ) (bytes : List ℕ) : Type
   pub order : IsInOrder is_strict entries
 
 -- bytes are such lines, of which there is an archive
-pub record IsTested (is_strict : Bool) (count : ℕ) (bytes : List ℕ) : Type 0 where
+pub record IsTested (is_strict : Bool) (heading : Heading) (count : ℕ) (bytes : List ℕ) : Type 0 where
   pub counted : AreCounted is_strict count bytes
-  pub fits : HasArchive counted.entries
+  pub fits : HasArchive heading counted.entries
 
 -- why an archive isn't built of an input: its first bad line, or why its entries have no archive; or reading it failed, or there is no memory
-abbrev pub FailsToTest : Bool → Option (List ℕ) → ProgramFault → Type 0
-FailsToTest is_strict known (Line n) = IfSome known (λ bytes. BadLine bytes n)
-FailsToTest is_strict known (NotBuilt fault) = IfSome known (λ bytes. (entries : List (ℕ × ℕ)) × IsLines bytes entries × IsUnbuiltSo is_strict entries fault)
-FailsToTest is_strict known fault = IsReadFault fault
+abbrev pub FailsToTest : Bool → Heading → Option (List ℕ) → ProgramFault → Type 0
+FailsToTest is_strict heading known (Line n) = IfSome known (λ bytes. BadLine bytes n)
+FailsToTest is_strict heading known (NotBuilt fault) = IfSome known (λ bytes. (entries : List (ℕ × ℕ)) × IsLines bytes entries × IsUnbuiltSo is_strict heading entries fault)
+FailsToTest is_strict heading known fault = IsReadFault fault
 
 -- a call of an iterator that gives so many items, whatever they are
 abbrev pub CountsDown : {S X : Type 0} → (S → ℕ) → S → Option X → S → Type 0
@@ -56,14 +57,14 @@ CountsDown left s None t = left s ≡ 0
 CountsDown left s (Some x) t = left s ≡ left t + 1
 
 -- why so many entries have no archive
-abbrev pub IsUnfit : ℕ → ProgramFault → Type 0
-IsUnfit count (NotBuilt fault) = (entries : List (ℕ × ℕ)) → count ≡ length entries → IsUnbuilt entries fault
-IsUnfit count _ = ⊥
+abbrev pub IsUnfit : Heading → ℕ → ProgramFault → Type 0
+IsUnfit heading count (NotBuilt fault) = (entries : List (ℕ × ℕ)) → count ≡ length entries → IsUnbuilt heading entries fault
+IsUnfit heading count _ = ⊥
 
 -- an error of building an archive of entries from a reader: why they have none, or reading has failed
-abbrev pub IsTried : {X : Type 0} → List (ℕ × ℕ) → TryFault X ProgramFault → Type 0
-IsTried entries (Item fault) = IsReadFault fault
-IsTried entries (Build fault) = IsUnbuilt entries fault
+abbrev pub IsTried : {X : Type 0} → Heading → List (ℕ × ℕ) → TryFault X ProgramFault → Type 0
+IsTried heading entries (Item fault) = IsReadFault fault
+IsTried heading entries (Build fault) = IsUnbuilt heading entries fault
 
 -- the last key is that of the last of these entries
 abbrev pub IsLastKey : Option ℕ → List (ℕ × ℕ) → Type 0

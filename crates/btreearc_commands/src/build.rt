@@ -4,22 +4,26 @@ ghost use Rattle.std.specs.Iterator.{at_most};
 ghost use Rattle.rkyv_btree_writing_laws.specs.Whole.{fresh};
 ghost use Rattle.btreearc_lines.specs.Faults.{IsReadTry};
 ghost use Rattle.btreearc_lines.specs.Grammar.{IsLines};
+ghost use Rattle.btreearc_lines.specs.Headings.{IsNamed, begun};
+ghost use Rattle.btreearc_lines.specs.declared.heading.Heading.{Heading};
 ghost use Rattle.btreearc_commands.specs.Archive.{HasArchive, IsArchived};
+ghost use Rattle.btreearc_commands.specs.Opening.{numbers_name};
 ghost use Rattle.btreearc_commands.specs.Streaming.{CountsDown, FailsToTest, IsInOrder, IsTried, IsUnfit, OfLines};
 
 use crate::entries::count_lines;
 use crate::opening::Numbers;
 use btreearc_lines::entries::Entries;
 use btreearc_lines::fault::{ProgramFault, in_memory, program_fault};
+use btreearc_lines::heading::{Heading, write_heading};
 use rkyv_btree_archive::build_map::BuildMap;
 use rkyv_btree_archive::try_build::TryFault;
 use rkyv_btree_writer::io_writer::IoWriter;
 use rkyv_btree_writer::place::{VecWriter, Writer};
 use std::alloc::Global;
 use std::io;
-use std::io::BufRead;
+use std::io::{BufRead, Sink};
 
-/// Serializes the entries of the lines of a reader and then their map, from position 0 on. `count` is the number of lines.
+/// Serializes the entries of the lines of a reader and then their map, after what a writer holds. `count` is the number of lines.
 ///
 /// # Errors
 ///
@@ -27,17 +31,19 @@ use std::io::BufRead;
 /// than 32 bits can count, the archive would be longer than 4 GiB, a pointer would reach over more than 2 GiB, the writer fails, or
 /// there is no memory.
 #[tactic(auto, using(crate::proofs::Built::numbers_fit))]
-pub(crate) fn serialize_lines<B: BufRead + Drop, W: Writer>(
+fn serialize_entries<B: BufRead + Drop, W: Writer>(
     alloc: Global,
+    heading: Heading,
     count: usize,
     input: B,
     writer: &mut W,
 ) -> Result<(), TryFault<W::Error, ProgramFault>>
-    requires { W.state writer.old ≡ fresh }
+    requires begun { W.state writer.old ≡ begun numbers_name heading }
+    requires named { IsNamed numbers_name heading }
     ensures ok { OnOk result (OfLines (B.remaining input) count
-        (IsArchived (W.state writer.new).contents)) }
+        (IsArchived heading (W.state writer.new).contents)) }
     ensures err { IfErr result (λ fault. OfLines (B.remaining input) count
-        (λ entries. IsTried entries fault)) }
+        (λ entries. IsTried heading entries fault)) }
     ensures read { IfErr result IsReadTry }
 {
     let items = Entries::new(alloc, input, count);
@@ -47,6 +53,31 @@ pub(crate) fn serialize_lines<B: BufRead + Drop, W: Writer>(
     };
     match Numbers::write_root(count, root, writer) {
         Ok(_) => Ok(()),
+        Err(fault) => Err(TryFault::Build(fault)),
+    }
+}
+
+/// Writes the header, or nothing, and then what `serialize_entries` writes.
+///
+/// # Errors
+///
+/// Those of `serialize_entries`, and `Build` if the header isn't written.
+pub(crate) fn serialize_lines<B: BufRead + Drop, W: Writer>(
+    alloc: Global,
+    heading: Heading,
+    count: usize,
+    input: B,
+    writer: &mut W,
+) -> Result<(), TryFault<W::Error, ProgramFault>>
+    requires { W.state writer.old ≡ fresh }
+    ensures ok { OnOk result (OfLines (B.remaining input) count
+        (IsArchived heading (W.state writer.new).contents)) }
+    ensures err { IfErr result (λ fault. OfLines (B.remaining input) count
+        (λ entries. IsTried heading entries fault)) }
+    ensures read { IfErr result IsReadTry }
+{
+    match write_heading::<Numbers, W>(alloc, heading, writer) {
+        Ok(()) => serialize_entries(alloc, heading, count, input, writer),
         Err(fault) => Err(TryFault::Build(fault)),
     }
 }
@@ -76,8 +107,8 @@ impl Iterator for Zeros {
 /// Returns whether so many entries have an archive for their number alone. Five entries take a node, and a node takes 71 bytes at
 /// most with the padding before it. So the archive of 150 million ends before position 2^31, and each pointer reaches.
 fn is_small(count: usize) -> bool
-    ensures { result ≡ true → (entries : List (ℕ × ℕ)) → count ≡ length entries →
-        HasArchive entries }
+    ensures { result ≡ true → (heading : Heading) (entries : List (ℕ × ℕ)) →
+        count ≡ length entries → HasArchive heading entries }
 {
     count <= 150_000_000
 }
@@ -88,15 +119,19 @@ fn is_small(count: usize) -> bool
 ///
 /// `NotBuilt` if they have none.
 #[tactic(auto, using(crate::proofs::Built::numbers_fit))]
-pub(crate) fn test_count(alloc: Global, count: usize) -> Result<(), ProgramFault>
+pub(crate) fn test_count(alloc: Global, heading: Heading, count: usize) -> Result<(), ProgramFault>
     ensures ok { OnOk result ((entries : List (ℕ × ℕ)) → count ≡ length entries →
-        HasArchive entries) }
-    ensures err { IfErr result (IsUnfit count) }
+        HasArchive heading entries) }
+    ensures err { IfErr result (IsUnfit heading count) }
 {
     if is_small(count) {
         return Ok(());
     }
     let mut writer = IoWriter::new(io::sink());
+    match write_heading::<Numbers, IoWriter<Sink>>(alloc, heading, &mut writer) {
+        Ok(()) => {}
+        Err(fault) => return Err(ProgramFault::NotBuilt(in_memory(fault))),
+    }
     let items = Zeros { left: count };
     let root = match Numbers::serialize_from_ordered_iter(alloc, count, items, &mut writer) {
         Ok(root) => root,
@@ -115,10 +150,15 @@ pub(crate) fn test_count(alloc: Global, count: usize) -> Result<(), ProgramFault
 /// `Line` with the number of the first line that is no entry. `NotBuilt` with the index of the first entry whose key isn't greater than
 /// the key before it, if keys must increase; and if there are more entries than 32 bits can count, the archive would be longer than
 /// 4 GiB, a pointer would reach over more than 2 GiB, or there is no memory for the archive. `Memory` if there is none for a line.
-pub fn archive(alloc: Global, is_strict: bool, text: &[u8]) -> Result<Vec<u8>, ProgramFault>
+pub fn archive(
+    alloc: Global,
+    is_strict: bool,
+    heading: Heading,
+    text: &[u8],
+) -> Result<Vec<u8>, ProgramFault>
     ensures ok { IfOk result (λ bytes. (entries : List (ℕ × ℕ)) × IsLines text.now entries
-        × IsInOrder is_strict entries × IsArchived bytes.items entries) }
-    ensures err { IfErr result (FailsToTest is_strict (Some text.now)) }
+        × IsInOrder is_strict entries × IsArchived heading bytes.items entries) }
+    ensures err { IfErr result (FailsToTest is_strict heading (Some text.now)) }
 {
     let mut lines = text;
     let count = match count_lines(alloc, is_strict, &mut lines) {
@@ -126,7 +166,7 @@ pub fn archive(alloc: Global, is_strict: bool, text: &[u8]) -> Result<Vec<u8>, P
         Err(fault) => return Err(fault),
     };
     let mut writer = VecWriter::new(alloc);
-    match serialize_lines(alloc, count, text, &mut writer) {
+    match serialize_lines(alloc, heading, count, text, &mut writer) {
         Ok(()) => Ok(writer.into_vec()),
         Err(fault) => Err(program_fault(fault)),
     }

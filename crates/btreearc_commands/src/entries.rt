@@ -2,6 +2,7 @@
 ghost use Rattle.std.specs.Prelude.{◌≡◌, ℕ, ◌∷◌, ◌++◌, [], List, length, true, false, Some, None, IfOk, OnOk, IfErr, IfSome};
 ghost use Rattle.std.specs.Ordering.{nat_cmp};
 ghost use Rattle.std.specs.declared.cmp.Ordering.TheVariants.{Less};
+ghost use Rattle.btreearc_lines.specs.declared.heading.Heading.{Heading};
 ghost use Rattle.btreearc_commands.specs.Streaming.{AreCounted, FailsToTest, KnowsOrder, NamesFirst};
 
 use btreearc_lines::entries::{NextLine, next_line};
@@ -71,7 +72,8 @@ pub fn count_lines<B: BufRead>(
 ) -> Result<usize, ProgramFault>
     ensures ok { IfOk result (λ count. IfSome (B.remaining input.old)
         (AreCounted is_strict count)) }
-    ensures err { IfErr result (FailsToTest is_strict (B.remaining input.old)) }
+    ensures err { (heading : Heading) →
+        IfErr result (FailsToTest is_strict heading (B.remaining input.old)) }
 {
     let mut line = Vec::new(alloc);
     let mut last = None;

@@ -2,7 +2,9 @@
 ghost use Rattle.std.specs.Prelude.{◌≡◌, ℕ, List, [], ◌∷◌, ◌++◌, ◌&&◌, Some, Ok, IfOk, Contains, nat_le, codes, decimal, filter, length};
 ghost use Rattle.btreearc_commands.specs.Commands.{Builds, Lists, Checks, Gets, Ranges, Sets, ChecksStrict, Migrates, last_values, total};
 ghost use Rattle.btreearc_lines.specs.Grammar.{IsLines, lines, text_of};
-ghost use Rattle.btreearc_commands.specs.Opening.{IsArchive};
+ghost use Rattle.btreearc_commands.specs.Opening.{HasFitHeading, IsArchive, IsInput};
+ghost use Rattle.btreearc_lines.specs.declared.heading.Heading.{Heading};
+ghost use Rattle.btreearc_lines.specs.declared.heading.Heading.TheVariants.{Typed};
 ghost use Rattle.btreearc_commands.specs.Sessions.{IsBuilt, IsBuiltStrict, IsMigratedTo, IsSetIn, AlwaysWrites, AlwaysPrints, KeysIncrease, keys, with_value};
 
 use crate::opening::{one_list, refused_is_no_archive};
@@ -17,15 +19,17 @@ use std::alloc::Global;
 /// Nothing is lost: what is built of lines is listed as these lines, in the program's own spelling, and counted as so
 /// many. Of what is listed the same archive is built again.
 pub fn lines_are_listed_again()
-    ensures archive { (text archive : List ℕ) (entries : List (ℕ × ℕ)) →
-        IsBuilt text entries archive → IsArchive archive entries }
-    ensures listed { (text archive : List ℕ) (entries : List (ℕ × ℕ)) →
-        IsBuilt text entries archive → AlwaysPrints (Lists (Some archive)) (text_of entries) 0 }
-    ensures counted { (text archive : List ℕ) (entries : List (ℕ × ℕ)) →
-        IsBuilt text entries archive →
+    ensures archive { (heading : Heading) (text archive : List ℕ) (entries : List (ℕ × ℕ)) →
+        IsBuilt heading text entries archive → IsInput archive entries }
+    ensures listed { (heading : Heading) (text archive : List ℕ) (entries : List (ℕ × ℕ)) →
+        IsBuilt heading text entries archive →
+        AlwaysPrints (Lists (Some archive)) (text_of entries) 0 }
+    ensures counted { (heading : Heading) (text archive : List ℕ) (entries : List (ℕ × ℕ)) →
+        IsBuilt heading text entries archive →
         AlwaysPrints (Checks (Some archive)) (total (length (lines text))) 0 }
-    ensures built_again { (text archive : List ℕ) (entries : List (ℕ × ℕ)) →
-        IsBuilt text entries archive → AlwaysPrints (Builds (Some (text_of entries))) archive 0 }
+    ensures built_again { (heading : Heading) (text archive : List ℕ) (entries : List (ℕ × ℕ)) →
+        IsBuilt heading text entries archive →
+        AlwaysPrints (Builds heading (Some (text_of entries))) archive 0 }
 {
     archives_show_their_entries();
 }
@@ -34,17 +38,17 @@ pub fn lines_are_listed_again()
 /// found. Where their keys strictly increase, each is found, with its value, and a range gives all entries from its
 /// first key to its last.
 pub fn archives_show_their_entries()
-    ensures listed { (archive : List ℕ) (entries : List (ℕ × ℕ)) → IsArchive archive entries →
+    ensures listed { (archive : List ℕ) (entries : List (ℕ × ℕ)) → IsInput archive entries →
         AlwaysPrints (Lists (Some archive)) (text_of entries) 0 }
-    ensures counted { (archive : List ℕ) (entries : List (ℕ × ℕ)) → IsArchive archive entries →
+    ensures counted { (archive : List ℕ) (entries : List (ℕ × ℕ)) → IsInput archive entries →
         AlwaysPrints (Checks (Some archive)) (total (length entries)) 0 }
-    ensures absent { (archive : List ℕ) (entries : List (ℕ × ℕ)) → IsArchive archive entries →
+    ensures absent { (archive : List ℕ) (entries : List (ℕ × ℕ)) → IsInput archive entries →
         (key : ℕ) → (Contains (keys entries) key → ⊥)
         → AlwaysPrints (Gets key (Some archive)) [] 1 }
-    ensures got { (archive : List ℕ) (entries : List (ℕ × ℕ)) → IsArchive archive entries →
+    ensures got { (archive : List ℕ) (entries : List (ℕ × ℕ)) → IsInput archive entries →
         KeysIncrease entries → (key value : ℕ) → Contains entries (key, value) →
         AlwaysPrints (Gets key (Some archive)) (decimal value ++ 10 ∷ []) 0 }
-    ensures ranged { (archive : List ℕ) (entries : List (ℕ × ℕ)) → IsArchive archive entries →
+    ensures ranged { (archive : List ℕ) (entries : List (ℕ × ℕ)) → IsInput archive entries →
         KeysIncrease entries → (low high : ℕ) → AlwaysPrints (Ranges low high (Some archive))
         (text_of (filter (λ e. nat_le low e.0 && nat_le e.0 high) entries)) 0 }
 {
@@ -57,16 +61,16 @@ pub fn archives_show_their_entries()
 /// `set` of a key that no entry has writes nothing. Where the keys strictly increase, and the key is among them, it
 /// writes an archive of the same entries but for that one value, which is listed as these.
 pub fn set_values_are_listed()
-    ensures absent { (archive : List ℕ) (entries : List (ℕ × ℕ)) → IsArchive archive entries →
+    ensures absent { (archive : List ℕ) (entries : List (ℕ × ℕ)) → IsInput archive entries →
         (key value : ℕ) → (Contains (keys entries) key → ⊥) →
         AlwaysPrints (Sets key value (Some archive)) [] 1 }
-    ensures set { (archive : List ℕ) (entries : List (ℕ × ℕ)) → IsArchive archive entries →
+    ensures set { (archive : List ℕ) (entries : List (ℕ × ℕ)) → IsInput archive entries →
         KeysIncrease entries → (key value : ℕ) → Contains (keys entries) key →
         AlwaysWrites (Sets key value (Some archive))
         (λ made. IsArchive made (with_value key value entries)) 0 }
-    ensures listed { (archive made : List ℕ) (entries : List (ℕ × ℕ)) → IsArchive archive entries →
+    ensures listed { (archive made : List ℕ) (entries : List (ℕ × ℕ)) → IsInput archive entries →
         KeysIncrease entries → (key value : ℕ) → IsSetIn key value archive made →
-        AlwaysPrints (Lists (Some made)) (text_of (with_value key value entries)) 0 }
+        HasFitHeading made → AlwaysPrints (Lists (Some made)) (text_of (with_value key value entries)) 0 }
 {
     archives_show_their_entries();
     refused_is_no_archive();
@@ -76,16 +80,16 @@ pub fn set_values_are_listed()
 /// What `build-strict` and `migrate` write, `check-strict` accepts, and `migrate` writes as it is. Archives of increasing
 /// keys are these.
 pub fn strict_archives_stay()
-    ensures checked { (archive : List ℕ) (entries : List (ℕ × ℕ)) → IsArchive archive entries →
+    ensures checked { (archive : List ℕ) (entries : List (ℕ × ℕ)) → IsInput archive entries →
         KeysIncrease entries
         → AlwaysPrints (ChecksStrict (Some archive)) (total (length entries)) 0 }
-    ensures built_checked { (text archive : List ℕ) (entries : List (ℕ × ℕ)) →
-        IsBuiltStrict text entries archive →
+    ensures built_checked { (heading : Heading) (text archive : List ℕ) (entries : List (ℕ × ℕ)) →
+        IsBuiltStrict heading text entries archive →
         AlwaysPrints (ChecksStrict (Some archive)) (total (length entries)) 0 }
-    ensures built_stays { (text archive : List ℕ) (entries : List (ℕ × ℕ)) →
-        IsBuiltStrict text entries archive → AlwaysPrints (Migrates (Some archive)) archive 0 }
+    ensures built_stays { (heading : Heading) (text archive : List ℕ) (entries : List (ℕ × ℕ)) →
+        IsBuiltStrict heading text entries archive → AlwaysPrints (Migrates (Some archive)) archive 0 }
     ensures migrated_checked { (archive made : List ℕ) (entries : List (ℕ × ℕ)) →
-        IsArchive archive entries → IsMigratedTo archive made →
+        IsInput archive entries → IsMigratedTo archive made →
         AlwaysPrints (ChecksStrict (Some made)) (total (length (last_values entries))) 0 }
     ensures migrated_stays { (archive made : List ℕ) → IsMigratedTo archive made →
         AlwaysPrints (Migrates (Some made)) made 0 }
@@ -103,7 +107,7 @@ pub fn strict_archives_stay()
 /// Those of the command, and `Memory`.
 fn output_of(alloc: Global, word: &str, input: &[u8]) -> Result<Vec<u8>, ProgramFault>
     ensures build { word.now ≡ codes "build" → IfOk result (λ output.
-        Builds (Some input.now) (Some []) (Some output.items) (Ok 0)) }
+        Builds Typed (Some input.now) (Some []) (Some output.items) (Ok 0)) }
     ensures list { word.now ≡ codes "list" → IfOk result (λ output.
         Lists (Some input.now) (Some []) (Some output.items) (Ok 0)) }
 {

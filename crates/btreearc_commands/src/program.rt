@@ -3,15 +3,17 @@ ghost use Rattle.std.specs.Prelude.{◌≡◌, ℕ, codes, Err, OnOk};
 ghost use Rattle.std.specs.Io.KnownBytes.{IsAtEnd};
 ghost use Rattle.btreearc_commands.specs.Commands.{Builds, Lists, Checks, Gets, Ranges, Sets, BuildsStrict, ChecksStrict, Migrates};
 ghost use Rattle.btreearc_commands.specs.Streaming.{BuildsSo};
-ghost use Rattle.btreearc_lines.specs.Words.{IsWord, IsWordAndNumber, IsWordAndNumbers, IsNoCommand};
+ghost use Rattle.btreearc_lines.specs.Words.{IsWord, IsWordAndNumber, IsWordAndNumbers, IsNoCommand, NamesBuild};
+ghost use Rattle.btreearc_lines.specs.declared.heading.Heading.{Heading};
 
 use crate::build;
 use crate::listing::write_entries;
 use crate::migrating::{migrated, strict_count};
-use crate::opening::open;
+use crate::opening::{open, tested_heading};
 use crate::setting::set_value;
 use btreearc_lines::command::Command;
 use btreearc_lines::fault::ProgramFault;
+use btreearc_lines::heading::Heading;
 use btreearc_lines::streams::{read_all, write_all};
 use std::alloc::Global;
 use std::io::{Read, Write};
@@ -30,8 +32,9 @@ pub fn run<R: Read, W: Write>(
     input: &mut R,
     output: &mut W,
 ) -> Result<u8, ProgramFault>
-    ensures build { IsWord (codes "build") args.now →
-        Builds (R.remaining input.old) (W.contents output.old) (W.contents output.new) result }
+    ensures build { (heading : Heading) → NamesBuild (codes "build") args.now heading →
+        Builds heading (R.remaining input.old) (W.contents output.old) (W.contents output.new)
+        result }
     ensures list { IsWord (codes "list") args.now →
         Lists (R.remaining input.old) (W.contents output.old) (W.contents output.new) result }
     ensures check { IsWord (codes "check") args.now →
@@ -44,9 +47,9 @@ pub fn run<R: Read, W: Write>(
     ensures set { (key value : ℕ) → IsWordAndNumbers (codes "set") key value args.now →
         Sets key value (R.remaining input.old) (W.contents output.old) (W.contents output.new)
         result }
-    ensures build_strict { IsWord (codes "build-strict") args.now →
-        BuildsStrict (R.remaining input.old) (W.contents output.old) (W.contents output.new)
-        result }
+    ensures build_strict { (heading : Heading) → NamesBuild (codes "build-strict") args.now heading →
+        BuildsStrict heading (R.remaining input.old) (W.contents output.old)
+        (W.contents output.new) result }
     ensures check_strict { IsWord (codes "check-strict") args.now →
         ChecksStrict (R.remaining input.old) (W.contents output.old) (W.contents output.new)
         result }
@@ -58,13 +61,13 @@ pub fn run<R: Read, W: Write>(
     ensures end { OnOk result (IsAtEnd (R.remaining input.new)) }
 {
     match Command::from_words(args) {
-        Some(Command::Build) => build(alloc, false, input, output),
+        Some(Command::Build(heading)) => build(alloc, false, heading, input, output),
         Some(Command::List) => list(alloc, input, output),
         Some(Command::Check) => check(alloc, input, output),
         Some(Command::Get(key)) => get(alloc, key, input, output),
         Some(Command::Range(low, high)) => range(alloc, low, high, input, output),
         Some(Command::Set(key, value)) => set(alloc, key, value, input, output),
-        Some(Command::BuildStrict) => build(alloc, true, input, output),
+        Some(Command::BuildStrict(heading)) => build(alloc, true, heading, input, output),
         Some(Command::CheckStrict) => check_strict(alloc, input, output),
         Some(Command::Migrate) => migrate(alloc, input, output),
         None => Err(ProgramFault::Usage),
@@ -79,10 +82,11 @@ pub fn run<R: Read, W: Write>(
 fn build<R: Read, W: Write>(
     alloc: Global,
     is_strict: bool,
+    heading: Heading,
     input: &mut R,
     output: &mut W,
 ) -> Result<u8, ProgramFault>
-    ensures done { BuildsSo is_strict (R.remaining input.old) (W.contents output.old)
+    ensures done { BuildsSo is_strict heading (R.remaining input.old) (W.contents output.old)
         (W.contents output.new) result }
     ensures end { OnOk result (IsAtEnd (R.remaining input.new)) }
 {
@@ -90,7 +94,7 @@ fn build<R: Read, W: Write>(
         Ok(text) => text,
         Err(fault) => return Err(fault),
     };
-    let archive = match build::archive(alloc, is_strict, &text) {
+    let archive = match build::archive(alloc, is_strict, heading, &text) {
         Ok(archive) => archive,
         Err(fault) => return Err(fault),
     };
@@ -268,8 +272,12 @@ fn migrate<R: Read, W: Write>(
     ensures end { OnOk result (IsAtEnd (R.remaining input.new)) }
 {
     let archive = read_all(alloc, input)?;
+    let heading = tested_heading(&archive)?;
     let map = open(&archive)?;
-    let made = migrated(alloc, &map)?;
+    let made = match migrated(alloc, heading, &map) {
+        Ok(made) => made,
+        Err(fault) => return Err(fault),
+    };
     write_all(output, &made)?;
     Ok(0)
 }

@@ -1,3 +1,4 @@
+pub mod Begun
 pub mod Digits
 pub mod Once
 pub mod Pairs

@@ -1,5 +1,5 @@
 -- What the program's faults say, and which come from reading and from writing.
-use Rattle.std.specs.Prelude.{ℕ, List, ◌++◌, codes, decimal, alloc_error}
+use Rattle.std.specs.Prelude.{ℕ, List, ◌++◌, Option, Some, None, codes, decimal, alloc_error}
 use Rattle.std.specs.declared.alloc.AllocError.{AllocError}
 use Rattle.rkyv_btree_archive.specs.declared.try_build.TryFault.{TryFault}
 use Rattle.rkyv_btree_archive.specs.declared.try_build.TryFault.TheVariants.{Item, Build}
@@ -7,18 +7,23 @@ use Rattle.rkyv_btree_writer.specs.declared.fault.Fault.{Fault}
 use Rattle.rkyv_btree_writer.specs.declared.fault.Fault.TheVariants as building
 use Rattle.rkyv_btree_writer.specs.FaultText.{fault_text}
 use Rattle.rkyv_btree_portable.specs.RefusalText.{refusal_text}
+use Rattle.rkyv_btree_typed.specs.TypeHeader.{header_text}
+use Rattle.rkyv_btree_typed.specs.declared.header.HeaderFault.TheVariants.{OtherVersion as HasVersion}
 use Rattle.btreearc_lines.specs.declared.fault.ProgramFault.{ProgramFault}
-use Rattle.btreearc_lines.specs.declared.fault.ProgramFault.TheVariants.{Usage, Line, Refused, NotBuilt, InputFailed, OutputFailed, Memory}
+use Rattle.btreearc_lines.specs.declared.heading.HeadingFault.TheVariants.{OtherVersion, OtherType}
+use Rattle.btreearc_lines.specs.declared.fault.ProgramFault.TheVariants.{Usage, Line, Refused, Misheaded, NotBuilt, InputFailed, OutputFailed, Memory}
 
--- the line that is printed for a fault
-abbrev pub line_of : ProgramFault → List ℕ
-line_of Usage = codes "usage: btreearc build | list | get KEY | range LOW HIGH | check | set KEY VALUE | build-strict | check-strict | migrate"
-line_of (Line n) = codes "btreearc: line " ++ (decimal n ++ codes ": not KEY VALUE")
-line_of (Refused refusal) = codes "btreearc: refused: " ++ refusal_text refusal
-line_of (NotBuilt fault) = codes "btreearc: not built: " ++ fault_text fault
-line_of InputFailed = codes "btreearc: input failed"
-line_of OutputFailed = codes "btreearc: output failed"
-line_of Memory = codes "btreearc: out of memory"
+-- the line that is printed for a fault; the one with the names of two types isn't specified
+abbrev pub line_of : ProgramFault → Option (List ℕ)
+line_of Usage = Some (codes "usage: btreearc build [untyped] | list | get KEY | range LOW HIGH | check | set KEY VALUE | build-strict [untyped] | check-strict | migrate")
+line_of (Line n) = Some (codes "btreearc: line " ++ (decimal n ++ codes ": not KEY VALUE"))
+line_of (Refused refusal) = Some (codes "btreearc: refused: " ++ refusal_text refusal)
+line_of (Misheaded (OtherVersion version)) = Some (codes "btreearc: refused: " ++ header_text (HasVersion version))
+line_of (Misheaded (OtherType found)) = None
+line_of (NotBuilt fault) = Some (codes "btreearc: not built: " ++ fault_text fault)
+line_of InputFailed = Some (codes "btreearc: input failed")
+line_of OutputFailed = Some (codes "btreearc: output failed")
+line_of Memory = Some (codes "btreearc: out of memory")
 
 -- a fault of reading all input
 abbrev pub IsReadFault : ProgramFault → Type 0

@@ -1,4 +1,5 @@
 pub mod Faults
 pub mod Grammar
+pub mod Headings
 pub mod Reading
 pub mod Words

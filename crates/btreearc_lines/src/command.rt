@@ -1,11 +1,12 @@
 //! The commands, and the words that name them.
+use crate::heading::Heading;
 use crate::lines::whole_number;
 
 /// A command of the program.
 #[derive(Clone, Copy, Debug)]
 pub enum Command {
-    /// Archive the input's lines.
-    Build,
+    /// Archive the input's lines, with a header or without one.
+    Build(Heading),
     /// Write the lines of the input's archive.
     List,
     /// Write how many entries the input's archive has.
@@ -17,7 +18,7 @@ pub enum Command {
     /// Write the input's archive with the second number as the value of the first, which is a key.
     Set(u32, u32),
     /// Archive the input's lines, whose keys must increase.
-    BuildStrict,
+    BuildStrict(Heading),
     /// Write how many entries the input's archive has, whose keys must increase.
     CheckStrict,
     /// Write an archive of the last values of the input's archive, with increasing keys.
@@ -36,16 +37,18 @@ impl Command {
     {
         match args {
             [word] => match word.as_str() {
-                "build" => Some(Command::Build),
+                "build" => Some(Command::Build(Heading::Typed)),
                 "list" => Some(Command::List),
                 "check" => Some(Command::Check),
-                "build-strict" => Some(Command::BuildStrict),
+                "build-strict" => Some(Command::BuildStrict(Heading::Typed)),
                 "check-strict" => Some(Command::CheckStrict),
                 "migrate" => Some(Command::Migrate),
                 _ => None,
             },
-            [word, number] => match word.as_str() {
-                "get" => Some(Command::Get(whole_number(number)?)),
+            [word, second] => match (word.as_str(), second.as_str()) {
+                ("get", number) => Some(Command::Get(whole_number(number)?)),
+                ("build", "untyped") => Some(Command::Build(Heading::Untyped)),
+                ("build-strict", "untyped") => Some(Command::BuildStrict(Heading::Untyped)),
                 _ => None,
             },
             [word, first, second] => match word.as_str() {

@@ -1,9 +1,14 @@
 //! Why the program fails.
-ghost use Rattle.std.specs.Prelude.{◌≡◌, Some};
+ghost use Rattle.std.specs.Prelude.{◌≡◌};
 ghost use Rattle.btreearc_lines.specs.Faults.{in_memory, line_of, program_fault};
 
+use crate::heading::HeadingFault;
 use rkyv_btree_archive::try_build::TryFault;
+use rkyv_btree_portable::numbers::ArchivedU32;
 use rkyv_btree_portable::refusal::Refusal;
+use rkyv_btree_typed::header::HeaderFault;
+use rkyv_btree_typed::type_name::NameOf;
+use rkyv_btree_types::map::ArchivedBTreeMap;
 use rkyv_btree_writer::fault::Fault;
 use std::alloc::AllocError;
 use std::error::Error;
@@ -18,6 +23,8 @@ pub enum ProgramFault {
     Line(u64),
     /// The input is no archive.
     Refused(Refusal),
+    /// The input begins with a header that isn't the one of the program's type.
+    Misheaded(HeadingFault),
     /// The entries can't be archived.
     NotBuilt(Fault<AllocError>),
     /// A read failed.
@@ -29,16 +36,27 @@ pub enum ProgramFault {
 }
 
 impl fmt::Display for ProgramFault {
-    ghost output = { λ fault. Some (line_of fault) };
+    ghost output = { line_of };
 
     fn fmt<W: fmt::Write>(&self, f: &mut fmt::Formatter<W>) -> fmt::Result {
         match self {
             ProgramFault::Usage => write!(
                 f,
-                "usage: btreearc build | list | get KEY | range LOW HIGH | check | set KEY VALUE | build-strict | check-strict | migrate"
+                "usage: btreearc build [untyped] | list | get KEY | range LOW HIGH | check | set KEY VALUE | build-strict [untyped] | check-strict | migrate"
             ),
             ProgramFault::Line(line) => write!(f, "btreearc: line {line}: not KEY VALUE"),
             ProgramFault::Refused(refusal) => write!(f, "btreearc: refused: {refusal}"),
+            ProgramFault::Misheaded(HeadingFault::OtherVersion(version)) => {
+                let fault = HeaderFault::OtherVersion { version: *version };
+                write!(f, "btreearc: refused: {fault}")
+            }
+            ProgramFault::Misheaded(HeadingFault::OtherType(found)) => {
+                let expected = NameOf::<ArchivedBTreeMap<ArchivedU32, ArchivedU32, 5>>::new();
+                write!(
+                    f,
+                    "btreearc: refused: the bytes are of type {found}, not {expected}"
+                )
+            }
             ProgramFault::NotBuilt(fault) => write!(f, "btreearc: not built: {fault}"),
             ProgramFault::InputFailed => write!(f, "btreearc: input failed"),
             ProgramFault::OutputFailed => write!(f, "btreearc: output failed"),

@@ -5,6 +5,7 @@
 pub mod command;
 pub mod entries;
 pub mod fault;
+pub mod heading;
 pub mod lines;
 pub mod reopen;
 pub mod spool;

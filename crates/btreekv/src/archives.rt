@@ -6,6 +6,7 @@ use crate::system::{Ended, Names, System, bad_byte_of};
 use crate::words;
 use btreearc_lines::fault::ProgramFault;
 use btreearc_lines::streams::{read_all, write_all};
+use btreekv_commands::opening::ArchiveFault;
 use btreekv_commands::sidecar::sidecar;
 use btreekv_commands::update_fault::UpdateFault;
 use btreekv_commands::{differences, merging, updating};
@@ -17,9 +18,13 @@ fn fail(system: &System<'_>, archives: &[&str], fault: UpdateFault) -> Ended {
     match fault {
         UpdateFault::Line(line) => system.fail(nameless, &ProgramFault::Line(line)),
         UpdateFault::OutOfOrder(line) => system.out_of_order(None, line),
-        UpdateFault::Archive(which, refusal) => {
+        UpdateFault::Archive(which, fault) => {
             let name = archives.get(which).copied();
-            system.fail(Names::of_input(name), &ProgramFault::Refused(refusal))
+            let fault = match fault {
+                ArchiveFault::Misheaded(fault) => ProgramFault::Misheaded(fault),
+                ArchiveFault::Refused(refusal) => ProgramFault::Refused(refusal),
+            };
+            system.fail(Names::of_input(name), &fault)
         }
         UpdateFault::NotBuilt(fault) => system.fail(nameless, &ProgramFault::NotBuilt(fault)),
         UpdateFault::Memory => system.fail(nameless, &ProgramFault::Memory),

@@ -27,7 +27,7 @@ const MANY_BLOCKS: usize = 2048;
 
 /// A regular file as a source, whose size was asked for once: a lookup asks for it each time.
 #[derive(Drop)]
-struct SizedFile {
+pub(crate) struct SizedFile {
     source: SeekSource<File>,
     size: u64,
 }
@@ -56,7 +56,7 @@ impl ReadAt for SizedFile {
 }
 
 /// Returns a file as a source that keeps so many blocks.
-fn cached(
+pub(crate) fn cached(
     system: &System<'_>,
     file: File,
     blocks: usize,
@@ -69,20 +69,21 @@ fn cached(
 }
 
 /// Writes how much of an input was read, if the words ask for it.
-fn write_stats(system: &System<'_>, matches: &ArgMatches<'_>, read: u64, size: u64) {
+pub(crate) fn write_stats(system: &System<'_>, matches: &ArgMatches<'_>, read: u64, size: u64) {
     if matches.get_flag("stats") {
         let rt = system.rt;
         let _ = eprintln!(rt; "btreekv: {read} of {size} bytes read");
     }
 }
 
-/// Validates all of an input, and writes the line of a key's value.
-fn get_in_all<R: Read + Drop>(
+/// Validates all of an input, and writes what a command finds in it.
+pub(crate) fn in_all<R: Read + Drop>(
     system: &System<'_>,
+    name: &str,
     matches: &ArgMatches<'_>,
     input: R,
 ) -> Result<u8, ProgramFault> {
-    let Ok(command) = words::command_of(system.alloc(), "get", matches) else {
+    let Ok(command) = words::command_of(system.alloc(), name, matches) else {
         return Err(ProgramFault::Memory);
     };
     let mut input = Progress::new(system, input);
@@ -237,7 +238,7 @@ fn get_keys(system: &System<'_>, matches: &ArgMatches<'_>, keys: &str) -> Result
 }
 
 /// Returns whether a file is a regular one.
-fn is_regular(file: &File) -> bool {
+pub(crate) fn is_regular(file: &File) -> bool {
     match file.metadata() {
         Ok(metadata) => metadata.is_file(),
         Err(_) => false,
@@ -253,7 +254,7 @@ fn get_in_file(
     if is_regular(&file) && !matches.get_flag("validate") {
         get_in_parts(system, matches, file)
     } else {
-        get_in_all(system, matches, file)
+        in_all(system, "get", matches, file)
     }
 }
 
@@ -264,7 +265,7 @@ pub fn get(system: &System<'_>, matches: &ArgMatches<'_>) -> Result<u8, Ended> {
     }
     let path = matches.get_str("FILE");
     let done = match path {
-        None => get_in_all(system, matches, system.stdin()?),
+        None => in_all(system, "get", matches, system.stdin()?),
         Some(path) => {
             let file = system.open(path)?;
             get_in_file(system, matches, file)

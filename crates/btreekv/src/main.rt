@@ -6,6 +6,7 @@ mod files;
 mod lookups;
 mod output;
 mod progress;
+mod ranges;
 mod system;
 mod words;
 
@@ -48,9 +49,9 @@ fn build_lines<R: Reopen>(
     input: &R,
     output: Option<File>,
 ) -> Result<u8, ProgramFault> {
-    let is_strict = match command {
-        Command::Build => false,
-        Command::BuildStrict => true,
+    let (is_strict, heading) = match command {
+        Command::Build(heading) => (false, *heading),
+        Command::BuildStrict(heading) => (true, *heading),
         _ => return run_over(system, command, &mut input.reopen()?, output),
     };
     let alloc = system.alloc();
@@ -58,12 +59,12 @@ fn build_lines<R: Reopen>(
         let Ok(output) = BufWriter::with_capacity(alloc, WRITE_LEN, system.writing(file)) else {
             return Err(ProgramFault::Memory);
         };
-        return streaming::build(alloc, is_strict, input, output).0;
+        return streaming::build(alloc, is_strict, heading, input, output).0;
     }
     let Ok(output) = BufWriter::with_capacity(alloc, WRITE_LEN, system.stdout()) else {
         return Err(ProgramFault::Memory);
     };
-    streaming::build(alloc, is_strict, input, output).0
+    streaming::build(alloc, is_strict, heading, input, output).0
 }
 
 /// Writes the archive of the lines of an input that can be read again. An error names the first line that is no entry.
@@ -75,12 +76,12 @@ fn build_named<R: Reopen>(
     output: Option<File>,
 ) -> Result<u8, Ended> {
     match (build_lines(system, command, input, output), command) {
-        (Ok(status), Command::BuildFrom(_)) => Ok(status),
+        (Ok(status), Command::BuildFrom(_, _)) => Ok(status),
         (Ok(status), _) => {
             system.warn_of_returns(names.input, input);
             Ok(status)
         }
-        (Err(ProgramFault::Line(number)), Command::BuildFrom(form)) => {
+        (Err(ProgramFault::Line(number)), Command::BuildFrom(form, _)) => {
             Err(system.bad_record(names.input, number, *form))
         }
         (Err(fault), _) => Err(system.fail_at(names, input, &fault)),
@@ -224,6 +225,7 @@ fn status(system: &System<'_>) -> Result<u8, Ended> {
         "diff" => archives::diff(system, matches),
         "top" => archives::top(system, matches),
         "get" => lookups::get(system, matches),
+        "range" | "prefix" => ranges::run(system, name, matches),
         _ => one_file(system, name, matches),
     }
 }

@@ -2,10 +2,14 @@
 
 use crate::progress::Progress;
 use btreearc_lines::fault::ProgramFault;
+use btreearc_lines::heading::HeadingFault;
 use btreearc_lines::reopen::Reopen;
 use btreearc_lines::streams::read_line;
 use btreekv_commands::lines::bad_byte;
+use btreekv_commands::opening::Texts;
 use btreekv_commands::records::Records;
+use rkyv_btree_typed::header::HeaderFault;
+use rkyv_btree_typed::type_name::NameOf;
 use std::alloc::Global;
 use std::cell::Cell;
 use std::fs::{File, Metadata};
@@ -186,6 +190,16 @@ impl<'a> System<'a> {
                 eprintln!(rt; "btreekv: line {line}{of}: not KEY TAB VALUE")
             }
             ProgramFault::Refused(refusal) => eprintln!(rt; "btreekv: refused{name}: {refusal}"),
+            ProgramFault::Misheaded(HeadingFault::OtherVersion(version)) => {
+                let fault = HeaderFault::OtherVersion { version: *version };
+                eprintln!(rt; "btreekv: refused{name}: {fault}")
+            }
+            ProgramFault::Misheaded(HeadingFault::OtherType(found)) => {
+                let expected = NameOf::<Texts>::new();
+                eprintln!(rt;
+                    "btreekv: refused{name}: the bytes are of type {found}, not {expected}"
+                )
+            }
             ProgramFault::NotBuilt(fault) => eprintln!(rt; "btreekv: not built{name}: {fault}"),
             ProgramFault::InputFailed => {
                 let cause = Cause(self.read.get());

@@ -1,5 +1,6 @@
 //! The words of the command line.
 
+use btreearc_lines::heading::Heading;
 use btreekv_commands::command;
 use btreekv_commands::forms::Form;
 use btreekv_commands::records::Records;
@@ -120,11 +121,17 @@ fn build<'a>(alloc: Global) -> Result<Command<'a>, AllocError> {
         "ndjson",
         "read a JSON object a line, with key and value; sorted as by --sort",
     );
+    let untyped = flag(
+        alloc,
+        "untyped",
+        "leave out the header with the type's name",
+    );
     Command::new(alloc, "build")
         .about("write the archive of lines KEY TAB VALUE")
         .after_help(BUILD_EXAMPLES)
         .arg(sort.conflicts_with("strict")?)?
         .arg(flag(alloc, "strict", "fail unless the keys increase"))?
+        .arg(untyped)?
         .arg(escape.requires_arg("sort")?.conflicts_with("null")?)?
         .arg(null.requires_arg("sort")?)?
         .arg(
@@ -226,6 +233,17 @@ fn explain<'a>(alloc: Global) -> Result<Command<'a>, AllocError> {
         .arg(file(alloc))
 }
 
+/// Adds the flags of commands that don't read a file whole.
+fn with_reading<'a>(alloc: Global, command: Command<'a>) -> Result<Command<'a>, AllocError> {
+    command
+        .arg(flag(alloc, "validate", "validate all of FILE first"))?
+        .arg(flag(
+            alloc,
+            "stats",
+            "write to standard error how many bytes were read",
+        ))
+}
+
 /// Returns the words of `get`.
 fn get<'a>(alloc: Global) -> Result<Command<'a>, AllocError> {
     let keys = Arg::new(alloc, "keys-from")
@@ -239,14 +257,8 @@ fn get<'a>(alloc: Global) -> Result<Command<'a>, AllocError> {
     let command = Command::new(alloc, "get")
         .about("write the value of a key")
         .after_help(GET_EXAMPLES);
-    with_forms(alloc, command)?
+    with_reading(alloc, with_forms(alloc, command)?)?
         .arg(json.conflicts_with("escape")?.conflicts_with("null")?)?
-        .arg(flag(alloc, "validate", "validate all of FILE first"))?
-        .arg(flag(
-            alloc,
-            "stats",
-            "write to standard error how many bytes were read",
-        ))?
         .arg(
             keys.conflicts_with("json")?
                 .conflicts_with("escape")?
@@ -261,7 +273,7 @@ fn range<'a>(alloc: Global) -> Result<Command<'a>, AllocError> {
     let command = Command::new(alloc, "range").about(
         "write the lines of the keys from LOW to HIGH, both included",
     );
-    with_json_lines(alloc, with_forms(alloc, command)?)?
+    with_reading(alloc, with_json_lines(alloc, with_forms(alloc, command)?)?)?
         .arg(word(alloc, "LOW"))?
         .arg(word(alloc, "HIGH"))?
         .arg(file(alloc))
@@ -272,7 +284,7 @@ fn prefix<'a>(alloc: Global) -> Result<Command<'a>, AllocError> {
     let command = Command::new(alloc, "prefix").about(
         "write the lines of the keys that begin with TEXT",
     );
-    with_json_lines(alloc, with_forms(alloc, command)?)?
+    with_reading(alloc, with_json_lines(alloc, with_forms(alloc, command)?)?)?
         .arg(word(alloc, "TEXT"))?
         .arg(file(alloc))
 }
@@ -332,20 +344,30 @@ pub fn form_of(matches: &ArgMatches<'_>) -> Form {
     }
 }
 
+/// Returns what a file begins with that `build` writes.
+fn heading_of(matches: &ArgMatches<'_>) -> Heading {
+    if matches.get_flag("untyped") {
+        Heading::Untyped
+    } else {
+        Heading::Typed
+    }
+}
+
 /// Returns the command of the words of `build`.
 fn build_command(matches: &ArgMatches<'_>) -> command::Command {
+    let heading = heading_of(matches);
     if matches.get_flag("strict") {
-        command::Command::BuildStrict
+        command::Command::BuildStrict(heading)
     } else if matches.get_flag("escape") {
-        command::Command::BuildFrom(Records::Escaped)
+        command::Command::BuildFrom(Records::Escaped, heading)
     } else if matches.get_flag("null") {
-        command::Command::BuildFrom(Records::Null)
+        command::Command::BuildFrom(Records::Null, heading)
     } else if matches.get_flag("ndjson") {
-        command::Command::BuildFrom(Records::Json)
+        command::Command::BuildFrom(Records::Json, heading)
     } else if matches.get_flag("sort") {
-        command::Command::BuildSorted
+        command::Command::BuildSorted(heading)
     } else {
-        command::Command::Build
+        command::Command::Build(heading)
     }
 }
 

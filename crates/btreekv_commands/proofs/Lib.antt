@@ -13,6 +13,8 @@ pub mod LookedUp
 pub mod Merges
 pub mod NodeSizes
 pub mod Ordering
+pub mod Prefixed
+pub mod Ranging
 pub mod Recorded
 pub mod RoundTrip
 pub mod SidecarBytes
@@ -26,3 +28,4 @@ pub mod TopPieces
 pub mod TreeSums
 pub mod Unbuilt
 pub mod Updates
+pub mod WrittenFiles

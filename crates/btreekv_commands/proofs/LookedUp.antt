@@ -6,7 +6,7 @@ use Rattle.std.specs.Global.{Global}
 use Rattle.std.specs.Map.{lookup}
 use Rattle.std.specs.Option.{option_map}
 use Rattle.std.specs.Ordering.{nat_cmp}
-use Rattle.std.specs.Prelude.{is_some, String, string_bytes, Result}
+use Rattle.std.specs.Prelude.{is_some, String, string_bytes, Result, IfErr}
 use Rattle.rkyv_btree_portable.specs.Refusing.{RefusesWhole}
 use Rattle.rkyv_btree_portable.specs.Text.{text_kind}
 use Rattle.rkyv_btree_portable.specs.declared.refusal.Refusal.{Refusal}
@@ -26,8 +26,10 @@ use Rattle.btreearc_lines.specs.declared.fault.ProgramFault.TheVariants as faile
 use Rattle.btreekv_commands.specs.Commands.{found_in_archive, FoundValue, Outputs}
 use Rattle.btreekv_commands.specs.Forms.{value_line}
 use Rattle.btreekv_commands.specs.Lines.{Entry}
-use Rattle.btreekv_commands.specs.Opening.{texts, IsArchive, KeysIncrease}
-use Rattle.btreekv_commands.specs.Sourced.{found_line, value_at, AppendsFound, FailsToSearch, GivesValue, IsLookupFault, IsReadFailure, IsValueLine, SearchGives, WritesFound, lookup_fault}
+use Rattle.btreekv_commands.specs.Opening.{texts, texts_name, HasFitHeading, IsArchive, KeysIncrease}
+use Rattle.btreearc_lines.specs.Headings.{IsMisheaded}
+use Rattle.btreearc_lines.specs.declared.heading.HeadingFault.{HeadingFault}
+use Rattle.btreekv_commands.specs.Sourced.{found_line, value_at, AppendsFound, FailsToSearch, GivesValue, IfMisheaded, IsLookupFault, IsReadFailure, IsUnopenedSource, IsValueLine, SearchGives, WritesFound, first_bytes, lookup_fault}
 use Rattle.btreekv_commands.specs.declared.forms.Form.{Form}
 
 -- what holds of each refusal holds of the program's error
@@ -36,6 +38,13 @@ faults_so P Q on (Refused e) h = on e h
 faults_so P Q on (Read e) h = tt
 faults_so P Q on (NoRoom n) h = tt
 faults_so P Q on OverBudget h = tt
+
+-- and of a source that isn't opened
+pub unopened_so : {E : Type 0} (b : List ℕ) (fault : SourceFault E) → IfRefused (λ refusal. (refusal ≡ TooLong) × (4294967295 < length b)) fault → IsUnopenedSource b (lookup_fault fault)
+unopened_so b (Refused e) h = h
+unopened_so b (Read e) h = tt
+unopened_so b (NoRoom n) h = tt
+unopened_so b OverBudget h = tt
 
 -- a failed read has its cause
 pub failed_so : {E : Type 0} (P : E → Type 0) (end node room left : ℕ) (fault : SourceFault E) → IfRead P fault → IsCaused end node room left fault → IsReadFailure P end left (lookup_fault fault)
@@ -93,21 +102,48 @@ module _ (b key : List ℕ) (at : ℕ) (place : at ≡ own_at texts b) where
         (λ e h. subst (λ p. LookupGives text_kind text_kind 5 b (slice_cmp nat_cmp key) (RefusesWhole text_kind) (RefusesWhole text_kind) p (Err e)) place h) fault refuses;
   }
 
--- bytes that positions don't reach are no archive
-pub gives_too_long : (b key : List ℕ) {Z : Type 0} (fault : ProgramFault) → IsLookupFault (λ e. (e ≡ TooLong) × (4294967295 < length b)) fault → GivesValue b key {Z = Z} (Err fault)
-gives_too_long b key {Z} (failed.Refused e) h = subst (λ r. GivesValue b key {Z = Z} (Err (failed.Refused r))) (sym h.0) (record {
+-- a source that isn't opened: bytes that positions don't reach are no archive
+pub gives_unopened : (b key : List ℕ) {Z : Type 0} (fault : ProgramFault) → HasFitHeading (first_bytes b) → IsUnopenedSource b fault → GivesValue b key {Z = Z} (Err fault)
+gives_unopened b key {Z} (failed.Refused e) fit h = subst (λ r. GivesValue b key {Z = Z} (Err (failed.Refused r))) (sym h.0) (record {
   sorted = λ entries is increase. tt;
   archived = λ entries is. tt;
   accepts = λ entries is. let short = is.means.short in absurd (omega (arith, short, h.1));
   places = tt;
   refuses = unreached b key h.1;
 })
-gives_too_long b key failed.InputFailed h = record { sorted = λ entries is increase. tt; archived = λ entries is. tt; accepts = λ entries is. tt; places = tt; refuses = tt }
-gives_too_long b key failed.Memory h = record { sorted = λ entries is increase. tt; archived = λ entries is. tt; accepts = λ entries is. tt; places = tt; refuses = tt }
-gives_too_long b key failed.Usage h = absurd h
-gives_too_long b key (failed.Line n) h = absurd h
-gives_too_long b key (failed.NotBuilt f) h = absurd h
-gives_too_long b key failed.OutputFailed h = absurd h
+gives_unopened b key (failed.Misheaded f) fit h = absurd (h.none fit.0 fit.1)
+gives_unopened b key failed.InputFailed fit h = record { sorted = λ entries is increase. tt; archived = λ entries is. tt; accepts = λ entries is. tt; places = tt; refuses = tt }
+gives_unopened b key failed.Memory fit h = record { sorted = λ entries is increase. tt; archived = λ entries is. tt; accepts = λ entries is. tt; places = tt; refuses = tt }
+gives_unopened b key failed.Usage fit h = absurd h
+gives_unopened b key (failed.Line n) fit h = absurd h
+gives_unopened b key (failed.NotBuilt f) fit h = absurd h
+gives_unopened b key failed.OutputFailed fit h = absurd h
+
+-- another header has its cause
+pub unopened_misheaded : (b : List ℕ) (fault : ProgramFault) → IsUnopenedSource b fault → IfMisheaded (IsMisheaded texts_name (first_bytes b)) fault
+unopened_misheaded b (failed.Misheaded f) h = h
+unopened_misheaded b (failed.Refused e) h = tt
+unopened_misheaded b failed.InputFailed h = tt
+unopened_misheaded b failed.Memory h = tt
+unopened_misheaded b failed.Usage h = tt
+unopened_misheaded b (failed.Line n) h = tt
+unopened_misheaded b (failed.NotBuilt f) h = tt
+unopened_misheaded b failed.OutputFailed h = tt
+
+-- and no look-up has one
+never_misheaded : (P : Refusal → Type 0) (Q : HeadingFault → Type 0) (fault : ProgramFault) → IsLookupFault P fault → IfMisheaded Q fault
+never_misheaded P Q (failed.Misheaded f) h = absurd h
+never_misheaded P Q (failed.Refused e) h = tt
+never_misheaded P Q failed.InputFailed h = tt
+never_misheaded P Q failed.Memory h = tt
+never_misheaded P Q failed.Usage h = tt
+never_misheaded P Q (failed.Line n) h = tt
+never_misheaded P Q (failed.NotBuilt f) h = tt
+never_misheaded P Q failed.OutputFailed h = tt
+
+pub value_headed : (b key : List ℕ) (Q : HeadingFault → Type 0) {Z : Type 0} (result : Result (Option (String Z)) ProgramFault) → GivesValue b key result → IfErr result (IfMisheaded Q)
+value_headed b key Q (Ok value) gives = tt
+value_headed b key Q (Err fault) gives = never_misheaded (λ refusal. SearchGives b key (Err refusal)) Q fault gives.refuses
 
 value_is : (write : List ℕ → List ℕ) (o : Option Entry) (value : Option (List ℕ)) (text : List ℕ) (status : ℕ) → value ≡ option_map (λ (e : Entry). e.1) o
     → IsValueLine write value text status → FoundValue write o text status
@@ -120,7 +156,7 @@ module _ (b : List ℕ) (key : String Global) (text : List ℕ) (status : ℕ) w
   pub writes_found : (form : Form) (value : Option (String Global)) → GivesValue b (string_bytes key) (Ok value) → IsValueLine (value_line form) (option_map string_bytes value) text status
       → WritesFound b form key text status
   writes_found form value gives line = record {
-    archived = λ entries is. ((entries, is), value_is (value_line form) (found_in_archive b (string_bytes key)) (option_map string_bytes value) text status (gives.archived entries is) line);
+    archived = λ entries is. ((entries, is), value_is (value_line form) (found_in_archive b (string_bytes key)) (option_map string_bytes value) text status (gives.archived entries is.1) line);
     places = (gives.places.0, gives.places.1, subst (λ o. IsValueLine (value_line form) o text status) gives.places.2 line);
   }
 

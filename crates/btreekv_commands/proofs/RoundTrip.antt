@@ -73,4 +73,4 @@ updated_by_lines old new text updated d back u =
     let list : changed_entries u.entries u.changes ≡ d.others =
     ap (λ (es : List Entry). changed_entries es u.changes) entries
     ∙ (ap (λ (cs : List TextChange). changed_entries d.entries cs) changes ∙ d.leads.leads) in
-    subst (λ (es : List Entry). IsStrictArchive updated es) list u.new
+    subst (λ (es : List Entry). IsStrictArchive updated es) list u.new.1

@@ -24,15 +24,19 @@ use Rattle.rkyv_btree_writing_laws.specs.Serialising.{BuildFault, RootFault, Ser
 use Rattle.rkyv_btree_portable.specs.Text.{text_kind}
 use Rattle.rkyv_btree_writer.specs.TextArchival.{text_archival}
 use Rattle.rkyv_btree_writing_laws.specs.TreeArchival.{tree_archival}
-use Rattle.rkyv_btree_writing_laws.specs.Whole.{IsUnplaced, IsUnarchived, fresh}
+use Rattle.rkyv_btree_writing_laws.specs.Whole.{IsUnplaced}
 use Rattle.rkyv_btree_writer.specs.Writing.{Writing, Write, AllReach, appended, last_end, position}
 use Rattle.rkyv_btree_portable.specs.laws.Rounding.{le-round_up}
 use Rattle.rkyv_btree_portable.specs.laws.TextLaws.{text_laws}
 use Rattle.rkyv_btree_writing_laws.proofs.TreeSerialised.{list_serialised, list_unserialised}
 use Rattle.rkyv_btree_writer.proofs.WriteRuns.{AllReach-both, appended-append, stopped_past, stopped_stray}
-use Rattle.btreekv_commands.specs.Building.{Native, entries_archival, IsTried, IsUnbuilt}
+use Rattle.btreekv_commands.specs.Building.{Native, bytes_archival, entries_archival, IsTriedAfter, IsUnbuiltMap}
+use Rattle.btreearc_lines.specs.Headings.{begun as begun_file}
+use Rattle.btreearc_lines.specs.declared.heading.Heading.{Heading}
+use Rattle.btreekv_commands.specs.Texts.{texts_of}
+use Rattle.btreekv_commands.specs.Files.{IsUnwrittenAfter, IsWrittenAfter}
 use Rattle.btreekv_commands.specs.Lines.{Entry as TextEntry}
-use Rattle.btreekv_commands.specs.Opening.{texts}
+use Rattle.btreekv_commands.specs.Opening.{texts, texts_name}
 use Rattle.btreekv_commands.specs.Reading.{GivesEntry}
 use Rattle.btreekv_commands.proofs.Taken.{Left, all_taken, drained}
 use Rattle.rkyv_btree_archive.specs.TryBuilding.{OkSteps, TryFaulted, IsItemOrMiscount}
@@ -40,6 +44,8 @@ use Rattle.rkyv_btree_archive.specs.declared.try_build.TryFault.{TryFault}
 use Rattle.rkyv_btree_archive.specs.declared.try_build.TryFault.TheVariants.{Item, Build}
 use Rattle.btreearc_lines.specs.declared.fault.ProgramFault.{ProgramFault}
 use Rattle.btreekv_commands.proofs.Fits.{texts_fit}
+use Rattle.btreekv_commands.proofs.WrittenFiles.{map_placed}
+use Rattle.rkyv_btree_writing_laws.specs.Building.{IsRootWritten}
 
 -- The map after a tree.
 
@@ -107,7 +113,7 @@ not_past n none =
 abbrev Bytes : Archival (List ℕ) ℕ
 Bytes = text_archival (λ bytes. bytes)
 
-module _ (archived : IsArchived Bytes) (causes : HasCauses Bytes) {S : Type 0} (left : S → ℕ) (known : S → Option (List ℕ)) (iter : S) (entries : List TextEntry) (is : Left left known iter entries) (from : Writing) (start : from ≡ fresh) where
+module _ (archived : IsArchived Bytes) (causes : HasCauses Bytes) {S : Type 0} (left : S → ℕ) (known : S → Option (List ℕ)) (iter : S) (entries : List TextEntry) (is : Left left known iter entries) (from : Writing) where
   abbrev Steps : S → Option TextEntry → S → Type 0
   Steps = OkSteps (GivesEntry left known)
 
@@ -121,24 +127,37 @@ module _ (archived : IsArchived Bytes) (causes : HasCauses Bytes) {S : Type 0} (
   given items drains = drained left known iter items entries is drains
 
   -- why it isn't written
-  pub unbuilt : {E : Type 0} (count : ℕ) → count ≡ length entries → (fault : Fault E) (t : Writing) → (count ≡ 0 → IsMiscount fault) → BuildFault text_kind text_kind 5 Bytes Bytes lends Steps iter count from fault t → IsUnbuilt entries fault
+  pub unbuilt : {E : Type 0} (count : ℕ) → count ≡ length entries → (fault : Fault E) (t : Writing) → (count ≡ 0 → IsMiscount fault) → BuildFault text_kind text_kind 5 Bytes Bytes lends Steps iter count from fault t → IsUnwrittenAfter bytes_archival texts from entries fault
   unbuilt {E} count all fault t none h =
       let why : IsUnserialised (entries_archival (λ bytes. bytes)) entries from fault t =
       list_unserialised 5 text_kind text_kind Bytes Bytes (itself text_kind) (itself text_kind) text_laws text_laws texts_fit (λ es. es) entries from t lends Steps iter count given archived archived causes causes begun all (Err fault) none h in
-      inl (t, subst (λ (w : Writing). IsUnserialised (entries_archival (λ bytes. bytes)) entries w fault t) start why)
+      inl (t, why)
 
   -- the map isn't written after it
-  pub rootless : {E : Type 0} (count : ℕ) → count ≡ length entries → (root : ℕ) (s t : Writing) (fault : Fault E) → count ≤ last_end → Serialised text_kind text_kind 5 Bytes Bytes lends Steps iter count from root s → RootFault root count s fault t → IsUnbuilt entries fault
+  pub rootless : {E : Type 0} (count : ℕ) → count ≡ length entries → (root : ℕ) (s t : Writing) (fault : Fault E) → count ≤ last_end → Serialised text_kind text_kind 5 Bytes Bytes lends Steps iter count from root s → RootFault root count s fault t → IsUnwrittenAfter bytes_archival texts from entries fault
   rootless {E} count all root s t fault few built h =
       let result : Result ℕ (Fault E) = Ok root in
       let written : Serialises (entries_archival (λ bytes. bytes)) entries from s root =
       list_serialised 5 text_kind text_kind Bytes Bytes (itself text_kind) (itself text_kind) text_laws text_laws texts_fit (λ es. es) entries from s lends Steps iter count given result built in
       let fewer : length entries ≤ last_end = subst (λ (n : ℕ). n ≤ last_end) all few in
       let why : RootFault root (length entries) s fault t = subst (λ (n : ℕ). RootFault root n s fault t) all h in
-      inr (s, root, subst (λ (w : Writing). Serialises (entries_archival (λ bytes. bytes)) entries w s root) start written, unplaced (λ bytes. bytes) entries root s fault t fewer why)
+      inr (s, root, written, unplaced (λ bytes. bytes) entries root s fault t fewer why)
+
+  -- the tree and the map are written
+  pub entries_written : (count : ℕ) → count ≡ length entries → (root : ℕ) (s t : Writing) (at : ℕ) → Serialised text_kind text_kind 5 Bytes Bytes lends Steps iter count from root s → IsRootWritten count root s t at → IsWrittenAfter bytes_archival texts from entries t.contents
+  entries_written count all root s t at built over =
+      let result : Result ℕ (Fault AllocError) = Ok root in record {
+        written = s;
+        resolver = root;
+        serialised = list_serialised 5 text_kind text_kind Bytes Bytes (itself text_kind) (itself text_kind) text_laws text_laws texts_fit (λ es. es) entries from s lends Steps iter count given result built;
+        at = at;
+        end = t;
+        placed = map_placed entries count root s t at all over;
+        whole = refl;
+      }
 
   -- why it isn't written of lines that are read
-  pub tried : {E : Type 0} (count : ℕ) → count ≡ length entries → (fault : TryFault E ProgramFault) (t : Writing) → (count ≡ 0 → IsItemOrMiscount fault) → TryFaulted text_kind text_kind 5 Bytes Bytes lends (GivesEntry left known) iter count from t fault → IsTried entries fault
+  pub tried : {E : Type 0} (count : ℕ) → count ≡ length entries → (fault : TryFault E ProgramFault) (t : Writing) → (count ≡ 0 → IsItemOrMiscount fault) → TryFaulted text_kind text_kind 5 Bytes Bytes lends (GivesEntry left known) iter count from t fault → IsTriedAfter from entries fault
   tried count all (Item fault) t none h = h.met
   tried count all (Build fault) t none h = unbuilt count all fault t none h
 
@@ -146,11 +165,11 @@ abbrev Texts : Archival (String Global) ℕ
 Texts = text_archival string_bytes
 
 -- A value whose entries these are has no archive for the same causes.
-module _ {X : Type 0} (entries : X → List Native) (x : X) where
+module _ {X : Type 0} (entries : X → List Native) (x : X) (from : Writing) where
   abbrev whole : Archival X ℕ
   whole = tree_archival 5 Texts Texts entries
 
-  same_unserialised : (fault : Fault AllocError) (t : Writing) → IsUnserialised whole x fresh fault t → IsUnserialised (entries_archival string_bytes) (entries x) fresh fault t
+  same_unserialised : (fault : Fault AllocError) (t : Writing) → IsUnserialised whole x from fault t → IsUnserialised (entries_archival string_bytes) (entries x) from fault t
   same_unserialised (Length m) t h = h
   same_unserialised LengthOverflow t h = h
   same_unserialised PositionOverflow t h = h
@@ -170,6 +189,10 @@ module _ {X : Type 0} (entries : X → List Native) (x : X) where
   same_unplaced r at (Entry fault) h = h
   same_unplaced r at (OutOfOrder index) h = h
 
-  pub same_unarchived : (fault : Fault AllocError) → IsUnarchived whole texts x fault → IsUnarchived (entries_archival string_bytes) texts (entries x) fault
-  same_unarchived fault (inl h) = inl (h.0, same_unserialised fault h.0 h.1)
-  same_unarchived fault (inr h) = inr (h.0, h.1, h.2, same_unplaced h.1 (round_up (position h.0) 4) fault h.3)
+  pub same_unwritten : (fault : Fault AllocError) → IsUnwrittenAfter whole texts from x fault → IsUnwrittenAfter (entries_archival string_bytes) texts from (entries x) fault
+  same_unwritten fault (inl h) = inl (h.0, same_unserialised fault h.0 h.1)
+  same_unwritten fault (inr h) = inr (h.0, h.1, h.2, same_unplaced h.1 (round_up (position h.0) 4) fault h.3)
+
+  -- so a std map isn't written after a heading
+  pub map_unbuilt : (heading : Heading) → from ≡ begun_file texts_name heading → (fault : Fault AllocError) → IsUnwrittenAfter whole texts from x fault → IsUnbuiltMap heading (map texts_of (entries x)) fault
+  map_unbuilt heading start fault h = (entries x, refl, inr (subst (λ (w : Writing). IsUnwrittenAfter (entries_archival string_bytes) texts w (entries x) fault) start (same_unwritten fault h)))

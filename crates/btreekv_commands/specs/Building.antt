@@ -10,13 +10,15 @@ use Rattle.rkyv_btree_writer.specs.declared.fault.Fault.TheVariants.{OutOfOrder}
 use Rattle.rkyv_btree_format.specs.Increasing.{IsOutOfOrder}
 use Rattle.rkyv_btree_writer.specs.TextArchival.{text_archival}
 use Rattle.rkyv_btree_writing_laws.specs.TreeArchival.{tree_archival}
-use Rattle.rkyv_btree_writing_laws.specs.Whole.{IsUnarchived}
+use Rattle.rkyv_btree_writer.specs.Writing.{Writing}
 use Rattle.rkyv_btree_archive.specs.declared.try_build.TryFault.{TryFault}
 use Rattle.rkyv_btree_archive.specs.declared.try_build.TryFault.TheVariants.{Item, Build}
 use Rattle.rkyv_btree_convert.specs.Maps.{last_wins}
 use Rattle.btreearc_lines.specs.Faults.{IsReadFault}
 use Rattle.btreearc_lines.specs.declared.fault.ProgramFault.{ProgramFault}
 use Rattle.btreearc_lines.specs.declared.fault.ProgramFault.TheVariants.{NotBuilt}
+use Rattle.btreearc_lines.specs.declared.heading.Heading.{Heading}
+use Rattle.btreekv_commands.specs.Files.{IsFile, IsUnmade, IsUnwrittenAfter, IsWhole}
 use Rattle.btreekv_commands.specs.Lines.{Entry}
 use Rattle.btreekv_commands.specs.Opening.{texts}
 use Rattle.btreekv_commands.specs.Texts.{texts_of}
@@ -32,13 +34,28 @@ Native = String Global × String Global
 abbrev pub entries_archival : {X : Type 0} → (X → List ℕ) → Archival (List (X × X)) ℕ
 entries_archival text = tree_archival 5 (text_archival text) (text_archival text) (λ entries. entries)
 
--- why texts of these bytes have no archive
-abbrev pub IsUnbuilt : {E : Type 0} → List Entry → Fault E → Type 0
-IsUnbuilt entries fault = IsUnarchived (entries_archival (λ bytes. bytes)) texts entries fault
+abbrev pub bytes_archival : Archival (List Entry) ℕ
+bytes_archival = entries_archival (λ bytes. bytes)
+
+-- bytes are the file of texts of these bytes: it means them, and is what the builder writes
+pub record IsBuilt (heading : Heading) (bytes : List ℕ) (entries : List Entry) : Type 0 where
+  pub file : IsFile heading bytes entries
+  pub whole : IsWhole bytes_archival heading entries bytes
+
+-- bytes are the file of the entries of a std map, whose texts have these bytes
+pub record IsBuiltMap (heading : Heading) (bytes : List ℕ) (entries : List Entry) : Type 0 where
+  pub file : IsFile heading bytes entries
+  pub native : List Native
+  pub texts_are : map texts_of native ≡ entries
+  pub whole : IsWhole (entries_archival string_bytes) heading native bytes
+
+-- why texts of these bytes have no file
+abbrev pub IsUnbuilt : {E : Type 0} → Heading → List Entry → Fault E → Type 0
+IsUnbuilt heading entries fault = IsUnmade bytes_archival heading entries fault
 
 -- why the entries of a std map have none, whose texts have these bytes
-abbrev pub IsUnbuiltMap : List Entry → Fault AllocError → Type 0
-IsUnbuiltMap entries fault = (native : List Native) × (map texts_of native ≡ entries) × IsUnarchived (entries_archival string_bytes) texts native fault
+abbrev pub IsUnbuiltMap : Heading → List Entry → Fault AllocError → Type 0
+IsUnbuiltMap heading entries fault = (native : List Native) × (map texts_of native ≡ entries) × IsUnmade (entries_archival string_bytes) heading native fault
 
 -- an entry is the first out of order
 abbrev pub IsOutOfOrderAt : List Entry → Fault AllocError → Type 0
@@ -46,9 +63,9 @@ IsOutOfOrderAt entries (OutOfOrder index) = IsOutOfOrder (slice_cmp nat_cmp) ent
 IsOutOfOrderAt entries fault = ⊥
 
 -- why they have none whose keys increase: an entry is the first out of order, or one of these causes
-abbrev pub IsUnbuiltInOrder : List Entry → Fault AllocError → Type 0
-IsUnbuiltInOrder entries (OutOfOrder index) = IsOutOfOrder (slice_cmp nat_cmp) entries index
-IsUnbuiltInOrder entries fault = IsUnbuilt entries fault
+abbrev pub IsUnbuiltInOrder : Heading → List Entry → Fault AllocError → Type 0
+IsUnbuiltInOrder heading entries (OutOfOrder index) = IsOutOfOrder (slice_cmp nat_cmp) entries index
+IsUnbuiltInOrder heading entries fault = IsUnbuilt heading entries fault
 
 -- an error of building an archive
 abbrev pub IsBuildFault : (Fault AllocError → Type 0) → ProgramFault → Type 0
@@ -61,6 +78,13 @@ IsReadOrBuildFault Unbuilt (NotBuilt fault) = Unbuilt fault
 IsReadOrBuildFault Unbuilt fault = IsReadFault fault
 
 -- an error of building an archive of so many entries from a reader: why they have none, or reading has failed
-abbrev pub IsTried : {E : Type 0} → List Entry → TryFault E ProgramFault → Type 0
-IsTried entries (Item fault) = IsReadFault fault
-IsTried entries (Build fault) = IsUnbuilt entries fault
+abbrev pub IsTriedBy : {E : Type 0} → (Fault E → Type 0) → TryFault E ProgramFault → Type 0
+IsTriedBy Unbuilt (Item fault) = IsReadFault fault
+IsTriedBy Unbuilt (Build fault) = Unbuilt fault
+
+abbrev pub IsTried : {E : Type 0} → Heading → List Entry → TryFault E ProgramFault → Type 0
+IsTried {E} heading entries fault = IsTriedBy {E = E} (IsUnbuilt heading entries) fault
+
+-- the same after what a writer holds
+abbrev pub IsTriedAfter : {E : Type 0} → Writing → List Entry → TryFault E ProgramFault → Type 0
+IsTriedAfter {E} from entries fault = IsTriedBy {E = E} (IsUnwrittenAfter bytes_archival texts from entries) fault

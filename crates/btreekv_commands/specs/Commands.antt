@@ -13,13 +13,15 @@ use Rattle.rkyv_btree_format.specs.OwnBytes.{own_at}
 use Rattle.rkyv_btree_walk.specs.Bounds.{IsRun, IsWithin}
 use Rattle.rkyv_btree_view.specs.Lookup.{found_at}
 use Rattle.btreearc_lines.specs.declared.fault.ProgramFault.{ProgramFault}
-use Rattle.btreearc_lines.specs.declared.fault.ProgramFault.TheVariants.{Line, Refused, NotBuilt, InputFailed, OutputFailed, Memory}
-use Rattle.btreekv_commands.specs.Building.{last_values, IsUnbuilt, IsUnbuiltInOrder, IsUnbuiltMap}
+use Rattle.btreearc_lines.specs.declared.fault.ProgramFault.TheVariants.{Line, Refused, Misheaded, NotBuilt, InputFailed, OutputFailed, Memory}
+use Rattle.btreearc_lines.specs.Headings.{IsMisheaded}
+use Rattle.btreearc_lines.specs.declared.heading.Heading.{Heading}
+use Rattle.btreekv_commands.specs.Building.{last_values, IsBuilt, IsBuiltMap, IsUnbuilt, IsUnbuiltInOrder, IsUnbuiltMap}
 use Rattle.btreekv_commands.specs.Figures.{archive_figures, figures}
 use Rattle.btreekv_commands.specs.Forms.{text_in, value_line}
 use Rattle.btreekv_commands.specs.Json.{json_object}
 use Rattle.btreekv_commands.specs.Lines.{Entry, AreLines, IsBadLine}
-use Rattle.btreekv_commands.specs.Opening.{texts, IsArchive, KeysIncrease, CountsStrict, RefusesArchive, RefusesStrictArchive}
+use Rattle.btreekv_commands.specs.Opening.{texts, texts_name, IsInput, KeysIncrease, CountsStrict, RefusesArchive, RefusesStrictArchive}
 use Rattle.btreekv_commands.specs.Prefixes.{HasPrefix}
 use Rattle.btreekv_commands.specs.Records.{AreRecords, IsBadRecord}
 use Rattle.btreekv_commands.specs.declared.records.Records.{Records}
@@ -47,32 +49,32 @@ pub record IsBetween (low high : List ℕ) (entries within : List Entry) : Type 
 
 -- what a command writes of an input, and its status
 abbrev pub Outputs : Command → List ℕ → List ℕ → ℕ → Type 0
-Outputs Build input text status = (status ≡ 0) × ((entries : List Entry) × AreLines input entries × IsArchive text entries)
-Outputs BuildStrict input text status =
-    (status ≡ 0) × ((entries : List Entry) × AreLines input entries × IsArchive text entries × KeysIncrease entries)
-Outputs BuildSorted input text status =
+Outputs (Build heading) input text status = (status ≡ 0) × ((entries : List Entry) × AreLines input entries × IsBuilt heading text entries)
+Outputs (BuildStrict heading) input text status =
+    (status ≡ 0) × ((entries : List Entry) × AreLines input entries × IsBuilt heading text entries × KeysIncrease entries)
+Outputs (BuildSorted heading) input text status =
     (status ≡ 0) × ((entries : List Entry) × AreLines input entries
-    × IsArchive text (last_values entries) × KeysIncrease (last_values entries))
-Outputs (BuildFrom form) input text status =
+    × IsBuiltMap heading text (last_values entries) × KeysIncrease (last_values entries))
+Outputs (BuildFrom form heading) input text status =
     (status ≡ 0) × ((entries : List Entry) × AreRecords form input entries
-    × IsArchive text (last_values entries) × KeysIncrease (last_values entries))
-Outputs (ListEntries form) input text status = (status ≡ 0) × ((entries : List Entry) × IsArchive input entries × (text ≡ text_in form entries))
+    × IsBuiltMap heading text (last_values entries) × KeysIncrease (last_values entries))
+Outputs (ListEntries form) input text status = (status ≡ 0) × ((entries : List Entry) × IsInput input entries × (text ≡ text_in form entries))
 Outputs ListJson input text status =
-    (status ≡ 0) × ((entries : List Entry) × IsArchive input entries × (text ≡ json_object entries ++ 10 ∷ []))
-Outputs Check input text status = (status ≡ 0) × ((entries : List Entry) × IsArchive input entries × (text ≡ total (length entries)))
+    (status ≡ 0) × ((entries : List Entry) × IsInput input entries × (text ≡ json_object entries ++ 10 ∷ []))
+Outputs Check input text status = (status ≡ 0) × ((entries : List Entry) × IsInput input entries × (text ≡ total (length entries)))
 Outputs CheckStrict input text status = (status ≡ 0) × ((count : ℕ) × CountsStrict input count × (text ≡ total count))
 Outputs Stat input text status =
-    (status ≡ 0) × ((entries : List Entry) × (is : IsArchive input entries)
-    × (text ≡ figures (length entries) (archive_figures input entries is) (length input)))
-Outputs Explain input text status = (status ≡ 0) × ((entries : List Entry) × IsArchive input entries)
+    (status ≡ 0) × ((entries : List Entry) × (is : IsInput input entries)
+    × (text ≡ figures (length entries) (archive_figures input entries is.1) (length input)))
+Outputs Explain input text status = (status ≡ 0) × ((entries : List Entry) × IsInput input entries)
 Outputs (Get key form) input text status =
-    ((entries : List Entry) × IsArchive input entries)
+    ((entries : List Entry) × IsInput input entries)
     × FoundValue (value_line form) (found_in_archive input (string_bytes key)) text status
 Outputs (Range low high form) input text status =
-    (status ≡ 0) × ((entries within : List Entry) × IsArchive input entries
+    (status ≡ 0) × ((entries within : List Entry) × IsInput input entries
     × IsBetween (string_bytes low) (string_bytes high) entries within × (text ≡ text_in form within))
 Outputs (Prefix prefix form) input text status =
-    (status ≡ 0) × ((entries within : List Entry) × IsArchive input entries
+    (status ≡ 0) × ((entries within : List Entry) × IsInput input entries
     × HasPrefix (string_bytes prefix) entries within × (text ≡ text_in form within))
 
 -- why an archive isn't built of an input: its first bad line, or why its entries have no archive; or reading it failed, or
@@ -85,25 +87,26 @@ FailsToBuild Unbuilt input Memory = Unit {0}
 FailsToBuild Unbuilt input _ = ⊥
 
 -- why an archive isn't built of records: the first bad one, or why their entries have no archive; or there is no memory
-abbrev pub FailsToBuildFrom : Records → List ℕ → ProgramFault → Type 0
-FailsToBuildFrom form input (Line n) = IsBadRecord form input n
-FailsToBuildFrom form input (NotBuilt fault) =
-    (entries : List Entry) × AreRecords form input entries × IsUnbuiltMap (last_values entries) fault
-FailsToBuildFrom form input Memory = Unit {0}
-FailsToBuildFrom form input _ = ⊥
+abbrev pub FailsToBuildFrom : Records → Heading → List ℕ → ProgramFault → Type 0
+FailsToBuildFrom form heading input (Line n) = IsBadRecord form input n
+FailsToBuildFrom form heading input (NotBuilt fault) =
+    (entries : List Entry) × AreRecords form input entries × IsUnbuiltMap heading (last_values entries) fault
+FailsToBuildFrom form heading input Memory = Unit {0}
+FailsToBuildFrom form heading input _ = ⊥
 
--- why an archive isn't read: the first error of bytes that are none; or there is no memory
+-- why an archive isn't read: another header comes first, or the first error of bytes that are none; or there is no memory
 abbrev pub FailsToRead : (List ℕ → Refusal → Type 0) → List ℕ → ProgramFault → Type 0
 FailsToRead Refuses input (Refused refusal) = Refuses input refusal
+FailsToRead Refuses input (Misheaded fault) = IsMisheaded texts_name input fault
 FailsToRead Refuses input Memory = Unit {0}
 FailsToRead Refuses input _ = ⊥
 
 -- why a command has no output for an input
 abbrev pub Fails : Command → List ℕ → ProgramFault → Type 0
-Fails Build input fault = FailsToBuild IsUnbuilt input fault
-Fails BuildStrict input fault = FailsToBuild IsUnbuiltInOrder input fault
-Fails BuildSorted input fault = FailsToBuild (λ entries. IsUnbuiltMap (last_values entries)) input fault
-Fails (BuildFrom form) input fault = FailsToBuildFrom form input fault
+Fails (Build heading) input fault = FailsToBuild (IsUnbuilt heading) input fault
+Fails (BuildStrict heading) input fault = FailsToBuild (IsUnbuiltInOrder heading) input fault
+Fails (BuildSorted heading) input fault = FailsToBuild (λ entries. IsUnbuiltMap heading (last_values entries)) input fault
+Fails (BuildFrom form heading) input fault = FailsToBuildFrom form heading input fault
 Fails CheckStrict input fault = FailsToRead RefusesStrictArchive input fault
 Fails _ input fault = FailsToRead RefusesArchive input fault
 

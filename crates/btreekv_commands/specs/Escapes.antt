@@ -1,5 +1,5 @@
 -- Texts within a line: a tab, a line feed and a backslash are escaped.
-use Rattle.std.specs.Prelude.{ℕ, ◌==◌, if◌then◌else◌, List, [], ◌∷◌, ◌++◌, Option, Some, None, flat_map}
+use Rattle.std.specs.Prelude.{ℕ, ◌==◌, if◌then◌else◌, List, [], ◌∷◌, Option, Some, None, flat_map}
 
 -- the letter of the escape of a byte, if it has one
 abbrev pub escape_letter : ℕ → Option ℕ

@@ -3,6 +3,7 @@ pub mod Changing
 pub mod Commands
 pub mod Escapes
 pub mod Figures
+pub mod Files
 pub mod Forms
 pub mod Json
 pub mod JsonRecords
@@ -10,6 +11,7 @@ pub mod Lines
 pub mod Nodes
 pub mod Opening
 pub mod Prefixes
+pub mod Ranged
 pub mod Reading
 pub mod Records
 pub mod Sidecar

@@ -5,23 +5,27 @@ use Rattle.std.specs.Global.{Global}
 use Rattle.std.specs.Map.{lookup}
 use Rattle.std.specs.Option.{option_map}
 use Rattle.std.specs.Ordering.{nat_cmp}
-use Rattle.std.specs.Prelude.{◌≡◌, ◌⊎◌, ℕ, ◌<◌, Bool, true, false, List, [], ◌∷◌, ◌++◌, Option, Some, None, is_some, Result, Ok, Err, IfOk, IfErr, String, string_bytes}
+use Rattle.std.specs.Prelude.{◌≡◌, ◌⊎◌, ℕ, ◌<◌, Bool, List, [], ◌++◌}
+use Rattle.std.specs.Prelude.{Option, Some, None, is_some, Result, Ok, Err, IfOk, IfErr, String, length, string_bytes, take}
 use Rattle.rkyv_btree_portable.specs.Refusing.{RefusesWhole}
 use Rattle.rkyv_btree_portable.specs.Text.{text_kind}
 use Rattle.rkyv_btree_portable.specs.declared.refusal.Refusal.{Refusal}
+use Rattle.rkyv_btree_portable.specs.declared.refusal.Refusal.TheVariants.{TooLong}
 use Rattle.rkyv_btree_format.specs.OwnBytes.{own_at}
 use Rattle.rkyv_btree_source.specs.declared.fault.SourceFault.{SourceFault}
 use Rattle.rkyv_btree_source.specs.declared.fault.SourceFault.TheVariants as fault
 use Rattle.rkyv_btree_unverified.specs.Lookups.{LookupGives}
 use Rattle.rkyv_btree_unverified.specs.Steps.{value_place}
 use Rattle.btreearc_lines.specs.declared.fault.ProgramFault.{ProgramFault}
-use Rattle.btreearc_lines.specs.declared.fault.ProgramFault.TheVariants.{Refused, InputFailed, Memory}
+use Rattle.btreearc_lines.specs.declared.fault.ProgramFault.TheVariants.{Misheaded, Refused, InputFailed, Memory}
+use Rattle.btreearc_lines.specs.Headings.{IsMisheaded}
+use Rattle.btreearc_lines.specs.declared.heading.HeadingFault.{HeadingFault}
 use Rattle.btreekv_commands.specs.Commands.{found_in_archive, Outputs}
 use Rattle.btreekv_commands.specs.Forms.{value_line}
 use Rattle.btreekv_commands.specs.Lines.{Entry, line_of}
 use Rattle.btreekv_commands.specs.declared.command.Command.TheVariants.{Get}
 use Rattle.btreekv_commands.specs.declared.forms.Form.{Form}
-use Rattle.btreekv_commands.specs.Opening.{texts, IsArchive, KeysIncrease}
+use Rattle.btreekv_commands.specs.Opening.{texts, texts_name, IsArchive, IsInput, KeysIncrease}
 
 -- an error of a look-up: refused bytes, and then P holds of their first error; or a failed read, or no memory
 abbrev pub IsLookupFault : (Refusal → Type 0) → ProgramFault → Type 0
@@ -29,6 +33,20 @@ IsLookupFault P (Refused refusal) = P refusal
 IsLookupFault P InputFailed = Unit {0}
 IsLookupFault P Memory = Unit {0}
 IsLookupFault P _ = ⊥
+
+-- the first bytes of a source, which may be those of a header
+abbrev pub first_bytes : List ℕ → List ℕ
+first_bytes bytes = take 4096 bytes
+
+-- why a source of these bytes isn't opened: its first ones are another header, or positions of 32 bits don't reach all; or a failed read
+abbrev pub IsUnopenedSource : List ℕ → ProgramFault → Type 0
+IsUnopenedSource bytes (Misheaded fault) = IsMisheaded texts_name (first_bytes bytes) fault
+IsUnopenedSource bytes fault = IsLookupFault (λ refusal. (refusal ≡ TooLong) × (4294967295 < length bytes)) fault
+
+-- P holds of what a file begins with, if the error is of that
+abbrev pub IfMisheaded : (HeadingFault → Type 0) → ProgramFault → Type 0
+IfMisheaded P (Misheaded fault) = P fault
+IfMisheaded P fault = Unit {0}
 
 -- the program's error for one of a source
 abbrev pub lookup_fault : {E : Type 0} → SourceFault E → ProgramFault
@@ -73,8 +91,8 @@ IsValueLine write (Some value) text status = (text ≡ write value) × (status �
 
 -- what a look-up of a key writes that a search of these bytes ends
 pub record WritesFound (bytes : List ℕ) (form : Form) (key : String Global) (text : List ℕ) (status : ℕ) : Type 0 where
-  -- of an archive it is what the command writes that reads all of it
-  pub archived : (entries : List Entry) → IsArchive bytes entries → Outputs (Get key form) bytes text status
+  -- of a file that the program opens it is what the command writes that reads all of it
+  pub archived : (entries : List Entry) → IsInput bytes entries → Outputs (Get key form) bytes text status
   pub places : (entry : Option (ℕ × ℕ)) × SearchGives bytes (string_bytes key) (Ok entry)
       × IsValueLine (value_line form) (option_map (value_at bytes) entry) text status
 

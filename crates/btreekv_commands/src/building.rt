@@ -6,25 +6,27 @@ ghost use Rattle.rkyv_btree_writer.specs.Archiving.{IsArchived};
 ghost use Rattle.rkyv_btree_writer.specs.Causes.{HasCauses};
 ghost use Rattle.rkyv_btree_writing_laws.specs.Whole.{fresh};
 ghost use Rattle.btreearc_lines.specs.Faults.{IsReadTry};
-ghost use Rattle.btreekv_commands.specs.Building.{last_values, IsBuildFault, IsReadOrBuildFault, IsTried};
-ghost use Rattle.btreekv_commands.specs.Building.{IsUnbuilt, IsUnbuiltMap};
+ghost use Rattle.btreekv_commands.specs.Building.{last_values, IsBuildFault, IsBuilt, IsBuiltMap, IsReadOrBuildFault, IsTried, IsTriedAfter};
+ghost use Rattle.btreekv_commands.specs.Building.{IsUnbuilt, IsUnbuiltMap, bytes_archival};
+ghost use Rattle.btreekv_commands.specs.Files.{IsWrittenAfter};
 ghost use Rattle.btreekv_commands.specs.Lines.{AreLines, Entry};
-ghost use Rattle.btreekv_commands.specs.Opening.{IsArchive, KeysIncrease};
+ghost use Rattle.btreekv_commands.specs.Opening.{KeysIncrease, texts};
 ghost use Rattle.btreekv_commands.specs.Texts.{texts_of};
 
 use crate::entries::Entries;
 use crate::opening::Texts;
 use crate::text::Text;
 use btreearc_lines::fault::{ProgramFault, program_fault};
-use rkyv_btree_archive::archive::Archive;
-use rkyv_btree_archive::build::written_maps_are_held;
+use btreearc_lines::heading::{Heading, write_heading};
+use rkyv_btree_archive::archive::{Archive, Serialize};
 use rkyv_btree_archive::build_map::BuildMap;
-use rkyv_btree_archive::to_archive::to_archive;
+use rkyv_btree_archive::to_archive::write_value;
 use rkyv_btree_archive::try_build::TryFault;
 use rkyv_btree_convert::native_map::last_values_count;
 use rkyv_btree_portable::text::ArchivedText;
+use rkyv_btree_writer::fault::Fault;
 use rkyv_btree_writer::place::{VecWriter, Writer};
-use std::alloc::Global;
+use std::alloc::{AllocError, Global};
 use std::collections::BTreeMap;
 use std::io::BufRead;
 
@@ -34,29 +36,28 @@ fn archiving_is_lawful<T: Archive>()
     ensures causes { HasCauses T.archival }
 {}
 
-/// Serializes the entries of the lines of a reader and then their map, from position 0 on. `count` is the number of lines.
+/// Serializes the entries of the lines of a reader and then their map, after what a writer holds. `count` is the number of lines.
 ///
 /// # Errors
 ///
 /// `Item` if a read fails, a line is no entry, there are fewer lines, or there is no memory for an entry. `Build` if the archive
 /// would be longer than 4 GiB, a pointer would reach over more than 2 GiB, the writer fails, or there is no memory.
 #[tactic(auto, using(crate::proofs::Fits::texts_fit))]
-pub(crate) fn serialize_lines<B: BufRead + Drop, W: Writer>(
+fn serialize_entries<B: BufRead + Drop, W: Writer>(
     alloc: Global,
     count: usize,
     input: B,
     writer: &mut W,
 ) -> Result<(), TryFault<W::Error, ProgramFault>>
-    requires { W.state writer.old ≡ fresh }
     ensures ok { OnOk result (IfSome (B.remaining input) (λ bytes. (entries : List Entry) →
         AreLines bytes entries → count ≡ length entries →
-        IsArchive (W.state writer.new).contents entries)) }
+        IsWrittenAfter bytes_archival texts (W.state writer.old) entries
+        (W.state writer.new).contents)) }
     ensures err { IfErr result (λ fault. IfSome (B.remaining input) (λ bytes.
         (entries : List Entry) → AreLines bytes entries → count ≡ length entries →
-        IsTried entries fault)) }
+        IsTriedAfter (W.state writer.old) entries fault)) }
     ensures read { IfErr result IsReadTry }
 {
-    written_maps_are_held();
     archiving_is_lawful::<Text>();
     let items = Entries::new(alloc, input, count);
     let root = match Texts::try_serialize_from_ordered_iter(alloc, count, items, writer) {
@@ -69,20 +70,54 @@ pub(crate) fn serialize_lines<B: BufRead + Drop, W: Writer>(
     }
 }
 
-/// Returns the archive of the entries of lines, of which there are `count`.
+/// Writes the file of the entries of the lines of a reader: the header if it is typed, the tree, and the map. `count` is the number
+/// of lines.
+///
+/// # Errors
+///
+/// Those of `serialize_entries`, and `Build` if the header isn't written.
+pub(crate) fn serialize_lines<B: BufRead + Drop, W: Writer>(
+    alloc: Global,
+    heading: Heading,
+    count: usize,
+    input: B,
+    writer: &mut W,
+) -> Result<(), TryFault<W::Error, ProgramFault>>
+    requires { W.state writer.old ≡ fresh }
+    ensures ok { OnOk result (IfSome (B.remaining input) (λ bytes. (entries : List Entry) →
+        AreLines bytes entries → count ≡ length entries →
+        IsBuilt heading (W.state writer.new).contents entries)) }
+    ensures err { IfErr result (λ fault. IfSome (B.remaining input) (λ bytes.
+        (entries : List Entry) → AreLines bytes entries → count ≡ length entries →
+        IsTried heading entries fault)) }
+    ensures read { IfErr result IsReadTry }
+{
+    archiving_is_lawful::<Text>();
+    match write_heading::<Texts, W>(alloc, heading, writer) {
+        Ok(()) => serialize_entries(alloc, count, input, writer),
+        Err(fault) => Err(TryFault::Build(fault)),
+    }
+}
+
+/// Returns the file of the entries of lines, of which there are `count`.
 ///
 /// # Errors
 ///
 /// `NotBuilt` if the archive would be longer than 4 GiB, a pointer would reach over more than 2 GiB, or there is no memory for the
 /// archive. `Memory` if there is none for an entry.
-pub fn archive(alloc: Global, text: &[u8], count: usize) -> Result<Vec<u8>, ProgramFault>
+pub fn archive(
+    alloc: Global,
+    heading: Heading,
+    text: &[u8],
+    count: usize,
+) -> Result<Vec<u8>, ProgramFault>
     ensures ok { IfOk result (λ bytes. (entries : List Entry) → AreLines text.now entries →
-        count ≡ length entries → IsArchive bytes.items entries) }
+        count ≡ length entries → IsBuilt heading bytes.items entries) }
     ensures err { IfErr result (IsReadOrBuildFault (λ fault. (entries : List Entry) →
-        AreLines text.now entries → count ≡ length entries → IsUnbuilt entries fault)) }
+        AreLines text.now entries → count ≡ length entries → IsUnbuilt heading entries fault)) }
 {
     let mut writer = VecWriter::new(alloc);
-    match serialize_lines(alloc, count, text, &mut writer) {
+    match serialize_lines(alloc, heading, count, text, &mut writer) {
         Ok(()) => Ok(writer.into_vec()),
         Err(fault) => Err(program_fault(fault)),
     }
@@ -130,24 +165,55 @@ fn sorted(
     Ok(sorted)
 }
 
-/// Returns the archive of entries in increasing order of their keys. Of equal keys the last value counts.
+/// Returns the file of a std map.
+///
+/// # Errors
+///
+/// Those of building an archive, and of its header.
+#[tactic(auto, using(crate::proofs::Fits::texts_fit))]
+fn map_file(
+    alloc: Global,
+    heading: Heading,
+    sorted: &BTreeMap<String, String>,
+) -> Result<Vec<u8>, Fault<AllocError>>
+    ensures ok { IfOk result (λ bytes.
+        IsBuiltMap heading bytes.items (map texts_of sorted.now.entries)) }
+    ensures err { IfErr result (IsUnbuiltMap heading (map texts_of sorted.now.entries)) }
+{
+    archiving_is_lawful::<String>();
+    let mut writer = VecWriter::new(alloc);
+    match write_heading::<Texts, VecWriter>(alloc, heading, &mut writer) {
+        Ok(()) => {}
+        Err(fault) => return Err(fault),
+    }
+    let resolver = match sorted.serialize(alloc, &mut writer) {
+        Ok(resolver) => resolver,
+        Err(fault) => return Err(fault),
+    };
+    match write_value(alloc, sorted, resolver, &mut writer) {
+        Ok(_) => Ok(writer.into_vec()),
+        Err(fault) => Err(fault),
+    }
+}
+
+/// Returns the file of entries in increasing order of their keys. Of equal keys the last value counts.
 ///
 /// # Errors
 ///
 /// As of `archive`, and `Memory` if an allocation fails.
-#[tactic(auto, using(crate::proofs::Fits::texts_fit))]
 pub fn sorted_archive(
     alloc: Global,
+    heading: Heading,
     entries: Vec<(String, String)>,
 ) -> Result<Vec<u8>, ProgramFault>
     ensures ok { IfOk result (λ bytes.
-        IsArchive bytes.items (last_values (map texts_of entries.items))) }
+        IsBuiltMap heading bytes.items (last_values (map texts_of entries.items))) }
     ensures increase { OnOk result (KeysIncrease (last_values (map texts_of entries.items))) }
     ensures err { IfErr result (λ fault. (fault ≡ ProgramFault.Memory)
-        ⊎ IsBuildFault (IsUnbuiltMap (last_values (map texts_of entries.items))) fault) }
+        ⊎ IsBuildFault (IsUnbuiltMap heading (last_values (map texts_of entries.items))) fault) }
 {
     let map = sorted(alloc, entries)?;
-    match to_archive(alloc, &map) {
+    match map_file(alloc, heading, &map) {
         Ok(bytes) => Ok(bytes),
         Err(fault) => Err(ProgramFault::NotBuilt(fault)),
     }

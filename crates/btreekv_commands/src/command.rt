@@ -2,18 +2,19 @@
 
 use crate::forms::Form;
 use crate::records::Records;
+use btreearc_lines::heading::Heading;
 
 /// A command of the program.
 #[derive(Debug, Drop)]
 pub enum Command {
     /// Archive the input's lines, in their order.
-    Build,
+    Build(Heading),
     /// Archive the input's lines, whose keys must increase.
-    BuildStrict,
+    BuildStrict(Heading),
     /// Archive the input's lines in increasing order of their keys. Of equal keys the last value counts.
-    BuildSorted,
+    BuildSorted(Heading),
     /// Archive the entries of the input's records in increasing order of their keys. Of equal keys the last value counts.
-    BuildFrom(Records),
+    BuildFrom(Records, Heading),
     /// Write the entries of the input's archive.
     List(Form),
     /// Write the entries of the input's archive as a JSON object.

@@ -61,7 +61,7 @@ fn write_changes<'a, I: Iterator<Item = (&'a str, Change<&'a str>)>>(
 ///
 /// # Errors
 ///
-/// `Archive` with the number, 0 or 1, and the first error of the first archive whose keys don't increase, and `Memory` if an allocation
+/// `Archive` with the number, 0 or 1, and the error of the first file that isn't an archive whose keys increase, and `Memory` if an allocation
 /// fails.
 #[tactic(auto, using(crate::proofs::Fits::texts_fit))]
 pub fn diff(alloc: Global, old: &[u8], new: &[u8]) -> Result<String, UpdateFault>
@@ -69,12 +69,12 @@ pub fn diff(alloc: Global, old: &[u8], new: &[u8]) -> Result<String, UpdateFault
     ensures err { IfErr result (FailsDiff old.now new.now) }
 {
     let from = match open_increasing(old) {
-        Ok(from) => from,
-        Err(refusal) => return Err(UpdateFault::Archive(0, refusal)),
+        Ok((_, from)) => from,
+        Err(fault) => return Err(UpdateFault::Archive(0, fault)),
     };
     let to = match open_increasing(new) {
-        Ok(to) => to,
-        Err(refusal) => return Err(UpdateFault::Archive(1, refusal)),
+        Ok((_, to)) => to,
+        Err(fault) => return Err(UpdateFault::Archive(1, fault)),
     };
     let mut text = String::new(alloc);
     let changes = diff::diff::<ArchivedText, ArchivedText, Texts, &str, &str>(from, to);

@@ -1,7 +1,9 @@
 //! The bytes of an archive, each with its meaning.
 ghost use Rattle.std.specs.Prelude.{◌≡◌, ◌≤◌, IfErr};
 
+use crate::opening::Texts;
 use btreearc_lines::fault::ProgramFault;
+use btreearc_lines::heading::{Heading, heading_of};
 use rkyv_btree_format::layout::{key_at, len_at, lesser_at, value_at};
 use rkyv_btree_portable::text::ArchivedText;
 use std::alloc::{AllocError, Global};
@@ -11,6 +13,12 @@ const ENTRIES: usize = 5;
 
 /// How many bytes a line has at most.
 const ROW: usize = 8;
+
+/// Where a header has the length of its name.
+const NAME_LEN_AT: u32 = 8;
+
+/// Where a header has its name.
+const NAME_AT: u32 = 12;
 
 /// The pointer to no node.
 const NO_NODE: u32 = 1;
@@ -233,10 +241,22 @@ fn write_tree(alloc: Global, out: &mut Explanation<'_>, node: u32) -> Result<(),
     write_inner(alloc, out, node)
 }
 
+/// Writes the lines of the header of a typed file.
+fn write_header(alloc: Global, out: &mut Explanation<'_>) -> Result<(), AllocError> {
+    let len = number_at(out.archive, NAME_LEN_AT);
+    let long = format!(in alloc; "the name of the type has {len} bytes")?;
+    write(out, 0, NAME_LEN_AT, "header of a typed file")?;
+    write(out, NAME_LEN_AT, 4, long.as_str())?;
+    write(out, NAME_AT, len, "the name of the type")
+}
+
 /// Writes the lines of an archive whose map is at a position.
 fn write_archive(alloc: Global, out: &mut Explanation<'_>, pos: u32) -> Result<(), AllocError> {
     let count = number_at(out.archive, pos.wrapping_add(4));
     let root = target_at(out.archive, pos);
+    if let Ok(Heading::Typed) = heading_of::<Texts>(out.archive) {
+        write_header(alloc, out)?;
+    }
     if count != 0 {
         write_tree(alloc, out, root)?;
     }

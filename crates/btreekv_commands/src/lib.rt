@@ -20,6 +20,7 @@ mod nodes;
 pub mod opening;
 pub mod prefixes;
 pub mod program;
+pub mod ranged;
 pub mod records;
 pub mod sidecar;
 pub mod sourced;

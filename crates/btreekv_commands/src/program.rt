@@ -16,6 +16,7 @@ use crate::prefixes::with_prefix;
 use crate::records::{Records, parse_records};
 use crate::{building, explaining};
 use btreearc_lines::fault::ProgramFault;
+use btreearc_lines::heading::Heading;
 use btreearc_lines::streams::{read_all, write_all};
 use std::alloc::Global;
 use std::io::{Read, Write};
@@ -168,21 +169,21 @@ fn prefix(
 }
 
 /// Returns the archive of lines, in their order.
-fn build(alloc: Global, text: &[u8]) -> Result<Vec<u8>, ProgramFault>
-    ensures ok { IfOk result (λ bytes. Outputs Build text.now bytes.items 0) }
-    ensures err { IfErr result (Fails Build text.now) }
+fn build(alloc: Global, heading: Heading, text: &[u8]) -> Result<Vec<u8>, ProgramFault>
+    ensures ok { IfOk result (λ bytes. Outputs (Build heading) text.now bytes.items 0) }
+    ensures err { IfErr result (Fails (Build heading) text.now) }
 {
     let mut lines = text;
     match count_lines(alloc, &mut lines) {
-        Ok(count) => building::archive(alloc, text, count),
+        Ok(count) => building::archive(alloc, heading, text, count),
         Err(fault) => Err(fault),
     }
 }
 
 /// Returns the archive of lines whose keys increase.
-fn build_strict(alloc: Global, text: &[u8]) -> Result<Vec<u8>, ProgramFault>
-    ensures ok { IfOk result (λ bytes. Outputs BuildStrict text.now bytes.items 0) }
-    ensures err { IfErr result (Fails BuildStrict text.now) }
+fn build_strict(alloc: Global, heading: Heading, text: &[u8]) -> Result<Vec<u8>, ProgramFault>
+    ensures ok { IfOk result (λ bytes. Outputs (BuildStrict heading) text.now bytes.items 0) }
+    ensures err { IfErr result (Fails (BuildStrict heading) text.now) }
 {
     let mut lines = text;
     let count = match count_lines(alloc, &mut lines) {
@@ -190,27 +191,33 @@ fn build_strict(alloc: Global, text: &[u8]) -> Result<Vec<u8>, ProgramFault>
         Err(fault) => return Err(fault),
     };
     match check_order(alloc, text, count) {
-        Ok(()) => building::archive(alloc, text, count),
+        Ok(()) => building::archive(alloc, heading, text, count),
         Err(fault) => Err(fault),
     }
 }
 
 /// Returns the archive of lines in increasing order of their keys.
-fn build_sorted(alloc: Global, text: &[u8]) -> Result<Vec<u8>, ProgramFault>
-    ensures ok { IfOk result (λ bytes. Outputs BuildSorted text.now bytes.items 0) }
-    ensures err { IfErr result (Fails BuildSorted text.now) }
+fn build_sorted(alloc: Global, heading: Heading, text: &[u8]) -> Result<Vec<u8>, ProgramFault>
+    ensures ok { IfOk result (λ bytes. Outputs (BuildSorted heading) text.now bytes.items 0) }
+    ensures err { IfErr result (Fails (BuildSorted heading) text.now) }
 {
     let entries = parse_lines(alloc, text)?;
-    building::sorted_archive(alloc, entries)
+    building::sorted_archive(alloc, heading, entries)
 }
 
 /// Returns the archive of records in increasing order of their keys.
-fn build_from(alloc: Global, form: Records, text: &[u8]) -> Result<Vec<u8>, ProgramFault>
-    ensures ok { IfOk result (λ bytes. Outputs (BuildFrom form) text.now bytes.items 0) }
-    ensures err { IfErr result (Fails (BuildFrom form) text.now) }
+fn build_from(
+    alloc: Global,
+    form: Records,
+    heading: Heading,
+    text: &[u8],
+) -> Result<Vec<u8>, ProgramFault>
+    ensures ok { IfOk result (λ bytes.
+        Outputs (BuildFrom form heading) text.now bytes.items 0) }
+    ensures err { IfErr result (Fails (BuildFrom form heading) text.now) }
 {
     let entries = parse_records(alloc, form, text)?;
-    building::sorted_archive(alloc, entries)
+    building::sorted_archive(alloc, heading, entries)
 }
 
 /// Returns what a command writes of an input, and its status.
@@ -219,10 +226,10 @@ fn output_of(alloc: Global, command: &Command, input: &[u8]) -> Result<(Vec<u8>,
     ensures err { IfErr result (Fails command.now input.now) }
 {
     match command {
-        Command::Build => Ok((build(alloc, input)?, 0)),
-        Command::BuildStrict => Ok((build_strict(alloc, input)?, 0)),
-        Command::BuildSorted => Ok((build_sorted(alloc, input)?, 0)),
-        Command::BuildFrom(form) => Ok((build_from(alloc, *form, input)?, 0)),
+        Command::Build(heading) => Ok((build(alloc, *heading, input)?, 0)),
+        Command::BuildStrict(heading) => Ok((build_strict(alloc, *heading, input)?, 0)),
+        Command::BuildSorted(heading) => Ok((build_sorted(alloc, *heading, input)?, 0)),
+        Command::BuildFrom(form, heading) => { Ok((build_from(alloc, *form, *heading, input)?, 0)) }
         Command::List(form) => Ok((list(alloc, input, *form)?, 0)),
         Command::ListJson => Ok((list_json(alloc, input)?, 0)),
         Command::Check => Ok((check(alloc, input)?.into_bytes(), 0)),
@@ -240,7 +247,7 @@ fn output_of(alloc: Global, command: &Command, input: &[u8]) -> Result<(Vec<u8>,
 ///
 /// # Errors
 ///
-/// `Line`, `Refused` and `NotBuilt` as the command has them. `InputFailed` and `OutputFailed` if the reader or the writer
+/// `Line`, `Refused`, `Misheaded` and `NotBuilt` as the command has them. `InputFailed` and `OutputFailed` if the reader or the writer
 /// fails, and `Memory` if an allocation fails. An error leaves the output as it was, except for `OutputFailed`.
 pub fn run<R: Read, W: Write>(
     alloc: Global,

@@ -1,17 +1,19 @@
 //! Look-ups in archives that aren't read whole.
-ghost use Rattle.std.specs.Prelude.{◌≡◌, ◌+◌, ◌≤◌, ◌<◌, ◌++◌, ◌∷◌, [], ℕ, List, IfOk, IfErr, OnOk, length, string_bytes};
+ghost use Rattle.std.specs.Prelude.{◌≡◌, ◌+◌, ◌≤◌, ◌++◌, ◌∷◌, [], ℕ, List, IfOk, IfErr, OnOk, length, string_bytes};
 ghost use Rattle.rkyv_btree_format.specs.OwnBytes.{own_at};
-ghost use Rattle.rkyv_btree_portable.specs.declared.refusal.Refusal.TheVariants.{TooLong};
+ghost use Rattle.btreearc_lines.specs.Headings.{IsMisheaded};
 ghost use Rattle.rkyv_btree_source.specs.Known.{AreOf};
 ghost use Rattle.rkyv_btree_view.specs.View.{view_value};
 ghost use Rattle.btreekv_commands.specs.Forms.{value_line};
-ghost use Rattle.btreekv_commands.specs.Opening.{texts};
-ghost use Rattle.btreekv_commands.specs.Sourced.{AppendsFound, FailsToSearch, GivesValue, IsLookupFault, IsReadFailure, WritesFound, lookup_fault};
+ghost use Rattle.btreekv_commands.specs.Opening.{HasFitHeading, texts, texts_name};
+ghost use Rattle.btreekv_commands.specs.Sourced.{AppendsFound, FailsToSearch, GivesValue, IfMisheaded, IsReadFailure, IsUnopenedSource};
+ghost use Rattle.btreekv_commands.specs.Sourced.{WritesFound, first_bytes, lookup_fault};
 
 use crate::forms::{Form, push_value};
 use crate::listing::write_entry;
 use crate::opening::Texts;
 use btreearc_lines::fault::ProgramFault;
+use btreearc_lines::heading::heading_of;
 use rkyv_btree_portable::text::ArchivedText;
 use rkyv_btree_source::fault::SourceFault;
 use rkyv_btree_source::source::ReadAt;
@@ -24,13 +26,13 @@ use std::alloc::Global;
 const FIRST_ROOM: usize = 65536;
 
 /// The most bytes that a look-up is lent.
-const MOST_ROOM: usize = 4294967295;
+pub(crate) const MOST_ROOM: usize = 4294967295;
 
 /// The most bytes that all look-ups in a source read together.
 pub const BUDGET: u64 = 18446744073709551615;
 
 /// Returns the error of the program for one of a source.
-fn lookup_fault<E: Drop>(fault: SourceFault<E>) -> ProgramFault
+pub(crate) fn lookup_fault<E: Drop>(fault: SourceFault<E>) -> ProgramFault
     ensures { result ≡ lookup_fault fault }
 {
     match fault {
@@ -41,20 +43,57 @@ fn lookup_fault<E: Drop>(fault: SourceFault<E>) -> ProgramFault
     }
 }
 
-/// Returns the archive that is all of a source. Nothing is read but the number of bytes.
+/// Tests that a source begins with the header of the program's type, or with none. As many first bytes are read as `room` has.
 ///
 /// # Errors
 ///
-/// `Refused` if positions of 32 bits don't reach all bytes; `InputFailed` if the source fails.
+/// `Misheaded` with what the header has, and `InputFailed` if the source fails.
+fn check_first<S: ReadAt>(source: &mut S, room: &mut [u8]) -> Result<(), ProgramFault>
+    requires { length room.old ≡ 4096 }
+    ensures ok { (b : List ℕ) → AreOf (S.known source.old) b →
+        OnOk result (HasFitHeading (first_bytes b)) }
+    ensures err { (b : List ℕ) → AreOf (S.known source.old) b →
+        IfErr result (IsUnopenedSource b) }
+    ensures same { S.known source.new ≡ S.known source.old }
+{
+    let size = match source.size() {
+        Ok(size) => size,
+        Err(_) => return Err(ProgramFault::InputFailed),
+    };
+    let len = size.min(room.len() as u64) as usize;
+    let first = &mut room[..len];
+    match source.read_at(0, first) {
+        Ok(()) => {}
+        Err(_) => return Err(ProgramFault::InputFailed),
+    }
+    match heading_of::<Texts>(first) {
+        Ok(_) => Ok(()),
+        Err(fault) => Err(ProgramFault::Misheaded(fault)),
+    }
+}
+
+/// Returns the archive that is all of a source. Nothing is read but the number of bytes, and up to 4096 first bytes: a header isn't
+/// known whose name ends after them.
+///
+/// # Errors
+///
+/// `Misheaded` if another header than that of the program's type comes first; `Refused` if positions of 32 bits don't reach all bytes;
+/// `InputFailed` if the source fails.
 #[tactic(auto, using(crate::proofs::Fits::texts_fit))]
-pub fn open<S: ReadAt + Drop>(source: S) -> Result<UnverifiedSource<S, Texts>, ProgramFault>
+pub fn open<S: ReadAt + Drop>(mut source: S) -> Result<UnverifiedSource<S, Texts>, ProgramFault>
+    ensures headed { (b : List ℕ) → AreOf (S.known source) b →
+        OnOk result (HasFitHeading (first_bytes b)) }
     ensures source { IfOk result (λ map. S.known map.reader.source ≡ S.known source) }
     ensures position { (b : List ℕ) → AreOf (S.known source) b →
         IfOk result (λ map. map.pos ≡ own_at texts b) }
     ensures budget { IfOk result (λ map. map.reader.left ≡ 18446744073709551615) }
     ensures refused { (b : List ℕ) → AreOf (S.known source) b →
-        IfErr result (IsLookupFault (λ refusal. (refusal ≡ TooLong) × (4294967295 < length b))) }
+        IfErr result (IsUnopenedSource b) }
 {
+    match check_first(&mut source, &mut [0; 4096]) {
+        Ok(()) => {}
+        Err(fault) => return Err(fault),
+    }
     match UnverifiedSource::<S, Texts>::open(source, BUDGET) {
         Ok(map) => Ok(map),
         Err(fault) => Err(lookup_fault(fault)),
@@ -77,7 +116,7 @@ fn copied(alloc: Global, text: View<'_, ArchivedText>) -> Result<String, Program
 /// # Errors
 ///
 /// `Memory` if the allocation fails, or no look-up can be lent so many bytes.
-fn lengthen(room: &mut Vec<u8>, needed: u64) -> Result<(), ProgramFault>
+pub(crate) fn lengthen(room: &mut Vec<u8>, needed: u64) -> Result<(), ProgramFault>
     ensures ok { OnOk result ((length room.new.items ≡ needed) × (needed ≤ 4294967295)) }
     ensures err { IfErr result (λ fault. fault ≡ ProgramFault.Memory) }
 {
@@ -152,14 +191,17 @@ pub fn first_room(alloc: Global) -> Result<Vec<u8>, ProgramFault>
 ///
 /// # Errors
 ///
-/// `Refused` with the first error in what the look-up reads; `InputFailed` if the source fails; `Memory` if an allocation fails, or a
+/// `Misheaded` as of `open`; `Refused` with the first error in what the look-up reads; `InputFailed` if the source fails; `Memory` if an allocation fails, or a
 /// text of the archive needs more than 4294967295 bytes.
 pub fn value_in<S: ReadAt + Drop>(
     alloc: Global,
     source: S,
     key: &str,
 ) -> Result<Option<String>, ProgramFault>
-    ensures { (b : List ℕ) → AreOf (S.known source) b → GivesValue b key.now result }
+    ensures value { (b : List ℕ) → AreOf (S.known source) b → HasFitHeading (first_bytes b) →
+        GivesValue b key.now result }
+    ensures misheaded { (b : List ℕ) → AreOf (S.known source) b →
+        IfErr result (IfMisheaded (IsMisheaded texts_name (first_bytes b))) }
 {
     let mut map = match open(source) {
         Ok(map) => map,

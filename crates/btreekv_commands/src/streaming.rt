@@ -2,15 +2,15 @@
 ghost use Rattle.std.specs.Prelude.{◌≡◌, ℕ, [], List, Some, None, true, length, IfOk, IfErr, OnOk, IfSome};
 ghost use Rattle.rkyv_btree_writer.specs.StdWriters.{AreKnown, HoldsAll};
 ghost use Rattle.btreearc_lines.specs.Faults.{IsWriteFault};
-ghost use Rattle.btreekv_commands.specs.Building.{IsOutOfOrderAt, IsReadOrBuildFault, IsUnbuilt};
+ghost use Rattle.btreekv_commands.specs.Building.{IsBuilt, IsOutOfOrderAt, IsReadOrBuildFault, IsUnbuilt};
 ghost use Rattle.btreekv_commands.specs.Commands.{Does, Fails};
 ghost use Rattle.btreekv_commands.specs.Lines.{AreLines, Entry};
-ghost use Rattle.btreekv_commands.specs.Opening.{IsArchive};
 ghost use Rattle.btreekv_commands.specs.Streaming.{IsInOrder, IsTested, build_command};
 
 use crate::building::serialize_lines;
 use crate::entries::{check_order, count_lines};
 use btreearc_lines::fault::{ProgramFault, program_fault};
+use btreearc_lines::heading::Heading;
 use btreearc_lines::reopen::Reopen;
 use rkyv_btree_writer::io_writer::IoWriter;
 use std::alloc::Global;
@@ -23,16 +23,21 @@ use std::io::{BufRead, Write};
 ///
 /// `NotBuilt` if it can't, `InputFailed` if a read fails, a line is no entry or there are fewer lines, and `Memory` if an allocation
 /// fails.
-fn test_build<B: BufRead + Drop>(alloc: Global, count: usize, input: B) -> Result<(), ProgramFault>
+fn test_build<B: BufRead + Drop>(
+    alloc: Global,
+    heading: Heading,
+    count: usize,
+    input: B,
+) -> Result<(), ProgramFault>
     ensures ok { OnOk result (IfSome (B.remaining input) (λ bytes. (entries : List Entry) →
         AreLines bytes entries → count ≡ length entries →
-        (text : List ℕ) × IsArchive text entries)) }
+        (text : List ℕ) × IsBuilt heading text entries)) }
     ensures err { IfErr result (IsReadOrBuildFault (λ fault. IfSome (B.remaining input) (λ bytes.
         (entries : List Entry) → AreLines bytes entries → count ≡ length entries →
-        IsUnbuilt entries fault))) }
+        IsUnbuilt heading entries fault))) }
 {
     let mut writer = IoWriter::new(io::sink());
-    match serialize_lines(alloc, count, input, &mut writer) {
+    match serialize_lines(alloc, heading, count, input, &mut writer) {
         Ok(()) => Ok(()),
         Err(fault) => Err(program_fault(fault)),
     }
@@ -45,6 +50,7 @@ fn test_build<B: BufRead + Drop>(alloc: Global, count: usize, input: B) -> Resul
 /// `OutputFailed` if the archive isn't built or a write fails.
 fn write_archive<B: BufRead + Drop, W: Write>(
     alloc: Global,
+    heading: Heading,
     count: usize,
     input: B,
     output: W,
@@ -52,11 +58,11 @@ fn write_archive<B: BufRead + Drop, W: Write>(
     requires { IfSome (W.contents output) (λ held. held ≡ []) }
     ensures ok { OnOk result.0 (IfSome (B.remaining input) (λ bytes. (entries : List Entry) →
         AreLines bytes entries → count ≡ length entries →
-        (text : List ℕ) × IsArchive text entries × HoldsAll W.contents result.1 text)) }
+        (text : List ℕ) × IsBuilt heading text entries × HoldsAll W.contents result.1 text)) }
     ensures err { IfErr result.0 IsWriteFault }
 {
     let mut writer = IoWriter::new(output);
-    let built = serialize_lines(alloc, count, input, &mut writer);
+    let built = serialize_lines(alloc, heading, count, input, &mut writer);
     let mut output = writer.into_inner();
     match built {
         Ok(()) => {}
@@ -97,10 +103,16 @@ fn check_keys<B: BufRead + Drop>(
 /// # Errors
 ///
 /// `Line` and `NotBuilt` as the command has them, `InputFailed` if a read fails, and `Memory` if an allocation fails.
-fn test_lines<R: Reopen>(alloc: Global, is_strict: bool, input: &R) -> Result<usize, ProgramFault>
-    ensures ok { IfOk result (λ count. IfSome (R.bytes input.now) (IsTested is_strict count)) }
+fn test_lines<R: Reopen>(
+    alloc: Global,
+    is_strict: bool,
+    heading: Heading,
+    input: &R,
+) -> Result<usize, ProgramFault>
+    ensures ok { IfOk result (λ count.
+        IfSome (R.bytes input.now) (IsTested is_strict heading count)) }
     ensures err { IfErr result (λ fault. IfSome (R.bytes input.now) (λ bytes.
-        Fails (build_command is_strict) bytes fault)) }
+        Fails (build_command is_strict heading) bytes fault)) }
 {
     let mut lines = match input.reopen() {
         Ok(lines) => lines,
@@ -122,13 +134,13 @@ fn test_lines<R: Reopen>(alloc: Global, is_strict: bool, input: &R) -> Result<us
         Ok(again) => again,
         Err(fault) => return Err(fault),
     };
-    match test_build(alloc, count, again) {
+    match test_build(alloc, heading, count, again) {
         Ok(()) => Ok(count),
         Err(fault) => Err(fault),
     }
 }
 
-/// Writes the archive of the lines of an input, and returns the exit status and the output. The lines are read three times, and four times
+/// Writes the file of the lines of an input, and returns the exit status and the output. The lines are read three times, and four times
 /// if their keys must increase: they are tested before anything is written, and then read once more. No more than a few of them are
 /// held in memory.
 ///
@@ -140,17 +152,19 @@ fn test_lines<R: Reopen>(alloc: Global, is_strict: bool, input: &R) -> Result<us
 pub fn build<R: Reopen, W: Write>(
     alloc: Global,
     is_strict: bool,
+    heading: Heading,
     input: &R,
     output: W,
 ) -> (Result<u8, ProgramFault>, W)
     requires empty { IfSome (W.contents output) (λ held. held ≡ []) }
     // What the result says of the input.
-    ensures result { Does (build_command is_strict) (R.bytes input.now) None None result.0 }
+    ensures result { Does (build_command is_strict heading) (R.bytes input.now) None None result.0 }
     // What a writer holds then, whose bytes are known.
     ensures written { AreKnown W.contents →
-        Does (build_command is_strict) (R.bytes input.now) (Some []) (W.contents result.1) result.0 }
+        Does (build_command is_strict heading) (R.bytes input.now) (Some [])
+        (W.contents result.1) result.0 }
 {
-    let count = match test_lines(alloc, is_strict, input) {
+    let count = match test_lines(alloc, is_strict, heading, input) {
         Ok(count) => count,
         Err(fault) => return (Err(fault), output),
     };
@@ -158,8 +172,9 @@ pub fn build<R: Reopen, W: Write>(
         Ok(lines) => lines,
         Err(fault) => return (Err(fault), output),
     };
-    match write_archive(alloc, count, lines, output) {
-        (Ok(()), output) => (Ok(0), output),
-        (Err(fault), output) => (Err(fault), output),
+    let (written, output) = write_archive(alloc, heading, count, lines, output);
+    match written {
+        Ok(()) => (Ok(0), output),
+        Err(fault) => (Err(fault), output),
     }
 }

@@ -1,6 +1,6 @@
 //! Why archives aren't updated, merged or compared.
 
-use rkyv_btree_portable::refusal::Refusal;
+use crate::opening::ArchiveFault;
 use rkyv_btree_writer::fault::Fault;
 use std::alloc::AllocError;
 
@@ -11,8 +11,8 @@ pub enum UpdateFault {
     Line(u64),
     /// The first line whose key isn't greater than that of the line before it, counted from 1.
     OutOfOrder(u64),
-    /// The first of the archives that isn't one whose keys increase, counted from 0, and its first error.
-    Archive(usize, Refusal),
+    /// The first of the files that isn't an archive whose keys increase, counted from 0, and why.
+    Archive(usize, ArchiveFault),
     /// The entries can't be archived.
     NotBuilt(Fault<AllocError>),
     /// There is no memory.

@@ -4,11 +4,12 @@ ghost use Rattle.rkyv_btree_portable.specs.Text.{text_kind};
 ghost use Rattle.rkyv_btree_update.specs.Updated.{changes_meant};
 ghost use Rattle.rkyv_btree_view.specs.View.{entries_of};
 ghost use Rattle.btreekv_commands.specs.Changing.{ChangesIncrease};
-ghost use Rattle.btreekv_commands.specs.Updating.{FailsChanges, FailsUpdate, IsStrictArchive, IsUpdate, change_fault, changed_entries};
+ghost use Rattle.btreekv_commands.specs.Updating.{FailsChanges, FailsUpdate, IsStrictFile, IsUpdate, change_fault, changed_entries};
 
 use crate::changes::read_changes;
-use crate::opening::open_increasing;
+use crate::opening::{Texts, open_increasing};
 use crate::update_fault::UpdateFault;
+use btreearc_lines::heading::{Heading, write_heading};
 use rkyv_btree_portable::text::ArchivedText;
 use rkyv_btree_strict::strict_map::StrictView;
 use rkyv_btree_update::change::Change;
@@ -34,7 +35,7 @@ fn change_fault(fault: Fault<AllocError>) -> UpdateFault
     }
 }
 
-/// Returns the archive of a map's entries after changes.
+/// Returns the file of a map's entries after changes.
 ///
 /// # Errors
 ///
@@ -42,20 +43,25 @@ fn change_fault(fault: Fault<AllocError>) -> UpdateFault
 #[tactic(auto, using(crate::proofs::Fits::texts_fit))]
 fn changed<'a>(
     alloc: Global,
+    heading: Heading,
     map: StrictView<'a, ArchivedText, ArchivedText, 5>,
     changes: &[(&'a str, Change<&'a str>)],
 ) -> Result<Vec<u8>, UpdateFault>
-    ensures ok { IfOk result (λ bytes. IsStrictArchive bytes.items
+    ensures ok { IfOk result (λ bytes. IsStrictFile heading bytes.items
         (changed_entries (entries_of text_kind text_kind 5 map.entry.view)
         (changes_meant (λ k. k.now) (λ v. v.now) changes.now))) }
     ensures in_order { OnOk result
         (ChangesIncrease (changes_meant (λ k. k.now) (λ v. v.now) changes.now)) }
-    ensures err { IfErr result (FailsChanges (entries_of text_kind text_kind 5 map.entry.view)
+    ensures err { IfErr result (FailsChanges heading (entries_of text_kind text_kind 5 map.entry.view)
         (changes_meant (λ k. k.now) (λ v. v.now) changes.now)) }
 {
     // The number has 64 bits, so the line's doesn't overflow.
     let _len = changes.len();
     let mut writer = VecWriter::new(alloc);
+    match write_heading::<Texts, VecWriter>(alloc, heading, &mut writer) {
+        Ok(()) => {}
+        Err(fault) => return Err(UpdateFault::NotBuilt(fault)),
+    }
     match update::update::<ArchivedText, ArchivedText, &str, &str, VecWriter, 5>(
         alloc,
         map,
@@ -67,12 +73,12 @@ fn changed<'a>(
     }
 }
 
-/// Returns the archive of an archive's entries after the changes of lines. The keys of the lines must increase, or the lines are sorted:
-/// then of equal keys the last one counts.
+/// Returns the file of an archive's entries after the changes of lines, with a header if the old file has one. The keys of the lines must
+/// increase, or the lines are sorted: then of equal keys the last one counts.
 ///
 /// # Errors
 ///
-/// `Archive` with the first error of an archive whose keys don't increase, `Line` with the number of the first line that is no change,
+/// `Archive` with the error of a file that isn't an archive whose keys increase, `Line` with the number of the first line that is no change,
 /// `OutOfOrder` with that of the first line out of order, `NotBuilt` if the entries can't be archived, and `Memory` if an allocation fails.
 pub fn update<'a>(
     alloc: Global,
@@ -83,13 +89,13 @@ pub fn update<'a>(
     ensures ok { IfOk result (λ bytes. IsUpdate is_sorted archive.now lines.now bytes.items) }
     ensures err { IfErr result (FailsUpdate is_sorted archive.now lines.now) }
 {
-    let map = match open_increasing(archive) {
-        Ok(map) => map,
-        Err(refusal) => return Err(UpdateFault::Archive(0, refusal)),
+    let (heading, map) = match open_increasing(archive) {
+        Ok(opened) => opened,
+        Err(fault) => return Err(UpdateFault::Archive(0, fault)),
     };
     let changes = match read_changes(alloc, is_sorted, lines) {
         Ok(changes) => changes,
         Err(fault) => return Err(fault),
     };
-    changed(alloc, map, changes.as_slice())
+    changed(alloc, heading, map, changes.as_slice())
 }

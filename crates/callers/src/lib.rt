@@ -7,6 +7,7 @@ pub mod editing;
 pub mod many;
 pub mod merging;
 pub mod nested;
+pub mod pages;
 pub mod pairs;
 pub mod reading;
 pub mod ticket;

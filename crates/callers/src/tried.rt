@@ -6,6 +6,7 @@ use crate::editing::{double_all, double_along, raise_price, set_price, set_price
 use crate::many::total_in;
 use crate::merging::merge;
 use crate::nested::{Days, archive_of_inbox, sent_between, sent_on};
+use crate::pages::page;
 use crate::pairs::{Visits, correct, visits, visits_between, visits_in};
 use crate::reading::{
     Prices, count, first_above, first_longer, last_line, price_in, price_in_strict,
@@ -38,6 +39,21 @@ fn two(alloc: Global) -> Result<Vec<u8>, Fail> {
     ];
     let (bytes, _) = archive_of(alloc, &prices)?;
     Ok(bytes)
+}
+
+#[test]
+fn prices_are_paged(rt: HostRuntime) -> Result<(), Fail> {
+    let bytes = two(rt.alloc())?;
+    let all = page(rt.alloc(), Cursor::new(bytes.as_slice()), "", 3)?;
+    assert_eq!(rt; all.len(), 2);
+    let first = page(rt.alloc(), Cursor::new(bytes.as_slice()), "", 1)?;
+    assert_eq!(rt; first.len(), 1);
+    let later = page(rt.alloc(), Cursor::new(bytes.as_slice()), "b", 3)?;
+    assert_eq!(rt; later.len(), 1);
+    let (name, price) = later.first().expect(&rt, "an entry");
+    assert_eq!(rt; name.as_str(), "pear");
+    assert_eq!(rt; *price, 5);
+    Ok(())
 }
 
 #[test]

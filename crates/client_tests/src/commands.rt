@@ -13,7 +13,7 @@ use std::test::Fail;
 
 /// The line of a wrong use.
 const USAGE: &str =
-    "usage: btreearc build | list | get KEY | range LOW HIGH | check | set KEY VALUE | build-strict | check-strict | migrate";
+    "usage: btreearc build [untyped] | list | get KEY | range LOW HIGH | check | set KEY VALUE | build-strict [untyped] | check-strict | migrate";
 
 /// The archive of the one entry 7 and 11.
 const SEVEN: [u8; 56] = [

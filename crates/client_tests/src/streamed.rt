@@ -5,6 +5,7 @@ use crate::commands::words_of;
 use crate::shared::same;
 use btreearc_commands::{program, streaming};
 use btreearc_lines::fault::ProgramFault;
+use btreearc_lines::heading::Heading;
 use btreearc_lines::reopen::Reopen;
 use btreekv_commands::command::Command;
 use btreekv_commands::program::run;
@@ -21,17 +22,18 @@ fn builds_the_same(
     rt: &impl Abort,
     alloc: Global,
     is_strict: bool,
+    heading: Heading,
     lines: &[u8],
 ) -> Result<(), Fail> {
     let command = if is_strict {
-        Command::BuildStrict
+        Command::BuildStrict(heading)
     } else {
-        Command::Build
+        Command::Build(heading)
     };
     let mut input = lines;
     let mut whole = Vec::new(alloc);
     let expected = run(alloc, &command, &mut input, &mut whole);
-    let (streamed, output) = build(alloc, is_strict, &lines, Vec::new(alloc));
+    let (streamed, output) = build(alloc, is_strict, heading, &lines, Vec::new(alloc));
     same(rt, output.as_slice(), whole.as_slice());
     same(rt, fault_of(alloc, streamed)?, fault_of(alloc, expected)?);
     Ok(())
@@ -42,14 +44,18 @@ fn numbers_build_the_same(
     rt: &impl Abort,
     alloc: Global,
     is_strict: bool,
+    heading: Heading,
     lines: &[u8],
 ) -> Result<(), Fail> {
     let word = if is_strict { "build-strict" } else { "build" };
-    let words = words_of(alloc, &[word])?;
+    let words = match heading {
+        Heading::Typed => words_of(alloc, &[word])?,
+        Heading::Untyped => words_of(alloc, &[word, "untyped"])?,
+    };
     let mut input = lines;
     let mut whole = Vec::new(alloc);
     let expected = program::run(alloc, &words, &mut input, &mut whole);
-    let (streamed, output) = streaming::build(alloc, is_strict, &lines, Vec::new(alloc));
+    let (streamed, output) = streaming::build(alloc, is_strict, heading, &lines, Vec::new(alloc));
     same(rt, output.as_slice(), whole.as_slice());
     same(rt, fault_of(alloc, streamed)?, fault_of(alloc, expected)?);
     Ok(())
@@ -77,8 +83,8 @@ fn lines_are_streamed_as_they_are_built(rt: HostRuntime) -> Result<(), Fail> {
         b"a\xff\tb\n",
     ];
     for lines in texts {
-        builds_the_same(&rt, alloc, false, lines)?;
-        builds_the_same(&rt, alloc, true, lines)?;
+        builds_the_same(&rt, alloc, false, Heading::Typed, lines)?;
+        builds_the_same(&rt, alloc, true, Heading::Untyped, lines)?;
     }
     Ok(())
 }
@@ -97,8 +103,8 @@ fn numbers_are_streamed_as_they_are_built(rt: HostRuntime) -> Result<(), Fail> {
         b"1 1\n1 2 \n",
     ];
     for lines in texts {
-        numbers_build_the_same(&rt, alloc, false, lines)?;
-        numbers_build_the_same(&rt, alloc, true, lines)?;
+        numbers_build_the_same(&rt, alloc, false, Heading::Typed, lines)?;
+        numbers_build_the_same(&rt, alloc, true, Heading::Untyped, lines)?;
     }
     Ok(())
 }
@@ -146,7 +152,7 @@ fn fails(rt: &impl Abort, alloc: Global, texts: [&[u8]; 4], line: &str) -> Resul
         texts,
         at: Cell::new(0),
     };
-    let (built, output) = build(alloc, true, &input, Vec::new(alloc));
+    let (built, output) = build(alloc, true, Heading::Typed, &input, Vec::new(alloc));
     same(rt, fault_of(alloc, built)?.as_str(), line);
     Ok(output.len())
 }
@@ -158,7 +164,7 @@ fn an_input_that_changes_is_an_error(rt: HostRuntime) -> Result<(), Fail> {
     let one = b"a\t1\n".as_slice();
     let bad = b"a\t1\nb2\n".as_slice();
     let read = "btreearc: input failed";
-    same(&rt, fails(&rt, alloc, [two, two, two, two], "")?, 100);
+    same(&rt, fails(&rt, alloc, [two, two, two, two], "")?, 132);
     same(&rt, fails(&rt, alloc, [two, one, two, two], read)?, 0);
     same(&rt, fails(&rt, alloc, [two, two, bad, two], read)?, 0);
     fails(&rt, alloc, [two, two, two, one], "btreearc: output failed")?;
@@ -179,7 +185,7 @@ fn fails_later(
         texts: [texts[0], texts[1], b"", b""],
         at: Cell::new(0),
     };
-    let (built, output) = streaming::build(alloc, true, &input, Vec::new(alloc));
+    let (built, output) = streaming::build(alloc, true, Heading::Typed, &input, Vec::new(alloc));
     same(rt, fault_of(alloc, built)?.as_str(), line);
     Ok(output.len())
 }
@@ -189,7 +195,7 @@ fn numbers_that_change_are_an_error(rt: HostRuntime) -> Result<(), Fail> {
     let alloc = rt.alloc();
     let two = b"1 1\n2 2000000000\n".as_slice();
     let output = "btreearc: output failed";
-    same(&rt, fails_later(&rt, alloc, [two, two], "")?, 56);
+    same(&rt, fails_later(&rt, alloc, [two, two], "")?, 88);
     fails_later(&rt, alloc, [two, b"1 1\n"], output)?;
     fails_later(&rt, alloc, [two, b"1 1\n2\n"], output)?;
     let bad = "btreearc: line 2: not KEY VALUE";

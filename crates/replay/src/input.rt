@@ -2,9 +2,11 @@
 
 use anyhow::{Context, bail};
 use std::alloc::{AllocError, Global};
+use std::cmp::OrderedFloat;
 use std::collections::BTreeMap;
 use std::num::{
     NonZeroI8, NonZeroI16, NonZeroI32, NonZeroI64, NonZeroU8, NonZeroU16, NonZeroU32, NonZeroU64,
+    f32_from_bits_with_nan, f64_from_bits_with_nan,
 };
 
 /// What is left of the bytes of a case.
@@ -84,6 +86,27 @@ impl Wire for u32 {
 impl Wire for u64 {
     fn take(_alloc: Global, input: &mut Input<'_>) -> anyhow::Result<u64> {
         Ok(u64::from_le_bytes(input.array::<8>()?))
+    }
+}
+
+/// Each pattern of bits. One of a NaN gives a NaN.
+impl Wire for f32 {
+    fn take(_alloc: Global, input: &mut Input<'_>) -> anyhow::Result<f32> {
+        Ok(f32_from_bits_with_nan(input.number()?))
+    }
+}
+
+/// Each pattern of bits. One of a NaN gives a NaN.
+impl Wire for f64 {
+    fn take(_alloc: Global, input: &mut Input<'_>) -> anyhow::Result<f64> {
+        let bits = u64::from_le_bytes(input.array::<8>()?);
+        Ok(f64_from_bits_with_nan(bits))
+    }
+}
+
+impl<T: Wire> Wire for OrderedFloat<T> {
+    fn take(alloc: Global, input: &mut Input<'_>) -> anyhow::Result<OrderedFloat<T>> {
+        Ok(OrderedFloat(T::take(alloc, input)?))
     }
 }
 
@@ -193,6 +216,15 @@ impl<A: Wire, B: Wire> Wire for (A, B) {
         let first = A::take(alloc, input)?;
         let second = B::take(alloc, input)?;
         Ok((first, second))
+    }
+}
+
+impl<A: Wire, B: Wire, C: Wire> Wire for (A, B, C) {
+    fn take(alloc: Global, input: &mut Input<'_>) -> anyhow::Result<(A, B, C)> {
+        let first = A::take(alloc, input)?;
+        let second = B::take(alloc, input)?;
+        let third = C::take(alloc, input)?;
+        Ok((first, second, third))
     }
 }
 

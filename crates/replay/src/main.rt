@@ -20,6 +20,7 @@ use crate::modes::{Mode, built, native, sealed};
 use anyhow::{Context, bail};
 use rkyv_btree::prelude::*;
 use std::alloc::Global;
+use std::cmp::OrderedFloat;
 use std::collections::BTreeMap;
 use std::io;
 use std::io::Write;
@@ -139,6 +140,66 @@ fn of_options(
                 alloc, mode, case, out,
             )
         }
+        _ => of_floats(alloc, kind, mode, case, out),
+    }
+}
+
+/// Runs a case of a map with floating-point numbers in it.
+fn of_floats(
+    alloc: Global,
+    kind: &str,
+    mode: Mode,
+    case: &[u8],
+    out: &mut String,
+) -> anyhow::Result<()> {
+    match kind {
+        "u32,f64,5" => sealed::<u32, f64, ArchivedU32, ArchivedF64, 5>(alloc, mode, case, out),
+        "f64,u8,3" => {
+            sealed::<OrderedFloat<f64>, u8, ArchivedF64, u8, 3>(alloc, mode, case, out)
+        }
+        "f32,f32,2" => sealed::<OrderedFloat<f32>, f32, ArchivedF32, ArchivedF32, 2>(
+            alloc, mode, case, out,
+        ),
+        _ => of_tuples(alloc, kind, mode, case, out),
+    }
+}
+
+/// Runs a case of a map with tuples of three in it.
+fn of_tuples(
+    alloc: Global,
+    kind: &str,
+    mode: Mode,
+    case: &[u8],
+    out: &mut String,
+) -> anyhow::Result<()> {
+    match kind {
+        "triple(u8,u32,u16),u64,3" => {
+            sealed::<
+                (u8, u32, u16),
+                u64,
+                ArchivedTuple3<u8, ArchivedU32, ArchivedU16>,
+                ArchivedU64,
+                3,
+            >(alloc, mode, case, out)
+        }
+        "u32,triple(u64,bool,u16),5" => {
+            sealed::<
+                u32,
+                (u64, bool, u16),
+                ArchivedU32,
+                ArchivedTuple3<ArchivedU64, bool, ArchivedU16>,
+                5,
+            >(alloc, mode, case, out)
+        }
+        "triple(bool,text,u8),text,2" => {
+            native::<
+                (bool, String, u8),
+                String,
+                ArchivedTuple3<bool, ArchivedText, u8>,
+                ArchivedText,
+                2,
+            >(alloc, mode, case, out)
+        }
         _ => of_others(alloc, kind, mode, case, out),
     }
 }
@@ -242,6 +303,9 @@ fn replay_line(alloc: Global, line: &str, out: &mut String) -> anyhow::Result<()
     let case = bytes_of(alloc, digits)?;
     if name == "source" {
         return sources::lookup(alloc, kind, &case, out);
+    }
+    if name == "source_range" {
+        return sources::range(alloc, kind, &case, out);
     }
     if let Some(change) = changing::Mode::named(name) {
         return of_changes(alloc, kind, change, &case, out);

@@ -63,6 +63,30 @@ impl Shown for ArchivedU64 {
     }
 }
 
+/// The number of its bits, or `nan`.
+impl Shown for ArchivedF32 {
+    fn show(view: &View<'_, ArchivedF32>, out: &mut String) -> Result<(), AllocError> {
+        let number = view.to_native().into_inner();
+        if number.is_nan() {
+            return out.push_str("nan");
+        }
+        let bits = number.to_bits();
+        write!(out, "{bits}")
+    }
+}
+
+/// The number of its bits, or `nan`.
+impl Shown for ArchivedF64 {
+    fn show(view: &View<'_, ArchivedF64>, out: &mut String) -> Result<(), AllocError> {
+        let number = view.to_native().into_inner();
+        if number.is_nan() {
+            return out.push_str("nan");
+        }
+        let bits = number.to_bits();
+        write!(out, "{bits}")
+    }
+}
+
 /// 0 or 1.
 impl Shown for bool {
     fn show(view: &View<'_, bool>, out: &mut String) -> Result<(), AllocError> {
@@ -178,6 +202,20 @@ impl<K: Shown, V: Shown> Shown for Entry<K, V> {
         K::show(&view.key(), out)?;
         out.push(',')?;
         V::show(&view.value(), out)?;
+        out.push(')')
+    }
+}
+
+/// Its fields, in parentheses.
+impl<A: Shown, B: Shown, C: Shown> Shown for ArchivedTuple3<A, B, C> {
+    fn show(view: &View<'_, ArchivedTuple3<A, B, C>>, out: &mut String) -> Result<(), AllocError> {
+        let (first, second, third) = view.as_tuple();
+        out.push('(')?;
+        A::show(&first, out)?;
+        out.push(',')?;
+        B::show(&second, out)?;
+        out.push(',')?;
+        C::show(&third, out)?;
         out.push(')')
     }
 }

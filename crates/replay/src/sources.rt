@@ -1,7 +1,7 @@
 //! Lookups in a case's buffer as a source, which isn't read whole.
 
 use crate::input::{Input, Wire};
-use crate::shown::Shown;
+use crate::shown::{Shown, show_entry};
 use anyhow::{bail, ensure};
 use rkyv_btree::prelude::*;
 use rkyv_btree::source::{CachedSource, Fetch, ReadAt, SourceFault, UnverifiedSource};
@@ -9,6 +9,7 @@ use rkyv_btree_base::layout;
 use std::alloc::Global;
 use std::convert::Infallible;
 use std::num::{NonZeroI8, NonZeroI32, NonZeroI64, NonZeroU8, NonZeroU16, NonZeroU32};
+use std::ops::{Bound, RangeBounds};
 
 /// Appends what a lookup in a source returns.
 fn show_found<V: Shown>(
@@ -159,5 +160,105 @@ pub(crate) fn lookup(
         "text,i32,5" => by_text::<ArchivedI32, 5>(alloc, case, out),
         "bytes,i32,5" => by_bytes::<ArchivedI32, 5>(alloc, case, out),
         _ => bail!("no such type of a source"),
+    }
+}
+
+/// Takes a bound of a case: 0 if there is none, 1 before one that is included, and 2 before one that isn't.
+fn take_bound<N: Wire>(alloc: Global, input: &mut Input<'_>) -> anyhow::Result<Bound<N>> {
+    match input.array::<1>()? {
+        [0] => Ok(Bound::Unbounded),
+        [1] => Ok(Bound::Included(N::take(alloc, input)?)),
+        [2] => Ok(Bound::Excluded(N::take(alloc, input)?)),
+        _ => bail!("no such bound"),
+    }
+}
+
+/// The most entries of a range that are shown.
+const MOST_ENTRIES: usize = 1000;
+
+/// Appends the entries of a range in a buffer as a source, and what comes after them. Each call is lent so many bytes.
+fn show_range<
+    T: Drop,
+    K: Fetch + CompareWith<T> + Shown,
+    V: Fetch + Shown,
+    R: RangeBounds<T>,
+    const E: usize,
+>(buffer: &[u8], (pos, lent): (u32, u32), range: R, out: &mut String) -> anyhow::Result<()> {
+    ensure!(layout::fits::<K, V, E>(), "the map doesn't fit");
+    let mut room = [0u8; 4096];
+    let lent = (lent as usize).min(4096);
+    let map = UnverifiedSource::<&[u8], ArchivedBTreeMap<K, V, E>>::new(buffer, pos, u64::MAX);
+    let mut entries = map.range_of::<T, R>(range);
+    for _ in 0..MOST_ENTRIES {
+        match entries.next(&mut room[..lent]) {
+            Ok(Some((key, value))) => show_entry(key, value, out)?,
+            Ok(None) => {
+                out.push_str(" end")?;
+                break;
+            }
+            Err(SourceFault::NoRoom { needed }) => {
+                write!(out, " needs {needed}")?;
+                break;
+            }
+            Err(fault) => {
+                write!(out, " refused: {fault}")?;
+                break;
+            }
+        }
+    }
+    Ok(())
+}
+
+/// Shows a range of numbers of a case.
+fn range_of_numbers<
+    N: Wire + Copy,
+    K: Fetch + CompareWith<N> + Shown,
+    V: Fetch + Shown,
+    const E: usize,
+>(alloc: Global, case: &[u8], out: &mut String) -> anyhow::Result<()> {
+    let mut input = Input { rest: case };
+    let limits = (input.number()?, input.number()?);
+    let low = take_bound::<N>(alloc, &mut input)?;
+    let high = take_bound::<N>(alloc, &mut input)?;
+    show_range::<N, K, V, (Bound<N>, Bound<N>), E>(input.rest, limits, (low, high), out)
+}
+
+/// Returns a bound by a text that is lent.
+fn lent_bound(bound: &Bound<String>) -> Bound<&str> {
+    match bound {
+        Bound::Unbounded => Bound::Unbounded,
+        Bound::Included(text) => Bound::Included(text.as_str()),
+        Bound::Excluded(text) => Bound::Excluded(text.as_str()),
+    }
+}
+
+/// Shows a range of texts of a case.
+fn range_of_texts<V: Fetch + Shown, const E: usize>(
+    alloc: Global,
+    case: &[u8],
+    out: &mut String,
+) -> anyhow::Result<()> {
+    let mut input = Input { rest: case };
+    let limits = (input.number()?, input.number()?);
+    let low = take_bound::<String>(alloc, &mut input)?;
+    let high = take_bound::<String>(alloc, &mut input)?;
+    let range = (lent_bound(&low), lent_bound(&high));
+    show_range::<&str, ArchivedText, V, (Bound<&str>, Bound<&str>), E>(
+        input.rest, limits, range, out,
+    )
+}
+
+/// Shows a range of a case's buffer as a source, by the name of the map's type.
+pub(crate) fn range(
+    alloc: Global,
+    kind: &str,
+    case: &[u8],
+    out: &mut String,
+) -> anyhow::Result<()> {
+    match kind {
+        "u32,u32,2" => range_of_numbers::<u32, ArchivedU32, ArchivedU32, 2>(alloc, case, out),
+        "u8,u16,3" => range_of_numbers::<u8, u8, ArchivedU16, 3>(alloc, case, out),
+        "text,i32,5" => range_of_texts::<ArchivedI32, 5>(alloc, case, out),
+        _ => bail!("no such type of a range in a source"),
     }
 }

@@ -59,22 +59,23 @@ pub mod laws {
     pub use rkyv_btree_base::laws::{
         archives_are_accepted, claims_are_apart, each_tree_needs_room, entries_are_determined,
         entries_compare_key_first, faults_are_exact, left_complete_is_smallest, logarithm,
-        natives_are_determined, options_are_determined, plan_is_recursive,
-        plan_is_the_left_complete_tree, spelled_trees_have_the_shape, std_types_are_determined,
-        texts_are_determined, trees_are_determined, wasteful_trees, worked_trees,
-        written_maps_are_held,
+        natives_are_determined, options_are_determined, ordered_floats_are_determined,
+        plan_is_recursive, plan_is_the_left_complete_tree, spelled_trees_have_the_shape,
+        std_types_are_determined, texts_are_determined, trees_are_determined,
+        tuples_are_determined, wasteful_trees, worked_trees, written_maps_are_held,
     };
     pub use rkyv_btree_convert::native_map::{last_values_count, maps_are_given_by_entries};
     pub use rkyv_btree_convert::round_trip::{
         maps_are_given_back, natives_are_given_back, pairs_are_given_back, sets_are_given_back,
-        texts_are_given_back,
+        texts_are_given_back, tuples_are_given_back,
     };
     pub use rkyv_btree_convert::sizes::sizes_fit;
     pub use rkyv_btree_convert::std_maps::{archives_are_same_as_std, look_ups_find_as_std};
     pub use rkyv_btree_seal::edit_laws::{values_are_apart, writes_put_values};
     pub use rkyv_btree_strict::strict_laws::{
-        natives_are_ordered_alike, neighbours_decide_order, pairs_are_ordered_alike,
-        std_maps_are_increasing, visits_keep_strict_maps, writes_keep_strict_maps,
+        floats_are_ordered_alike, natives_are_ordered_alike, neighbours_decide_order,
+        pairs_are_ordered_alike, std_maps_are_increasing, tuples_are_ordered_alike,
+        visits_keep_strict_maps, writes_keep_strict_maps,
     };
     pub use rkyv_btree_typed::type_laws::names_are_apart;
     pub use rkyv_btree_unverified::laws::{lookups_are_determined, maps_are_searched};
@@ -134,6 +135,7 @@ pub mod source {
     pub use rkyv_btree_source::laws::takes_cover_reads;
     pub use rkyv_btree_source::piece::{Missing, Piece};
     pub use rkyv_btree_source::pieces::Pieces;
+    pub use rkyv_btree_source::range::SourceRange;
     pub use rkyv_btree_source::reader::Reader;
     pub use rkyv_btree_source::source::{ReadAt, SeekSource};
     pub use rkyv_btree_source::unverified_source::UnverifiedSource;
@@ -151,6 +153,11 @@ pub mod strict {
         CheckStrict, access_strict, open_strict, open_strict_mut, verify_strict,
     };
     pub use rkyv_btree_strict::strict_map::{Strict, StrictView};
+}
+
+/// Tuples of three, read in place.
+pub mod tuple {
+    pub use rkyv_btree_compound::tuple_view::ViewTuple3;
 }
 
 /// Files that state the type of their map: a header with its name, and then an archive.
@@ -195,6 +202,7 @@ pub mod prelude {
     pub use rkyv_btree_base::byte_string::ArchivedBytes;
     pub use rkyv_btree_base::check::{CheckBytes, InPlace, Portable};
     pub use rkyv_btree_base::fault::Fault;
+    pub use rkyv_btree_base::floats::{ArchivedF32, ArchivedF64};
     pub use rkyv_btree_base::io_writer::IoWriter;
     pub use rkyv_btree_base::map::ArchivedBTreeMap;
     pub use rkyv_btree_base::non_zeros::{
@@ -209,9 +217,11 @@ pub mod prelude {
     pub use rkyv_btree_base::set::ArchivedBTreeSet;
     pub use rkyv_btree_base::signed::{ArchivedI16, ArchivedI32, ArchivedI64};
     pub use rkyv_btree_base::text::ArchivedText;
+    pub use rkyv_btree_base::tuple::ArchivedTuple3;
     pub use rkyv_btree_base::util::Entry;
     pub use rkyv_btree_base::whole::to_archive;
     pub use rkyv_btree_compound::option_view::ViewOption;
+    pub use rkyv_btree_compound::tuple_view::ViewTuple3;
     pub use rkyv_btree_convert::deserialize::{Deserialize, DeserializeFault};
     pub use rkyv_btree_convert::deserialize_native::DeserializeNative;
     pub use rkyv_btree_convert::entry_type::EntryType;

@@ -1,5 +1,6 @@
 mod TextsWritten
 pub mod Both
+pub mod JoinedResolved
 pub mod ListArchives
 pub mod Numbers
 pub mod OneArchival

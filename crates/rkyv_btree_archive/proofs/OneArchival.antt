@@ -25,7 +25,7 @@ text_determined text = record {
 }
 
 module _ {X M N R S : Type 0} (K : Archival M R) (V : Archival N S) (pair : X → M × N) (k : IsDetermined K) (v : IsDetermined V) where
-  both_serialised : (x y : X) (from : ℕ) (writes others : List Write) (r q : EntryResolver R S) → (entry_archival K V pair).meaning x ≡ (entry_archival K V pair).meaning y → EntryWrites K V (pair x) from writes r → EntryWrites K V (pair y) from others q → (writes ≡ others) × (r ≡ q)
+  pub both_serialised : (x y : X) (from : ℕ) (writes others : List Write) (r q : EntryResolver R S) → (entry_archival K V pair).meaning x ≡ (entry_archival K V pair).meaning y → EntryWrites K V (pair x) from writes r → EntryWrites K V (pair y) from others q → (writes ≡ others) × (r ≡ q)
   both_serialised x y from writes others r q same a b =
       let key = k.serialised (pair x).0 (pair y).0 from a.first b.first r.key q.key (ap (λ m. m.0) same) a.key b.key in
       let value = v.serialised (pair x).1 (pair y).1 (from + length (appended b.first)) a.second b.second r.value q.value (ap (λ m. m.1) same) (subst (λ (ws : List Write). V.Writes (pair x).1 (from + length (appended ws)) a.second r.value) key.0 a.value) b.value in (

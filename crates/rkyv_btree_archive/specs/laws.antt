@@ -1,5 +1,8 @@
--- Laws that impls cite: those of archived pairs and options.
+-- Laws that impls cite: those of archived pairs, tuples and options, and of numbers that are compared as `OrderedFloat`s.
 pub mod EntryArchived
 pub mod EntryCauses
+pub mod JoinedArchived
+pub mod JoinedCauses
 pub mod OptionArchived
 pub mod OptionCauses
+pub mod OrderedArchived

@@ -47,10 +47,15 @@ pub use Rattle.rkyv_btree_writer.specs.declared.fault.ResolveFault
 pub use Rattle.rkyv_btree_writer.specs.declared.fault.EntryFault
 pub use Rattle.rkyv_btree_writing_laws.specs.Kept
 pub use Rattle.rkyv_btree_writing_laws.specs.Determined
+pub use Rattle.rkyv_btree_compound.specs.Floats
+pub use Rattle.rkyv_btree_compound.specs.Joined
 pub use Rattle.rkyv_btree_compound.specs.Option
+pub use Rattle.rkyv_btree_compound.specs.Tuples
 pub use Rattle.rkyv_btree_archive.specs.EntryArchival
 pub use Rattle.rkyv_btree_archive.specs.OptionArchival
+pub use Rattle.rkyv_btree_archive.specs.OrderedArchival
 pub use Rattle.rkyv_btree_archive.specs.TryBuilding
+pub use Rattle.rkyv_btree_archive.specs.TupleArchival
 pub use Rattle.rkyv_btree_writing_laws.specs.Image
 pub use Rattle.rkyv_btree_writing_laws.specs.Entries
 pub use Rattle.rkyv_btree_writing_laws.specs.Written

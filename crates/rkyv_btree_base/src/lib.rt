@@ -61,9 +61,11 @@ pub mod laws {
     pub use rkyv_btree_archive::build::{
         archives_are_accepted, trees_are_determined, written_maps_are_held,
     };
+    pub use rkyv_btree_archive::floats::ordered_floats_are_determined;
     pub use rkyv_btree_archive::option::options_are_determined;
     pub use rkyv_btree_archive::std_types::std_types_are_determined;
     pub use rkyv_btree_archive::string::texts_are_determined;
+    pub use rkyv_btree_archive::tuple3::tuples_are_determined;
     pub use rkyv_btree_archive::util::entries_are_determined;
     pub use rkyv_btree_format::competitors::spelled_trees_have_the_shape;
     pub use rkyv_btree_portable::entry::entries_compare_key_first;
@@ -90,9 +92,19 @@ pub mod byte_string {
     pub use rkyv_btree_portable::byte_string::ArchivedBytes;
 }
 
+/// Archived floating-point numbers, as types of bytes.
+pub mod floats {
+    pub use rkyv_btree_compound::floats::{ArchivedF32, ArchivedF64, ArchivedFloat};
+}
+
 /// Archived options, as a type of bytes.
 pub mod option {
     pub use rkyv_btree_compound::option::ArchivedOption;
+}
+
+/// Archived tuples of three, as a type of bytes. A pair is an `Entry`.
+pub mod tuple {
+    pub use rkyv_btree_compound::tuple::ArchivedTuple3;
 }
 
 /// Archived texts, as a type of bytes.

@@ -1,5 +1,6 @@
--- What native maps and pairs owe, by what their parts owe.
+-- What native maps, pairs and tuples owe, by what their parts owe.
 pub mod Maps
 pub mod Options
 pub mod Pairs
 pub mod Sets
+pub mod Tuples

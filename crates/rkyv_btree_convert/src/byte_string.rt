@@ -36,7 +36,7 @@ impl Deserialize<Vec<u8>> for ArchivedBytes {
 
     ghost by_meaning = { record { of_value = λ bytes. Ok bytes; by_value = λ b at. refl } };
 
-    ghost model_whole = { λ x y same. Prim.search (rules, common_steps) };
+    ghost model_whole = { λ x y same own. Prim.search (rules, common_steps) };
 }
 
 impl DeserializeKey<Vec<u8>> for ArchivedBytes {

@@ -71,8 +71,8 @@ pub trait Deserialize<T: PartialEq>: Portable {
     // The native value depends on the meaning of the bytes alone, at any position.
     ghost by_meaning: { IsByMeaning Self.kind decoded };
 
-    // Values with the same model are equal. So the model has all that `==` sees.
-    ghost model_whole: { (x y : T) → model x ≡ model y → T.eq x y ≡ true };
+    // Values with the same model are equal, if they equal themselves, as all but a NaN do. So the model has all that `==` sees.
+    ghost model_whole: { (x y : T) → model x ≡ model y → T.eq x x ≡ true → T.eq x y ≡ true };
 }
 
 impl<T: DeserializeNative> Deserialize<T::Native> for T {
@@ -96,7 +96,7 @@ impl<T: DeserializeNative> Deserialize<T::Native> for T {
       by_value = λ b at. ap Ok (T.read_as.by_value b at);
     } };
 
-    ghost model_whole = { λ x y same.
+    ghost model_whole = { λ x y same _.
         ap (T.Native.eq x) (sym same) ∙ T.Native.Eq.laws.refl x };
 }
 
@@ -123,7 +123,7 @@ impl Deserialize<NonZeroU32> for ArchivedNonZeroU32 {
 
     ghost by_meaning = { record { of_value = λ number. Ok number; by_value = λ b at. refl } };
 
-    ghost model_whole = { λ x y same. Prim.search (rules, common_steps) };
+    ghost model_whole = { λ x y same own. Prim.search (rules, common_steps) };
 }
 
 impl Deserialize<String> for ArchivedText {
@@ -148,5 +148,5 @@ impl Deserialize<String> for ArchivedText {
 
     ghost by_meaning = { record { of_value = λ text. Ok text; by_value = λ b at. refl } };
 
-    ghost model_whole = { λ x y same. Prim.search (rules, common_steps) };
+    ghost model_whole = { λ x y same own. Prim.search (rules, common_steps) };
 }

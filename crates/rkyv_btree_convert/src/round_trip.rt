@@ -4,6 +4,8 @@ ghost use Rattle.std.specs.List.{All};
 ghost use Rattle.std.specs.List.Sorted.{IsStrictlySortedBy};
 ghost use Rattle.std.specs.Map.{keys_of};
 ghost use Rattle.std.specs.Int.NonZero.{non_zero_u32_get};
+ghost use Rattle.rkyv_btree_compound.specs.Floats.{f32_kind, f64_kind};
+ghost use Rattle.rkyv_btree_compound.specs.Tuples.{tuple3_kind};
 ghost use Rattle.rkyv_btree_portable.specs.Entry.{entry_kind};
 ghost use Rattle.rkyv_btree_verify.specs.Map.{map_kind};
 ghost use Rattle.rkyv_btree_portable.specs.Scalars.{bool_kind, char_kind, i16_kind, i32_kind, i64_kind, i8_kind, non_zero_kind};
@@ -16,6 +18,8 @@ ghost use Rattle.rkyv_btree_convert.specs.Sets.{native_set};
 
 use crate::deserialize::Deserialize;
 use crate::native_key::DeserializeKey;
+use rkyv_btree_compound::floats::{ArchivedF32, ArchivedF64};
+use rkyv_btree_compound::tuple::ArchivedTuple3;
 use rkyv_btree_portable::entry::Entry;
 use rkyv_btree_portable::numbers::{ArchivedU16, ArchivedU32, ArchivedU64};
 use rkyv_btree_portable::scalars::{ArchivedChar, ArchivedNonZeroU32};
@@ -24,7 +28,8 @@ use rkyv_btree_portable::text::ArchivedText;
 use std::alloc::Global;
 use std::num::NonZeroU32;
 
-/// What a number, a truth value, a character or a `()` means gives it back.
+/// What a number, a truth value, a character or a `()` means gives it back. Of floating-point numbers a NaN comes back as a NaN, and
+/// all others bit for bit.
 pub fn natives_are_given_back()
     ensures u8 { GivesItselfBack u8_kind ⟦<u8 as Deserialize<u8>>⟧.decoded }
     ensures u16 { GivesItselfBack u16_kind ⟦<ArchivedU16 as Deserialize<u16>>⟧.decoded }
@@ -37,6 +42,8 @@ pub fn natives_are_given_back()
     ensures truths { GivesItselfBack bool_kind ⟦<bool as Deserialize<bool>>⟧.decoded }
     ensures units { GivesItselfBack unit_kind ⟦<() as Deserialize<()>>⟧.decoded }
     ensures chars { GivesItselfBack char_kind ⟦<ArchivedChar as Deserialize<char>>⟧.decoded }
+    ensures f32 { GivesItselfBack f32_kind ⟦<ArchivedF32 as Deserialize<f32>>⟧.decoded }
+    ensures f64 { GivesItselfBack f64_kind ⟦<ArchivedF64 as Deserialize<f64>>⟧.decoded }
     ensures non_zero { GivesBack non_zero_kind non_zero_u32_get
         ⟦<ArchivedNonZeroU32 as Deserialize<NonZeroU32>>⟧.decoded non_zero_u32_get }
 {}
@@ -59,6 +66,26 @@ pub fn pairs_are_given_back<
         → IsGivenBack V.kind value V.decoded V.model pair.1
         → IsGivenBack {X = T × U} (entry_kind K.kind V.kind) (λ e. (key e.0, value e.1))
         ⟦<Entry<K, V> as Deserialize<(T, U)>>⟧.decoded (λ e. (K.model e.0, V.model e.1)) pair }
+{}
+
+/// A tuple of three is given back where its fields are.
+pub fn tuples_are_given_back<
+    T: PartialEq + Drop,
+    U: PartialEq + Drop,
+    W: PartialEq,
+    A: Deserialize<T>,
+    B: Deserialize<U>,
+    C: Deserialize<W>,
+>()
+    ensures { (first : T → A.kind.Value) (second : U → B.kind.Value) (third : W → C.kind.Value)
+        → (tuple : T × U × W)
+        → IsGivenBack A.kind first A.decoded A.model tuple.0
+        → IsGivenBack B.kind second B.decoded B.model tuple.1
+        → IsGivenBack C.kind third C.decoded C.model tuple.2
+        → IsGivenBack {X = T × U × W} (tuple3_kind A.kind B.kind C.kind)
+        (λ x. ((first x.0, second x.1), third x.2))
+        ⟦<ArchivedTuple3<A, B, C> as Deserialize<(T, U, W)>>⟧.decoded
+        (λ x. ((A.model x.0, B.model x.1), C.model x.2)) tuple }
 {}
 
 /// A map is given back, all its entries in order, where its keys ascend, as those of every native map do, and each key

@@ -21,11 +21,11 @@ use Rattle.rkyv_btree_writer.specs.declared.fault.Fault.{Fault}
 use Rattle.rkyv_btree_writer.specs.declared.fault.Fault.TheVariants.{Length, LengthOverflow, PositionOverflow, OffsetOverflow, Writer, Memory, Entry, OutOfOrder}
 use Rattle.rkyv_btree_format.specs.Increasing.{Increasing as AreIncreasing, IsOutOfOrder}
 use Rattle.rkyv_btree_portable.specs.Kind.{Kind, IsLawful}
-use Rattle.rkyv_btree_format.specs.Layout.{are_fitting}
+use Rattle.rkyv_btree_format.specs.Layout.{NodeLayout, are_fitting, layout_of}
 use Rattle.rkyv_btree_verify.specs.Map.{map_kind}
 use Rattle.rkyv_btree_writing_laws.specs.Miscounts.{IsMiscount}
 use Rattle.rkyv_btree_shape.specs.Plan.{planned_alone}
-use Rattle.rkyv_btree_writing_laws.specs.Serialising.{BuildFault as TreeCause, RootFault}
+use Rattle.rkyv_btree_writing_laws.specs.Serialising.{Built, BuildsTree, BuildFault as TreeCause, RootFault}
 use Rattle.rkyv_btree_writing_laws.specs.Image.{root_image}
 use Rattle.rkyv_btree_writing_laws.specs.Kept.{OnlyAppended}
 use Rattle.rkyv_btree_writing_laws.specs.Archives.{WrittenIsHeld}
@@ -42,7 +42,8 @@ use Rattle.rkyv_btree_writing_laws.proofs.TreeSerialised.{list_unserialised}
 use Rattle.rkyv_btree_ffi.specs.Building.{IsFirstBad, IsBuiltOf, IsUnbuiltOf, StopsWith, IsEntryOf, given, IsRowOf, row, Archives, ArchivesColumns}
 use Rattle.rkyv_btree_ffi.specs.Columns.{IsNativeCell}
 use Rattle.rkyv_btree_ffi.specs.Items.{Native, Resolver, archival_of, native_value, IsNative}
-use Rattle.rkyv_btree_ffi.specs.MapTypes.{key_kind, value_kind}
+use Rattle.rkyv_btree_ffi.specs.Lengths.{IsArchiveOfLength, least_len, most_len, texts_len}
+use Rattle.rkyv_btree_ffi.specs.MapTypes.{key_kind, value_kind, kind_of}
 use Rattle.rkyv_btree_ffi.specs.declared.building.BuildFault.{BuildFault}
 use Rattle.rkyv_btree_ffi.specs.declared.building.BuildFault.TheVariants.{BadItem, Unbuilt}
 use Rattle.rkyv_btree_ffi.specs.declared.column.BtreeColumn.{BtreeColumn}
@@ -52,7 +53,8 @@ use Rattle.rkyv_btree_ffi.specs.declared.item.BtreeEntry.{BtreeEntry}
 use Rattle.rkyv_btree_ffi.specs.declared.map_type.ItemType.{ItemType}
 use Rattle.rkyv_btree_ffi.specs.declared.map_type.ItemType.TheVariants.{U32, U64, I64, Text, Bytes, Empty}
 use Rattle.rkyv_btree_ffi.specs.declared.map_type.MapType.{MapType}
-use Rattle.rkyv_btree_ffi.specs.mirror.Natives.{GivesBoth, native_meaning, NativesStop, TreeFault, NativeFault, AreGiven, ArchivesNatives, BuiltGiven, UnbuiltGiven}
+use Rattle.rkyv_btree_ffi.specs.mirror.Natives.{GivesBoth, native_meaning, NativesStop, TreeFault, NativeFault, AreGiven, ArchivesNatives, HasTree, BuiltGiven, UnbuiltGiven}
+use Rattle.rkyv_btree_ffi.proofs.ArchiveLengths.{between}
 use Rattle.rkyv_btree_ffi.proofs.Never.{never_refused}
 
 -- the entry at an index is the first bad one
@@ -194,6 +196,21 @@ module _ {M N R S P Q F : Type 0} (K V : Kind) (KA : Archival M R) (VA : Archiva
   increasing_all cmp (Ok root) h = subst (λ (xs : List (M × N)). AreIncreasing cmp xs) (drained rest iter h.0.items h.0.all ∙ is) h.1
   increasing_all cmp (Err e) h = tt
 
+  -- and their tree
+  pub built_all : (r : Result ℕ F) → IfOk r (BuildsTree K V 5 KA VA now_of (YieldsFirstBy now_of rest) iter claim state before after) → IfOk r (λ root. Built (layout_of K V 5) KA VA (state before) natives root (state after))
+  built_all (Ok root) h = subst (λ (xs : List (M × N)). Built (layout_of K V 5) KA VA (state before) xs root (state after)) (drained rest iter h.items h.all ∙ is) h.built
+  built_all (Err e) h = tt
+
+-- an archive has as many bytes as they take
+pub tree_written : {M N R S : Type 0} (s : NodeLayout) (KA : Archival M R) (VA : Archival N S) (natives : List (M × N)) (from mid to : Writing) (root : ℕ) → from ≡ fresh → Built s KA VA from natives root mid → OnlyAppended from mid
+    → Wrote mid (root_image (position mid) root (length natives)) to → (bytes : List ℕ) → bytes ≡ to.contents → HasTree KA VA s natives (length bytes)
+tree_written s KA VA natives from mid to root start built went wrote bytes is = record {
+  root = root;
+  left = mid;
+  built = subst (λ (w : Writing). Built s KA VA w natives root mid) start built;
+  long = ap length is ∙ archive_length mid to root (length natives) (went.1.base ∙ ap (λ (w : Writing). w.base) start) wrote;
+}
+
 -- the tree and the map after it are the archive
 pub archive_written : {M N R S : Type 0} (K V : Kind) (KA : Archival M R) (VA : Archival N S) (natives : List (M × N)) (from s t : Writing) (root : ℕ) → WrittenIsHeld → from ≡ fresh → IsArchive K V 5 KA VA from natives root s → OnlyAppended from s
     → Wrote s (root_image (position s) root (length natives)) t → position t ≤ last_end → (bytes : List ℕ) → bytes ≡ t.contents → ArchivesNatives KA VA K V natives bytes
@@ -241,7 +258,7 @@ module _ {E M N : Type 0} (IsOf : E → Type 0) (GivesKey : E → M → Type 0) 
     -- as what the entries mean
     module _ (meant : E → KA.kind.Value × VA.kind.Value) (means : (e : E) (x : M × N) → GivesBoth IsOf GivesKey GivesValue e x → native_meaning KA VA x ≡ meant e)
         (same : (x y : M) → cmp x y ≡ KA.kind.order (KA.meaning x) (KA.meaning y)) (no_key : (x : M) (at : ℕ) (f : EntryFault) → KA.Refuses x at f → ⊥) (no_value : (x : N) (at : ℕ) (f : EntryFault) → VA.Refuses x at f → ⊥) where
-      all_meant : (es : List E) (xs : List (M × N)) → AllZip (GivesBoth IsOf GivesKey GivesValue) es xs → map (native_meaning KA VA) xs ≡ map meant es
+      pub all_meant : (es : List E) (xs : List (M × N)) → AllZip (GivesBoth IsOf GivesKey GivesValue) es xs → map (native_meaning KA VA) xs ≡ map meant es
       all_meant [] [] h = refl
       all_meant [] (x ∷ xs) h = absurd h
       all_meant (e ∷ es) [] h = absurd h
@@ -323,13 +340,30 @@ module _ (t : MapType) (cmp : Native t.key → Native t.key → Ordering) (same 
     abbrev IsGivenFault : BuildFault → Type 0
     IsGivenFault = UnbuiltGiven IsOf GivesKey GivesValue order entries Key Value cmp
 
+    -- what native entries mean is what the given ones mean, so an archive has as many bytes as these take
+    of_length : (meant : E → (key_kind t).Value × (value_kind t).Value) (x : Vec ℕ Global) (h : IsGivenArchive x) → map (native_meaning Key Value) h.natives ≡ map meant entries
+        → IsBuiltOf IsOf meant (key_kind t).order order entries (IsArchiveOf (kind_of t) x.items) → IsBuiltOf IsOf meant (key_kind t).order order entries (IsArchiveOfLength t x.items)
+    of_length meant x h is built =
+        let lengths = between t h.natives (length x.items) h.tree built.archived.means.short in
+        record {
+          good = built.good;
+          archived = record {
+            archive = built.archived;
+            least = subst (λ (xs : List ((key_kind t).Value × (value_kind t).Value)). least_len t (length xs) (texts_len t xs) ≤ length x.items) is lengths.0;
+            most = subst (λ (xs : List ((key_kind t).Value × (value_kind t).Value)). length x.items ≤ most_len t (length xs) (texts_len t xs)) is lengths.1;
+          };
+          increasing = built.increasing;
+        }
+
   -- what is built of entries
   pub archives : (texts : List ℕ) (es : List BtreeEntry) (r : Result (Vec ℕ Global) BuildFault)
       → IfOk r (IsGivenArchive (IsEntryOf t texts) (λ e. IsNative t.key texts e.key) (λ e. IsNative t.value texts e.value) es)
       → IfErr r (IsGivenFault (IsEntryOf t texts) (λ e. IsNative t.key texts e.key) (λ e. IsNative t.value texts e.value) es)
       → Archives t order texts es r
   archives texts es (Ok x) h g =
-      built_of (IsEntryOf t texts) (λ e. IsNative t.key texts e.key) (λ e. IsNative t.value texts e.value) Key Value cmp order es (given t texts) (λ e x h. both h.0 h.1) same (never t.key) (never t.value) (Ok x) h
+      of_length (IsEntryOf t texts) (λ e. IsNative t.key texts e.key) (λ e. IsNative t.value texts e.value) es (given t texts) x h
+      (all_meant (IsEntryOf t texts) (λ e. IsNative t.key texts e.key) (λ e. IsNative t.value texts e.value) Key Value cmp order es (given t texts) (λ e x h. both h.0 h.1) same (never t.key) (never t.value) es h.natives h.given.each)
+      (built_of (IsEntryOf t texts) (λ e. IsNative t.key texts e.key) (λ e. IsNative t.value texts e.value) Key Value cmp order es (given t texts) (λ e x h. both h.0 h.1) same (never t.key) (never t.value) (Ok x) h)
   archives texts es (Err fault) h g =
       unbuilt_of (IsEntryOf t texts) (λ e. IsNative t.key texts e.key) (λ e. IsNative t.value texts e.value) Key Value cmp order es (given t texts) (λ e x h. both h.0 h.1) same (never t.key) (never t.value) (Err fault) g
 
@@ -339,6 +373,8 @@ module _ (t : MapType) (cmp : Native t.key → Native t.key → Ordering) (same 
       → IfErr r (IsGivenFault (IsRowOf t keys values) (IsNativeCell t.key keys) (IsNativeCell t.value values) (range_with_len 0 len))
       → ArchivesColumns t order keys values len r
   archives_columns keys values len (Ok x) h g =
-      built_of (IsRowOf t keys values) (IsNativeCell t.key keys) (IsNativeCell t.value values) Key Value cmp order (range_with_len 0 len) (row t keys values) (λ e x h. both h.0 h.1) same (never t.key) (never t.value) (Ok x) h
+      of_length (IsRowOf t keys values) (IsNativeCell t.key keys) (IsNativeCell t.value values) (range_with_len 0 len) (row t keys values) x h
+      (all_meant (IsRowOf t keys values) (IsNativeCell t.key keys) (IsNativeCell t.value values) Key Value cmp order (range_with_len 0 len) (row t keys values) (λ e x h. both h.0 h.1) same (never t.key) (never t.value) (range_with_len 0 len) h.natives h.given.each)
+      (built_of (IsRowOf t keys values) (IsNativeCell t.key keys) (IsNativeCell t.value values) Key Value cmp order (range_with_len 0 len) (row t keys values) (λ e x h. both h.0 h.1) same (never t.key) (never t.value) (Ok x) h)
   archives_columns keys values len (Err fault) h g =
       unbuilt_of (IsRowOf t keys values) (IsNativeCell t.key keys) (IsNativeCell t.value values) Key Value cmp order (range_with_len 0 len) (row t keys values) (λ e x h. both h.0 h.1) same (never t.key) (never t.value) (Err fault) g

@@ -1,9 +1,14 @@
+pub mod ArchiveLengths
 pub mod Built
 pub mod Cursors
 pub mod Fits
+pub mod Lengths
 pub mod LookedUp
 pub mod Never
 pub mod Places
+pub mod Room
 pub mod Shown
+pub mod Sized
 pub mod Stepped
+pub mod TextLengths
 pub mod Types

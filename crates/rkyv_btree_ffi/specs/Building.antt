@@ -12,11 +12,11 @@ use Rattle.rkyv_btree_format.specs.Increasing.{Increasing as AreIncreasing, IsOu
 use Rattle.rkyv_btree_writing_laws.specs.Serialising.{RootFault}
 use Rattle.rkyv_btree_writing_laws.specs.TreeArchival.{tree_archival}
 use Rattle.rkyv_btree_writing_laws.specs.Whole.{fresh}
-use Rattle.rkyv_btree_format.specs.OwnBytes.{IsArchiveOf}
 use Rattle.rkyv_btree_writer.specs.Writing.{Writing}
 use Rattle.rkyv_btree_ffi.specs.Columns.{IsCell, cell_value}
 use Rattle.rkyv_btree_ffi.specs.Items.{IsOfType, item_value, Native, native_value, archival_of}
-use Rattle.rkyv_btree_ffi.specs.MapTypes.{key_kind, value_kind, kind_of}
+use Rattle.rkyv_btree_ffi.specs.Lengths.{IsArchiveOfLength}
+use Rattle.rkyv_btree_ffi.specs.MapTypes.{key_kind, value_kind}
 use Rattle.rkyv_btree_ffi.specs.declared.building.BuildFault.{BuildFault}
 use Rattle.rkyv_btree_ffi.specs.declared.building.BuildFault.TheVariants.{BadItem, Unbuilt}
 use Rattle.rkyv_btree_ffi.specs.declared.codes.BtreeRefusal.{BtreeRefusal}
@@ -88,9 +88,9 @@ Stops t entries fault =
     × (map (λ x. (native_value t.key x.0, native_value t.value x.1)) natives ≡ entries)
     × StopsWith (archival_of t.key) (archival_of t.value) natives fault
 
--- the bytes are the archive of the entries that C hands in
+-- the bytes are the archive of the entries that C hands in, and no longer than these take
 abbrev pub IsBuilt : MapType → Order → List ℕ → List BtreeEntry → List ℕ → Type 0
-IsBuilt t order texts entries bytes = IsBuiltOf (IsEntryOf t texts) (given t texts) (key_kind t).order order entries (IsArchiveOf (kind_of t) bytes)
+IsBuilt t order texts entries bytes = IsBuiltOf (IsEntryOf t texts) (given t texts) (key_kind t).order order entries (IsArchiveOfLength t bytes)
 
 -- why they have none
 abbrev pub IsUnbuilt : MapType → Order → List ℕ → List BtreeEntry → BuildFault → Type 0
@@ -104,7 +104,7 @@ Archives t order texts entries (Err fault) = IsUnbuilt t order texts entries fau
 -- the archive of the first entries of two columns, as many as these, by its bytes, or why there is none
 abbrev pub ArchivesColumns : MapType → Order → BtreeColumn → BtreeColumn → ℕ → Result (Vec ℕ Global) BuildFault → Type 0
 ArchivesColumns t order keys values len (Ok archive) =
-    IsBuiltOf (IsRowOf t keys values) (row t keys values) (key_kind t).order order (range_with_len 0 len) (IsArchiveOf (kind_of t) archive.items)
+    IsBuiltOf (IsRowOf t keys values) (row t keys values) (key_kind t).order order (range_with_len 0 len) (IsArchiveOfLength t archive.items)
 ArchivesColumns t order keys values len (Err fault) =
     IsUnbuiltOf (IsRowOf t keys values) (row t keys values) (key_kind t).order order (range_with_len 0 len) (Stops t) fault
 

@@ -9,6 +9,7 @@ pub mod Editing
 pub mod Entries
 pub mod Finding
 pub mod Items
+pub mod Lengths
 pub mod MapTypes
 pub mod Messages
 pub mod Opening

@@ -1,10 +1,11 @@
 //! Archives of entries that C has.
-ghost use Rattle.std.specs.Prelude.{◌≡◌, ◌≤◌, ◌<◌, IsTrue, IfOk, IfErr, OnOk, None, length};
+ghost use Rattle.std.specs.Prelude.{◌≡◌, ◌≢◌, ◌≤◌, ◌<◌, IsTrue, IfOk, IfErr, OnOk, None, length};
 ghost use Rattle.std.specs.Iterator.{YieldsFirstBy, item_count};
 ghost use Rattle.std.specs.List.{range_with_len};
 ghost use Rattle.rkyv_btree_format.specs.Increasing.{Increasing as AreIncreasing};
 ghost use Rattle.rkyv_btree_writing_laws.specs.Kept.{OnlyAppended};
-ghost use Rattle.rkyv_btree_format.specs.Layout.{are_fitting};
+ghost use Rattle.rkyv_btree_format.specs.Layout.{are_fitting, layout_of};
+ghost use Rattle.rkyv_btree_writing_laws.specs.Serialising.{Built};
 ghost use Rattle.rkyv_btree_writing_laws.specs.SmallestMaps.{IsArchive};
 ghost use Rattle.rkyv_btree_writing_laws.specs.TreeArchival.{tree_archival};
 ghost use Rattle.rkyv_btree_writer.specs.Archiving.{Serialises};
@@ -13,10 +14,12 @@ ghost use Rattle.rkyv_btree_ffi.specs.Building.{Archives, ArchivesColumns, Puts}
 ghost use Rattle.rkyv_btree_ffi.specs.Building.{cause_of as cause_for, code_of as code_for, index_of as index_for};
 ghost use Rattle.rkyv_btree_ffi.specs.Columns.{IsCell, IsNativeCell};
 ghost use Rattle.rkyv_btree_ffi.specs.Items.{archival_of, kind_at, IsNative, IsOfType};
+ghost use Rattle.rkyv_btree_ffi.specs.Lengths.{most_len, items_len, columns_len, buffers_len};
 ghost use Rattle.rkyv_btree_ffi.specs.MapTypes.{type_of, IfType};
 ghost use Rattle.rkyv_btree_ffi.specs.declared.order.Order.{Order};
 ghost use Rattle.rkyv_btree_ffi.specs.declared.order.Order.TheVariants.{Any, Increasing};
-ghost use Rattle.rkyv_btree_ffi.specs.mirror.Natives.{AreGiven, IsOfBoth, IsRow, IsUngiven, TreeFault, NativeFault, ArchivesNatives, BuiltGiven, UnbuiltGiven};
+ghost use Rattle.rkyv_btree_ffi.specs.mirror.Natives.{AreGiven, IsOfBoth, IsRow, IsUngiven, TreeFault, NativeFault};
+ghost use Rattle.rkyv_btree_ffi.specs.mirror.Natives.{ArchivesNatives, HasTree, BuiltGiven, UnbuiltGiven};
 
 use crate::at_type;
 use crate::codes::{
@@ -169,6 +172,9 @@ fn write_tree<'t, K: Given<'t>, V: Given<'t>>(
     ensures serialised { IfOk result
         (Serialises (tree_archival 5 K.Native.archival V.Native.archival (λ xs. xs)) natives.now
         writer.old writer.new) }
+    ensures tree { IfOk result (λ root.
+        Built (layout_of K.kind V.kind 5) K.Native.archival V.Native.archival writer.old
+        natives.now root writer.new) }
     ensures archive { IfOk result (λ root.
         IsArchive K.kind V.kind 5 K.Native.archival V.Native.archival writer.old natives.now root
         writer.new) }
@@ -204,6 +210,9 @@ fn archive_of<'t, K: Given<'t>, V: Given<'t>>(
     requires { IsTrue (are_fitting K.kind V.kind 5) }
     ensures archive { IfOk result (λ bytes.
         ArchivesNatives K.Native.archival V.Native.archival K.kind V.kind natives.now bytes.items) }
+    ensures tree { IfOk result (λ bytes.
+        HasTree K.Native.archival V.Native.archival (layout_of K.kind V.kind 5) natives.now
+        (length bytes.items)) }
     ensures increasing { order ≡ Increasing → OnOk result (AreIncreasing K.Native.cmp natives.now) }
     ensures err { IfErr result
         (NativeFault K.Native.archival V.Native.archival K.Native.cmp order natives.now) }
@@ -391,6 +400,9 @@ pub extern "C" fn rkyv_btree_build(
         × Archives t Any texts.now entries.now built
         × Puts built out.old out.new archive_len.old archive_len.new refusal.old refusal.new
         result) }
+    ensures room { IfType map_type (λ t.
+        most_len t (length entries.now) (items_len t entries.now) ≤ length out.old
+        → result ≢ 38) }
     ensures no_type { type_of map_type ≡ None → (result ≡ 17) × (out.new ≡ out.old)
         × (archive_len.new ≡ archive_len.old) × (refusal.new ≡ refusal.old) }
 {
@@ -420,6 +432,9 @@ pub extern "C" fn rkyv_btree_build_strict(
         × Archives t Increasing texts.now entries.now built
         × Puts built out.old out.new archive_len.old archive_len.new refusal.old refusal.new
         result) }
+    ensures room { IfType map_type (λ t.
+        most_len t (length entries.now) (items_len t entries.now) ≤ length out.old
+        → result ≢ 38) }
     ensures no_type { type_of map_type ≡ None → (result ≡ 17) × (out.new ≡ out.old)
         × (archive_len.new ≡ archive_len.old) × (refusal.new ≡ refusal.old) }
 {
@@ -450,6 +465,10 @@ pub extern "C" fn rkyv_btree_build_arrays(
         × ArchivesColumns t Any keys.now values.now len built
         × Puts built out.old out.new archive_len.old archive_len.new refusal.old refusal.new
         result) }
+    ensures room { IfType map_type (λ t.
+        most_len t len (columns_len t keys.now values.now len) ≤ length out.old → result ≢ 38) }
+    ensures room_of_buffers { IfType map_type (λ t.
+        most_len t len (buffers_len t keys.now values.now) ≤ length out.old → result ≢ 38) }
     ensures no_type { type_of map_type ≡ None → (result ≡ 17) × (out.new ≡ out.old)
         × (archive_len.new ≡ archive_len.old) × (refusal.new ≡ refusal.old) }
 {
@@ -480,6 +499,10 @@ pub extern "C" fn rkyv_btree_build_arrays_strict(
         × ArchivesColumns t Increasing keys.now values.now len built
         × Puts built out.old out.new archive_len.old archive_len.new refusal.old refusal.new
         result) }
+    ensures room { IfType map_type (λ t.
+        most_len t len (columns_len t keys.now values.now len) ≤ length out.old → result ≢ 38) }
+    ensures room_of_buffers { IfType map_type (λ t.
+        most_len t len (buffers_len t keys.now values.now) ≤ length out.old → result ≢ 38) }
     ensures no_type { type_of map_type ≡ None → (result ≡ 17) × (out.new ≡ out.old)
         × (archive_len.new ≡ archive_len.old) × (refusal.new ≡ refusal.old) }
 {

@@ -2,6 +2,7 @@
 #![tactic(auto)]
 
 mod at_type;
+pub mod bound;
 pub mod building;
 pub mod codes;
 pub mod column;

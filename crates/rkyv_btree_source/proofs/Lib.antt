@@ -10,8 +10,11 @@ pub mod Knowing
 pub mod Lacking
 pub mod Pairs
 pub mod Parts
+pub mod Ranging
 pub mod Sorted
 pub mod Sourced
 pub mod Spent
+pub mod Stepping
 pub mod Taking
 pub mod Texts
+pub mod Walks

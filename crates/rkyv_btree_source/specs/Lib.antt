@@ -3,5 +3,7 @@ pub mod Cached
 pub mod Known
 pub mod Reading
 pub mod Reads
+pub mod SourceRange
 pub mod Sourced
+pub mod laws
 pub mod mirror

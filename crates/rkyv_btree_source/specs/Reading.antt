@@ -1,5 +1,5 @@
 -- What a lookup in a source returns: what one in its bytes does, or a fault of reading.
-use Rattle.std.specs.Prelude.{◌≡◌, ℕ, ◌+◌, ◌*◌, ◌≤◌, ◌<◌, IsTrue, List, length, Result, Ok, Err}
+use Rattle.std.specs.Prelude.{◌≡◌, ℕ, ◌+◌, ◌*◌, ◌≤◌, ◌<◌, IsTrue, List, length, min, Result, Ok, Err}
 use Rattle.rkyv_btree_portable.specs.Bytes.{bytes_at}
 use Rattle.rkyv_btree_portable.specs.Kind.{Kind}
 use Rattle.rkyv_btree_portable.specs.declared.refusal.Refusal.{Refusal}
@@ -63,3 +63,22 @@ IfRead P (Refused e) = Unit {0}
 IfRead P (Read e) = P e
 IfRead P (NoRoom n) = Unit {0}
 IfRead P OverBudget = Unit {0}
+
+-- after a fault of reading, which refuses nothing, P holds
+abbrev pub IfUnread : {X : Type 0} → Type 0 → SourceFault X → Type 0
+IfUnread P (Refused r) = Unit {0}
+IfUnread P (Read e) = P
+IfUnread P (NoRoom n) = P
+IfUnread P OverBudget = P
+
+-- the cause of a fault of a call that reads nothing after `end`: the `room` bytes that are lent are fewer than it needs, or the `left` bytes
+-- of the budget are fewer than there are up to the end
+abbrev pub IsTooSmall : {E : Type 0} → (end room left : ℕ) → SourceFault E → Type 0
+IsTooSmall end room left (Refused e) = Unit {0}
+IsTooSmall end room left (Read e) = Unit {0}
+IsTooSmall end room left (NoRoom n) = room < n
+IsTooSmall end room left OverBudget = left < end
+
+-- how many bytes of a lent buffer a call may use: those of a node, and as many as positions reach
+abbrev pub usable : (node lent : ℕ) → ℕ
+usable node lent = min lent (node + 4294967295)

@@ -1,2 +1,3 @@
 -- Functions that follow the code.
 pub mod Found
+pub mod Walking

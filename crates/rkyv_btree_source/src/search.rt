@@ -49,7 +49,7 @@ pub(crate) enum Step {
 }
 
 /// Brings the value number `at` and after of a node's bytes, which were read from position `node` on.
-fn fetch_part<S: ReadAt, T: Fetch>(
+pub(crate) fn fetch_part<S: ReadAt, T: Fetch>(
     bytes: &[u8],
     at: u32,
     node: u32,
@@ -164,7 +164,7 @@ fn search_keys<
 }
 
 /// Returns the child before entry `i` of the node whose bytes these are, or after all, or that there is none.
-fn child_in<K: Portable, V: Portable, M: ArchivedMap<Key = K, Mapped = V>>(
+pub(crate) fn child_in<K: Portable, V: Portable, M: ArchivedMap<Key = K, Mapped = V>>(
     bytes: &[u8],
     node: u32,
     i: u32,

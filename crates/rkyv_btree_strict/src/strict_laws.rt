@@ -3,6 +3,8 @@ ghost use Rattle.std.specs.Int.NonZero.{non_zero_u32_get};
 ghost use Rattle.std.specs.List.Sorted.{IsStrictlySortedBy};
 ghost use Rattle.std.specs.Map.{keys_of};
 ghost use Rattle.std.specs.Prelude.{◌≡◌, ℕ, List, map, string_bytes};
+ghost use Rattle.rkyv_btree_compound.specs.Floats.{f32_kind, f64_kind};
+ghost use Rattle.rkyv_btree_compound.specs.Tuples.{tuple3_kind};
 ghost use Rattle.rkyv_btree_portable.specs.Entry.{entry_kind};
 ghost use Rattle.rkyv_btree_portable.specs.Scalars.{bool_kind, char_kind, i16_kind, i32_kind, i64_kind, i8_kind, non_zero_kind};
 ghost use Rattle.rkyv_btree_portable.specs.Scalars.{u16_kind, u32_kind, u64_kind, u8_kind, unit_kind};
@@ -17,6 +19,7 @@ use rkyv_btree_portable::in_place::InPlace;
 use rkyv_btree_seal::lent_key::LentKey;
 use rkyv_btree_seal::seal::Seal;
 use rkyv_btree_view::compare::ViewOrd;
+use std::cmp::OrderedFloat;
 use std::num::NonZeroU32;
 use std::ops::ControlFlow;
 
@@ -67,6 +70,21 @@ pub fn pairs_are_ordered_alike<S: Ord, T: Ord, K: Portable, V: Portable>()
         OrdersAlike S.cmp K.kind.order key → OrdersAlike T.cmp V.kind.order value →
         OrdersAlike ⟦<(S, T) as Ord>⟧.cmp (entry_kind K.kind V.kind).order
         (λ e. (key e.0, value e.1)) }
+{}
+
+/// States that floating-point numbers in an `OrderedFloat` are ordered as what they mean.
+pub fn floats_are_ordered_alike()
+    ensures f32 { OrdersAlike ⟦<OrderedFloat<f32> as Ord>⟧.cmp f32_kind.order (λ x. x.0) }
+    ensures f64 { OrdersAlike ⟦<OrderedFloat<f64> as Ord>⟧.cmp f64_kind.order (λ x. x.0) }
+{}
+
+/// States that tuples of three are ordered as what they mean, if their fields are.
+pub fn tuples_are_ordered_alike<S: Ord, T: Ord, U: Ord, A: Portable, B: Portable, C: Portable>()
+    ensures { (first : S → A.kind.Value) (second : T → B.kind.Value) (third : U → C.kind.Value) →
+        OrdersAlike S.cmp A.kind.order first → OrdersAlike T.cmp B.kind.order second →
+        OrdersAlike U.cmp C.kind.order third →
+        OrdersAlike ⟦<(S, T, U) as Ord>⟧.cmp (tuple3_kind A.kind B.kind C.kind).order
+        (λ x. ((first x.0, second x.1), third x.2)) }
 {}
 
 /// States that a write over one value, by a seal, a cursor or a call that sets it, keeps the keys of a strict map, so the map

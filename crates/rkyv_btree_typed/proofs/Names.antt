@@ -83,17 +83,30 @@ abbrev option : (List ℕ → Read) → Rest → Read
 option read None = None
 option read (Some rest) = option_value (read rest)
 
-abbrev pair_end : TypeTerm → TypeTerm → Rest → Read
-pair_end first second None = None
-pair_end first second (Some rest) = Some (term.pair first second, rest)
+abbrev triple_end : TypeTerm → TypeTerm → TypeTerm → Rest → Read
+triple_end first second third None = None
+triple_end first second third (Some rest) = Some (term.triple first second third, rest)
 
-abbrev pair_second : TypeTerm → Read → Read
-pair_second first None = None
-pair_second first (Some x) = pair_end first x.0 (after (codes ")") x.1)
+abbrev triple_third : TypeTerm → TypeTerm → Read → Read
+triple_third first second None = None
+triple_third first second (Some x) = triple_end first second x.0 (after (codes ")") x.1)
+
+abbrev triple_comma : (List ℕ → Read) → TypeTerm → TypeTerm → Rest → Read
+triple_comma read first second None = None
+triple_comma read first second (Some rest) = triple_third first second (read rest)
+
+-- after two names in parentheses: their end, or a third one
+abbrev pair_end : (List ℕ → Read) → TypeTerm → TypeTerm → List ℕ → Rest → Read
+pair_end read first second rest (Some end) = Some (term.pair first second, end)
+pair_end read first second rest None = triple_comma read first second (after (codes ", ") rest)
+
+abbrev pair_second : (List ℕ → Read) → TypeTerm → Read → Read
+pair_second read first None = None
+pair_second read first (Some x) = pair_end read first x.0 x.1 (after (codes ")") x.1)
 
 abbrev pair_comma : (List ℕ → Read) → TypeTerm → Rest → Read
 pair_comma read first None = None
-pair_comma read first (Some rest) = pair_second first (read rest)
+pair_comma read first (Some rest) = pair_second read first (read rest)
 
 abbrev pair_first : (List ℕ → Read) → Read → Read
 pair_first read None = None
@@ -103,11 +116,12 @@ abbrev pair : (List ℕ → Read) → Rest → Read
 pair read None = None
 pair read (Some rest) = pair_first read (read rest)
 
--- the names of the other numbers than 0, of which none begins with another
+-- the names of floating-point numbers and of the other numbers than 0, of which none begins with another
 abbrev more_leaves : List ℕ → Read
 more_leaves bytes =
     or_else (leaf term.non_zero_u8 bytes) (or_else (leaf term.non_zero_u16 bytes) (or_else (leaf term.non_zero_u64 bytes) (or_else (leaf term.non_zero_i8 bytes)
-    (or_else (leaf term.non_zero_i16 bytes) (or_else (leaf term.non_zero_i32 bytes) (leaf term.non_zero_i64 bytes))))))
+    (or_else (leaf term.non_zero_i16 bytes) (or_else (leaf term.non_zero_i32 bytes) (or_else (leaf term.non_zero_i64 bytes)
+    (or_else (leaf term.f32 bytes) (leaf term.f64 bytes))))))))
 
 abbrev leaves : List ℕ → Read
 leaves bytes =
@@ -128,6 +142,7 @@ read_name (suc n) bytes =
 abbrev depth : TypeTerm → ℕ
 depth (term.option value) = suc (depth value)
 depth (term.pair first second) = suc (depth first + depth second)
+depth (term.triple first second third) = suc (depth first + depth second + depth third)
 depth (term.set key entries) = suc (depth key)
 depth (term.map key value entries) = suc (depth key + depth value)
 depth t = 0
@@ -180,6 +195,8 @@ parses term.non_zero_i8 n x d h = refl
 parses term.non_zero_i16 n x d h = refl
 parses term.non_zero_i32 n x d h = refl
 parses term.non_zero_i64 n x d h = refl
+parses term.f32 n x d h = refl
+parses term.f64 n x d h = refl
 parses term.unit_type zero x d h = refl
 parses term.unit_type (suc n) x d h = refl
 parses term.text n x d h = refl
@@ -201,7 +218,20 @@ parses (term.pair first second) (suc n) x d h =
     append_assoc (name_of first) (codes ", " ++ (name_of second ++ codes ")")) x ∙ ap (λ z. name_of first ++ (codes ", " ++ z)) (append_assoc (name_of second) (codes ")") x) in
     ap (λ z. read_name (suc (suc n)) (40 ∷ z)) whole
     ∙ (ap (λ r. or_else (pair_first read r) other) (parses first n (codes ", " ++ rest) (omega (arith, d)) h.0)
-    ∙ ap (λ r. or_else (pair_second first r) other) (parses second n (41 ∷ x) (omega (arith, d)) h.1))
+    ∙ ap (λ r. or_else (pair_second read first r) other) (parses second n (41 ∷ x) (omega (arith, d)) h.1))
+parses (term.triple first second third) zero x d h = absurd (omega (arith, d))
+parses (term.triple first second third) (suc n) x d h =
+    let read = read_name (suc n) in
+    let end = name_of third ++ (41 ∷ x) in
+    let rest = name_of second ++ (codes ", " ++ end) in
+    let other = leaves (40 ∷ (name_of first ++ (codes ", " ++ rest))) in
+    let whole : (name_of first ++ (codes ", " ++ (name_of second ++ (codes ", " ++ (name_of third ++ codes ")"))))) ++ x ≡ name_of first ++ (codes ", " ++ rest) =
+    append_assoc (name_of first) (codes ", " ++ (name_of second ++ (codes ", " ++ (name_of third ++ codes ")")))) x
+    ∙ ap (λ z. name_of first ++ (codes ", " ++ z)) (append_assoc (name_of second) (codes ", " ++ (name_of third ++ codes ")")) x ∙ ap (λ z. name_of second ++ (codes ", " ++ z)) (append_assoc (name_of third) (codes ")") x)) in
+    ap (λ z. read_name (suc (suc n)) (40 ∷ z)) whole
+    ∙ (ap (λ r. or_else (pair_first read r) other) (parses first n (codes ", " ++ rest) (omega (arith, d)) h.0)
+    ∙ (ap (λ r. or_else (pair_second read first r) other) (parses second n (codes ", " ++ end) (omega (arith, d)) h.1)
+    ∙ ap (λ r. or_else (triple_third first second r) other) (parses third n (41 ∷ x) (omega (arith, d)) h.2)))
 parses (term.set key entries) zero x d h = absurd (omega (arith, d))
 parses (term.set key entries) (suc n) x d h =
     let read = read_name (suc n) in

@@ -23,12 +23,15 @@ pub data TypeTerm : Type 0 where
   non_zero_i16 : TypeTerm
   non_zero_i32 : TypeTerm
   non_zero_i64 : TypeTerm
+  f32 : TypeTerm
+  f64 : TypeTerm
   unit_type : TypeTerm
   text : TypeTerm
   byte_string : TypeTerm
   own : List ℕ → TypeTerm
   option : TypeTerm → TypeTerm
   pair : TypeTerm → TypeTerm → TypeTerm
+  triple : TypeTerm → TypeTerm → TypeTerm → TypeTerm
   set : TypeTerm → ℕ → TypeTerm
   map : TypeTerm → TypeTerm → ℕ → TypeTerm
 
@@ -52,12 +55,15 @@ name_of non_zero_i8 = codes "NonZeroI8"
 name_of non_zero_i16 = codes "NonZeroI16"
 name_of non_zero_i32 = codes "NonZeroI32"
 name_of non_zero_i64 = codes "NonZeroI64"
+name_of f32 = codes "f32"
+name_of f64 = codes "f64"
 name_of unit_type = codes "()"
 name_of text = codes "text"
 name_of byte_string = codes "bytes"
 name_of (own name) = codes "<" ++ (name ++ codes ">")
 name_of (option value) = codes "option(" ++ (name_of value ++ codes ")")
 name_of (pair first second) = codes "(" ++ (name_of first ++ (codes ", " ++ (name_of second ++ codes ")")))
+name_of (triple first second third) = codes "(" ++ (name_of first ++ (codes ", " ++ (name_of second ++ (codes ", " ++ (name_of third ++ codes ")")))))
 name_of (set key entries) = codes "[" ++ (name_of key ++ (codes " / " ++ (decimal entries ++ codes "]")))
 name_of (map key value entries) = codes "[" ++ (name_of key ++ (codes " -> " ++ (name_of value ++ (codes " / " ++ (decimal entries ++ codes "]")))))
 
@@ -66,6 +72,7 @@ abbrev pub IsNameable : TypeTerm → Type 0
 IsNameable (own name) = All (λ byte. byte ≢ 62) name
 IsNameable (option value) = IsNameable value
 IsNameable (pair first second) = IsNameable first × IsNameable second
+IsNameable (triple first second third) = IsNameable first × IsNameable second × IsNameable third
 IsNameable (set key entries) = IsNameable key × (entries < 2 ^ 64)
 IsNameable (map key value entries) = IsNameable key × IsNameable value × (entries < 2 ^ 64)
 IsNameable t = Unit {0}

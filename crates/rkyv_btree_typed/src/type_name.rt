@@ -5,7 +5,9 @@ ghost use Rattle.rkyv_btree_typed.specs.Stripping.{Strips};
 ghost use Rattle.rkyv_btree_typed.specs.TypeNames.{TypeTerm, name_of};
 ghost use Rattle.rkyv_btree_typed.specs.TypeNames as term;
 
+use rkyv_btree_compound::floats::{ArchivedF32, ArchivedF64};
 use rkyv_btree_compound::option::ArchivedOption;
+use rkyv_btree_compound::tuple::ArchivedTuple3;
 use rkyv_btree_plain::archived_plain::ArchivedPlain;
 use rkyv_btree_portable::byte_string::ArchivedBytes;
 use rkyv_btree_portable::entry::Entry;
@@ -195,6 +197,30 @@ impl TypeName for bool {
     }
 }
 
+impl TypeName for ArchivedF32 {
+    ghost term = { term.f32 };
+
+    fn write_name<W: fmt::Write>(f: &mut fmt::Formatter<W>) -> fmt::Result {
+        write!(f, "f32")
+    }
+
+    fn strip_name(bytes: &[u8]) -> Option<&[u8]> {
+        strip(bytes, "f32")
+    }
+}
+
+impl TypeName for ArchivedF64 {
+    ghost term = { term.f64 };
+
+    fn write_name<W: fmt::Write>(f: &mut fmt::Formatter<W>) -> fmt::Result {
+        write!(f, "f64")
+    }
+
+    fn strip_name(bytes: &[u8]) -> Option<&[u8]> {
+        strip(bytes, "f64")
+    }
+}
+
 impl TypeName for ArchivedChar {
     ghost term = { term.char };
 
@@ -299,6 +325,27 @@ impl<A: TypeName, B: TypeName> TypeName for Entry<A, B> {
         let comma = A::strip_name(first)?;
         let second = strip(comma, ", ")?;
         let end = B::strip_name(second)?;
+        strip(end, ")")
+    }
+}
+
+impl<A: TypeName, B: TypeName, C: TypeName> TypeName for ArchivedTuple3<A, B, C> {
+    ghost term = { term.triple A.term B.term C.term };
+
+    fn write_name<W: fmt::Write>(f: &mut fmt::Formatter<W>) -> fmt::Result {
+        let first = NameOf::<A>::new();
+        let second = NameOf::<B>::new();
+        let third = NameOf::<C>::new();
+        write!(f, "({first}, {second}, {third})")
+    }
+
+    fn strip_name(bytes: &[u8]) -> Option<&[u8]> {
+        let first = strip(bytes, "(")?;
+        let first_comma = A::strip_name(first)?;
+        let second = strip(first_comma, ", ")?;
+        let second_comma = B::strip_name(second)?;
+        let third = strip(second_comma, ", ")?;
+        let end = C::strip_name(third)?;
         strip(end, ")")
     }
 }

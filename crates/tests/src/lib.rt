@@ -22,6 +22,8 @@ mod failing_writes;
 #[cfg(test)]
 mod faults;
 #[cfg(test)]
+mod floats;
+#[cfg(test)]
 mod heap;
 #[cfg(test)]
 mod in_place;
@@ -67,6 +69,8 @@ mod std_writers;
 mod texts;
 #[cfg(test)]
 mod trees;
+#[cfg(test)]
+mod tuples;
 #[cfg(test)]
 mod values;
 #[cfg(test)]

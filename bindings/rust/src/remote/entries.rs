@@ -2,7 +2,7 @@
 use super::{ReadRange, Remote, RemoteError};
 use crate::error::Error;
 use crate::field::sealed::{Datum, Query, Stored};
-use crate::field::{AsKey, Field};
+use crate::field::{AsKey, Field, Nothing};
 use crate::nodes::{decoded, Cell, Layout, LEVELS, ROOT};
 use crate::raw;
 use std::iter::FusedIterator;
@@ -181,3 +181,24 @@ impl<'r, R: ReadRange, K: Field<'r>, V: Field<'r>> Iterator for RemoteRange<'r, 
 }
 
 impl<'r, R: ReadRange, K: Field<'r>, V: Field<'r>> FusedIterator for RemoteRange<'r, R, K, V> {}
+
+/// The keys of a set that lies elsewhere between two bounds, in their order. After an error there are none.
+pub struct RemoteKeys<'r, R, K> {
+    entries: RemoteRange<'r, R, K, Nothing>,
+}
+
+impl<'r, R: ReadRange, K: Field<'r>> RemoteKeys<'r, R, K> {
+    pub(super) fn new<Q: AsKey<K>>(remote: &'r mut Remote<R>, bounds: impl RangeBounds<Q>) -> RemoteKeys<'r, R, K> {
+        RemoteKeys { entries: RemoteRange::new(remote, bounds) }
+    }
+}
+
+impl<'r, R: ReadRange, K: Field<'r>> Iterator for RemoteKeys<'r, R, K> {
+    type Item = Result<K::Owned, RemoteError<R::Error>>;
+
+    fn next(&mut self) -> Option<Self::Item> {
+        self.entries.next().map(|entry| entry.map(|(key, _)| key))
+    }
+}
+
+impl<'r, R: ReadRange, K: Field<'r>> FusedIterator for RemoteKeys<'r, R, K> {}

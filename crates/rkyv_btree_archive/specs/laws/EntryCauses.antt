@@ -28,17 +28,17 @@ module _ {X M N R S : Type 0} (K : Archival M R) (V : Archival N S) (pair : X �
   extend x from begun more (inr h) = inr h
 
   -- the key goes on, and then the value
-  through : (x : X) (from : ℕ) (begun : List Write) → GoesOn K (pair x).0 from begun → GoesOn (entry_archival K V pair) x from begun
+  pub through : (x : X) (from : ℕ) (begun : List Write) → GoesOn K (pair x).0 from begun → GoesOn (entry_archival K V pair) x from begun
   through x from begun (inl h) = extend x from begun h.0 (behind x from (begun ++ h.0) [] h.1 h.2 (value.goes (pair x).1 (from + length (appended (begun ++ h.0)))))
   through x from begun (inr (inl h)) = inr (inl (h.0, inl h.1))
   through x from begun (inr (inr (inl h))) = inr (inr (inl (long_front (K.lengths (pair x).0) (V.lengths (pair x).1) h)))
   through x from begun (inr (inr (inr h))) = inr (inr (inr (inl h)))
 
-  begins : (x : X) (from : ℕ) (writes : List Write) → EntryBegins K V (pair x) from writes → GoesOn (entry_archival K V pair) x from writes
+  pub begins : (x : X) (from : ℕ) (writes : List Write) → EntryBegins K V (pair x) from writes → GoesOn (entry_archival K V pair) x from writes
   begins x from writes (in_key h) = through x from writes (key.begun (pair x).0 from writes h)
   begins x from writes (in_value {first} {second} {r} w h) = behind x from first second r w (value.begun (pair x).1 (from + length (appended first)) second h)
 
-  long : (x : X) (r : EntryResolver R S) (at : ℕ) → HasLong (lengths_of (K.fields (pair x).0 r.key at)) ⊎ HasLong (lengths_of (V.fields (pair x).1 r.value (at + value_offset K.kind V.kind))) → IsTooLong (entry_archival K V pair) x
+  pub long : (x : X) (r : EntryResolver R S) (at : ℕ) → HasLong (lengths_of (K.fields (pair x).0 r.key at)) ⊎ HasLong (lengths_of (V.fields (pair x).1 r.value (at + value_offset K.kind V.kind))) → IsTooLong (entry_archival K V pair) x
   long x r at (inl h) = long_front (K.lengths (pair x).0) (V.lengths (pair x).1) (key.long (pair x).0 r.key at h)
   long x r at (inr h) = long_behind (K.lengths (pair x).0) (V.lengths (pair x).1) (value.long (pair x).1 r.value (at + value_offset K.kind V.kind) h)
 

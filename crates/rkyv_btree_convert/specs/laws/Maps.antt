@@ -1,5 +1,6 @@
 -- What native maps owe, by what their keys and values owe.
 use Rattle.std.specs.Prelude.{◌≡◌, ℕ, ◌+◌, Bool, true, ◌&&◌, List, [], ◌∷◌, map, Result}
+use Rattle.std.specs.Cmp.{first_so, second_so}
 use Rattle.std.specs.Cmp.Lexicographic.{pointwise}
 use Rattle.std.specs.declared.cmp.Ordering.{Ordering}
 use Rattle.std.proofs.Common.{refl, ap}
@@ -10,7 +11,7 @@ use Rattle.rkyv_btree_verify.specs.Map.{map_kind}
 use Rattle.rkyv_btree_format.specs.Read.{map_tree, entry_at}
 use Rattle.rkyv_btree_shape.specs.Tree.{list}
 use Rattle.rkyv_btree_convert.specs.Deserializing.{IsByMeaning, both}
-use Rattle.rkyv_btree_convert.specs.laws.Pairs.{pair_model_whole}
+use Rattle.rkyv_btree_convert.specs.laws.Pairs.{ModelIsWhole, pair_model_whole}
 use Rattle.rkyv_btree_convert.specs.Maps.{given_at, map_given, native_map, model_both}
 
 module _ (K V : Kind) (E : ℕ) {A B : Type 0} {key : List ℕ → ℕ → Result A EntryFault} {value : List ℕ → ℕ → Result B EntryFault} (of_key : K.Value → Result A EntryFault) (of_value : V.Value → Result B EntryFault)
@@ -31,13 +32,16 @@ map_by_meaning {K} {V} k v E order = record {
   by_value = λ b at. ap (map_given order) (given_by_meaning K V E k.of_value v.of_value k.by_value v.by_value b (list (map_tree (layout_of K V E) b at)));
 }
 
--- maps with the same model are equal
-pub map_model_whole : {T U A B : Type 0} {same_key : T → T → Bool} {same_value : U → U → Bool} {key : T → A} {value : U → B} → ((x y : T) → key x ≡ key y → same_key x y ≡ true) → ((x y : U) → value x ≡ value y → same_value x y ≡ true)
-    → (xs ys : List (T × U)) → model_both key value xs ≡ model_both key value ys → pointwise (λ p q. same_key p.0 q.0 && same_value p.1 q.1) xs ys ≡ true
-map_model_whole keys values [] [] model = refl
-map_model_whole keys values [] (y ∷ ys) model = absurd (cc model)
-map_model_whole keys values (x ∷ xs) [] model = absurd (cc model)
-map_model_whole keys values (x ∷ xs) (y ∷ ys) model =
-    let first = pair_model_whole keys values x y (cc model) in
-    let rest = map_model_whole keys values xs ys (cc model) in
-    rw first rest
+-- maps with the same model are equal where they equal themselves
+module _ {T U A B : Type 0} {same_key : T → T → Bool} {same_value : U → U → Bool} {key : T → A} {value : U → B} (keys : ModelIsWhole key same_key) (values : ModelIsWhole value same_value) where
+  abbrev same_entry : T × U → T × U → Bool
+  same_entry p q = same_key p.0 q.0 && same_value p.1 q.1
+
+  pub map_model_whole : (xs ys : List (T × U)) → model_both key value xs ≡ model_both key value ys → pointwise same_entry xs xs ≡ true → pointwise same_entry xs ys ≡ true
+  map_model_whole [] [] model own = refl
+  map_model_whole [] (y ∷ ys) model own = absurd (cc model)
+  map_model_whole (x ∷ xs) [] model own = absurd (cc model)
+  map_model_whole (x ∷ xs) (y ∷ ys) model own =
+      let first = pair_model_whole keys values x y (cc model) (first_so (same_entry x x) (pointwise same_entry xs xs) own) in
+      let rest = map_model_whole xs ys (cc model) (second_so (same_entry x x) (pointwise same_entry xs xs) own) in
+      rw first rest

@@ -5,6 +5,7 @@ use Rattle.std.specs.declared.cmp.Ordering.{Ordering}
 use Rattle.std.proofs.Common.{refl, ap}
 use Rattle.rkyv_btree_compound.specs.Option.{option_kind}
 use Rattle.rkyv_btree_convert.specs.Deserializing.{IsByMeaning}
+use Rattle.rkyv_btree_convert.specs.laws.Pairs.{ModelIsWhole}
 use Rattle.rkyv_btree_portable.specs.Kind.{Kind}
 use Rattle.rkyv_btree_writer.specs.declared.fault.EntryFault.{EntryFault}
 
@@ -23,12 +24,12 @@ option_by_meaning T {decoded} t = record {
   by_value = λ b at. transposed (nat_eq (slice_index b at) 1) (decoded b (at + T.align)) (T.read b (at + T.align)) t.of_value (t.by_value b (at + T.align));
 }
 
--- options with the same model are equal
-pub option_model_whole : {N A : Type 0} {model : N → A} {same : N → N → Bool} → ((x y : N) → model x ≡ model y → same x y ≡ true) → (o p : Option N) → option_map model o ≡ option_map model p → option_eq same o p ≡ true
-option_model_whole whole None None model = refl
-option_model_whole whole None (Some y) model = absurd (cc model)
-option_model_whole whole (Some x) None model = absurd (cc model)
-option_model_whole whole (Some x) (Some y) model = whole x y (cc model)
+-- options with the same model are equal where they equal themselves
+pub option_model_whole : {N A : Type 0} {model : N → A} {same : N → N → Bool} → ModelIsWhole model same → (o p : Option N) → option_map model o ≡ option_map model p → option_eq same o o ≡ true → option_eq same o p ≡ true
+option_model_whole whole None None model own = refl
+option_model_whole whole None (Some y) model own = absurd (cc model)
+option_model_whole whole (Some x) None model own = absurd (cc model)
+option_model_whole whole (Some x) (Some y) model own = whole x y (cc model) own
 
 -- options whose values are ordered alike
 pub options_alike : {N A : Type 0} (model : N → A) {order : N → N → Ordering} (model_order : A → A → Ordering) → ((x y : N) → order x y ≡ model_order (model x) (model y)) → (o p : Option N) → option_cmp order o p ≡ option_cmp model_order (option_map model o) (option_map model p)

@@ -1,5 +1,5 @@
 -- Native entries that are made of what C hands in, and their archive. These mirror the code, which makes all native entries first.
-use Rattle.std.specs.Prelude.{◌≡◌, ℕ, List, map}
+use Rattle.std.specs.Prelude.{◌≡◌, ℕ, ◌+◌, List, length, map}
 use Rattle.std.specs.List.{All, AllZip}
 use Rattle.std.specs.declared.alloc.AllocError.{AllocError}
 use Rattle.std.specs.declared.cmp.Ordering.{Ordering}
@@ -7,12 +7,16 @@ use Rattle.rkyv_btree_writer.specs.Archiving.{Archival, Matches, IsUnserialised}
 use Rattle.rkyv_btree_writer.specs.declared.fault.Fault.{Fault}
 use Rattle.rkyv_btree_writer.specs.declared.fault.Fault.TheVariants.{Memory, OutOfOrder}
 use Rattle.rkyv_btree_format.specs.Increasing.{Increasing as AreIncreasing, IsOutOfOrder}
+use Rattle.rkyv_btree_format.specs.Layout.{NodeLayout, layout_of}
 use Rattle.rkyv_btree_portable.specs.Kind.{Kind}
+use Rattle.rkyv_btree_portable.specs.Rounding.{round_up}
 use Rattle.rkyv_btree_verify.specs.Map.{map_kind}
 use Rattle.rkyv_btree_writing_laws.specs.SmallestMaps.{entry_value}
+use Rattle.rkyv_btree_writing_laws.specs.Serialising.{Built}
 use Rattle.rkyv_btree_writing_laws.specs.TreeArchival.{tree_archival}
+use Rattle.rkyv_btree_writing_laws.specs.Whole.{fresh}
 use Rattle.rkyv_btree_format.specs.OwnBytes.{IsArchiveOf}
-use Rattle.rkyv_btree_writer.specs.Writing.{Writing}
+use Rattle.rkyv_btree_writer.specs.Writing.{Writing, position}
 use Rattle.rkyv_btree_ffi.specs.Building.{StopsWith, IsFirstBad}
 use Rattle.rkyv_btree_ffi.specs.declared.building.BuildFault.{BuildFault}
 use Rattle.rkyv_btree_ffi.specs.declared.building.BuildFault.TheVariants.{BadItem, Unbuilt}
@@ -46,6 +50,13 @@ module _ {M N R S : Type 0} (KA : Archival M R) (VA : Archival N S) where
   ArchivesNatives K V natives bytes =
       (key : Matches KA.kind K) (value : Matches VA.kind V) → IsArchiveOf (map_kind K V 5) bytes (map (entry_value K V 5 KA VA key value) natives)
 
+  -- an archive has as many bytes as the tree of native entries and the map after it
+  pub record HasTree (s : NodeLayout) (natives : List (M × N)) (len : ℕ) : Type 0 where
+    pub root : ℕ
+    pub left : Writing
+    pub built : Built s KA VA fresh natives root left
+    pub long : len ≡ round_up (position left) 4 + 8
+
 -- an entry's key and value are of their types
 abbrev pub IsOfBoth : (IsKey IsValue : List ℕ → BtreeItem → Type 0) → List ℕ → BtreeEntry → Type 0
 IsOfBoth IsKey IsValue texts e = IsKey texts e.key × IsValue texts e.value
@@ -76,6 +87,7 @@ module _ {E M N : Type 0} (IsOf : E → Type 0) (GivesKey : E → M → Type 0) 
     pub natives : List (M × N)
     pub given : AreGiven entries natives
     pub archived : ArchivesNatives KA VA K V natives bytes
+    pub tree : HasTree KA VA (layout_of K V 5) natives (length bytes)
     pub increasing : order ≡ Increasing → AreIncreasing key_order natives
 
   -- why there is none

@@ -6,12 +6,12 @@ pub loop-count-init : goal.loop-count-init
 loop-count-init g c = none_counted (g.B.Read.remaining c.args.input.now)
 
 pub returns-in-Ok-Bad-clause-err : goal.returns-in-Ok-Bad-clause-err
-returns-in-Ok-Bad-clause-err g c =
+returns-in-Ok-Bad-clause-err g c heading =
     bad_counted (g.B.Read.remaining c.args.input.now) (g.B.Read.remaining c.loop-count.input) (g.B.Read.remaining c.next_line.new.input) c.loop-count.count c.loop-count.last c.loop-count.first c.loop-count.invariant (rw c.in-Ok-Bad.field-0-is at c.in-Ok-Bad.ensures.next)
 
 pub returns-in-Ok-End-clause-err : goal.returns-in-Ok-End-clause-err
-returns-in-Ok-End-clause-err g c =
-    errs_so c.in_order.result (named_fails c.args.is_strict (g.B.Read.remaining c.args.input.now) (g.B.Read.remaining c.loop-count.input) c.loop-count.count c.loop-count.last c.loop-count.first c.loop-count.invariant (rw c.in-Ok-End.field-0-is at c.in-Ok-End.ensures.next)) c.in_order.ensures.err
+returns-in-Ok-End-clause-err g c heading =
+    errs_so c.in_order.result (named_fails c.args.is_strict heading (g.B.Read.remaining c.args.input.now) (g.B.Read.remaining c.loop-count.input) c.loop-count.count c.loop-count.last c.loop-count.first c.loop-count.invariant (rw c.in-Ok-End.field-0-is at c.in-Ok-End.ensures.next)) c.in_order.ensures.err
 
 pub returns-in-Ok-End-clause-ok : goal.returns-in-Ok-End-clause-ok
 returns-in-Ok-End-clause-ok g c =

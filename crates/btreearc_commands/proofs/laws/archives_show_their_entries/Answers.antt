@@ -24,11 +24,11 @@ returns-clause-counted c archive entries is =
 pub returns-clause-absent : goal.returns-clause-absent
 returns-clause-absent c archive entries is key none =
     let hit = (c.what_is_found_is_equal.ensures archive (root_of archive) (nat_cmp key)).hit in
-    absent archive entries (known c.one_list.ensures c.refused_is_no_archive.ensures archive entries is) key none (subst (λ (xs : List (ℕ × ℕ)). IfSome (found_in_archive archive key) (IsHit (λ e. nat_cmp key e.0) xs)) (sym (read_entries archive entries is)) hit)
+    absent archive entries (known c.one_list.ensures c.refused_is_no_archive.ensures archive entries is) key none (subst (λ (xs : List (ℕ × ℕ)). IfSome (found_in_archive archive key) (IsHit (λ e. nat_cmp key e.0) xs)) (sym (read_entries archive entries is.1)) hit)
 
 pub returns-clause-got : goal.returns-clause-got
 returns-clause-got c archive entries is rise key value there =
-    let read = read_entries archive entries is in
+    let read = read_entries archive entries is.1 in
     let only =
     c.increasing_keys_are_found.ensures.found archive (root_of archive) (nat_cmp key) (found_in_archive archive key) (number_cuts key) (subst KeysIncrease read rise)
     (c.what_is_found_is_equal.ensures archive (root_of archive) (nat_cmp key)) in

@@ -12,5 +12,5 @@ returns-clause-set c archive entries is rise key value there =
     set key value archive entries (known c.one_list.ensures c.refused_is_no_archive.ensures archive entries is) rise there
 
 pub returns-clause-listed : goal.returns-clause-listed
-returns-clause-listed c archive made entries is rise key value run =
-    c.archives_show_their_entries.ensures.listed made (with_value key value entries) (set_in key value archive entries (known c.one_list.ensures c.refused_is_no_archive.ensures archive entries is) rise made run)
+returns-clause-listed c archive made entries is rise key value run fit =
+    c.archives_show_their_entries.ensures.listed made (with_value key value entries) (fit, set_in key value archive entries (known c.one_list.ensures c.refused_is_no_archive.ensures archive entries is) rise made run)

@@ -7,12 +7,13 @@ use Rattle.rkyv_btree_portable.specs.declared.refusal.Refusal.{Refusal}
 use Rattle.rkyv_btree_portable.specs.declared.refusal.Refusal.TheVariants.{OutOfOrder}
 use Rattle.rkyv_btree_strict.specs.Strict.{no_map, out_of_order}
 use Rattle.btreearc_lines.specs.declared.fault.ProgramFault.{ProgramFault}
-use Rattle.btreearc_lines.specs.declared.fault.ProgramFault.TheVariants.{Usage, Line, Refused, NotBuilt, InputFailed, OutputFailed, Memory}
+use Rattle.btreearc_lines.specs.declared.fault.ProgramFault.TheVariants.{Usage, Line, Refused, Misheaded, NotBuilt, InputFailed, OutputFailed, Memory}
 use Rattle.btreearc_commands.specs.Opening.{IsArchive, IsOpenFault, IsStrictOpenFault, RefusesStrictArchive, entries_read}
 use Rattle.btreearc_commands.proofs.migrating.strict_count.Goals as goal
 
 still_refused : (b : List ℕ) (fault : ProgramFault) → IsOpenFault b fault → IsStrictOpenFault b fault
 still_refused b (Refused refusal) h = no_map h
+still_refused b (Misheaded f) h = h
 still_refused b Usage h = absurd h
 still_refused b (Line n) h = absurd h
 still_refused b (NotBuilt fault) h = absurd h

@@ -3,7 +3,7 @@ use Rattle.std.proofs.Common.{refl, ap, subst, ◌∙◌}
 use Rattle.std.specs.Ordering.{nat_cmp}
 use Rattle.rkyv_btree_view.specs.Range.{range_left}
 use Rattle.btreearc_lines.specs.Grammar.{text_of}
-use Rattle.btreearc_commands.specs.Opening.{IsArchive, entries_read}
+use Rattle.btreearc_commands.specs.Opening.{IsInput, entries_read}
 use Rattle.btreearc_commands.proofs.Between.{between, output_between}
 use Rattle.btreearc_commands.proofs.Listed.{from_nothing}
 use Rattle.btreearc_commands.proofs.program.range.Goals as goal
@@ -19,7 +19,7 @@ returns-clause-done g c =
       refl,
       output_between (g.R.Read.remaining c.args.input.now) (g.W.Write.contents c.args.output.now) (g.W.Write.contents c.write_all.new.output) archive c.as_bytes.result.now c.args.low c.args.high entries found
           c.in_ok-archive.ensures.all
-          (subst (λ b. IsArchive b entries) c.deref.ensures.value c.in_ok-map.ensures.accepted)
+          (subst (λ b. IsInput b entries) c.deref.ensures.value (c.in_ok-map.ensures.headed, c.in_ok-map.ensures.accepted))
           (between c.args.low c.args.high entries found range.range.run (range.between nat_cmp (λ n b at. refl)).within)
           (c.as_bytes.ensures.value ∙ (c.as_str.ensures.value ∙ from_nothing _ _ _ c.new-text.ensures.bytes given.2 ∙ ap text_of (range.range.yields given.0 given.1)))
           c.in_ok-write_all.ensures.all,

@@ -3,7 +3,7 @@ use Rattle.btreearc_lines.specs.declared.command.Command.TheVariants.{Build, Lis
 use Rattle.btreearc_commands.proofs.program.run.Goals as goal
 
 pub returns-in-None-clause-build : goal.returns-in-None-clause-build
-returns-in-None-clause-build g c is = absurd (c.in-None.ensures.unnamed Build is)
+returns-in-None-clause-build g c heading is = absurd (c.in-None.ensures.unnamed (Build heading) is)
 
 pub returns-in-None-clause-list : goal.returns-in-None-clause-list
 returns-in-None-clause-list g c is = absurd (c.in-None.ensures.unnamed List is)
@@ -21,7 +21,7 @@ pub returns-in-None-clause-set : goal.returns-in-None-clause-set
 returns-in-None-clause-set g c key value is = absurd (c.in-None.ensures.unnamed (Set key value) is)
 
 pub returns-in-None-clause-build_strict : goal.returns-in-None-clause-build_strict
-returns-in-None-clause-build_strict g c is = absurd (c.in-None.ensures.unnamed BuildStrict is)
+returns-in-None-clause-build_strict g c heading is = absurd (c.in-None.ensures.unnamed (BuildStrict heading) is)
 
 pub returns-in-None-clause-check_strict : goal.returns-in-None-clause-check_strict
 returns-in-None-clause-check_strict g c is = absurd (c.in-None.ensures.unnamed CheckStrict is)

@@ -1,7 +1,7 @@
 -- The archive with the value is written, or nothing is.
 use Rattle.std.proofs.Common.{◌≡◌, List, ℕ, length, sym, subst, ◌∙◌, arith}
 use Rattle.std.specs.Io.KnownBytes.{Appends}
-use Rattle.btreearc_commands.specs.Opening.{IsArchive, entries_read}
+use Rattle.btreearc_commands.specs.Opening.{IsInput, IsArchive, entries_read}
 use Rattle.btreearc_commands.specs.Setting.{SetsValue}
 use Rattle.btreearc_commands.proofs.SetOut.{set_out, not_set_out, output_set, written_back}
 use Rattle.btreearc_commands.proofs.program.set.Goals as goal
@@ -12,10 +12,10 @@ returns-then-set_value-clause-done g c =
     let archive = c.in_ok-archive.archive.items in
     let made = c.set_value.new.archive in
     let entries = entries_read map.buf.now map.pos in
-    let opened = subst (λ b. IsArchive b entries) c.deref.ensures.value c.in_ok-root.ensures.accepted in
+    let opened = subst (λ b. IsInput b entries) c.deref.ensures.value (c.in_ok-root.ensures.headed, c.in_ok-root.ensures.accepted) in
     let same = c.deref_mut.ensures.value in
     let sets = subst (λ (b : List ℕ). SetsValue c.args.key c.args.value entries b made c.set_value.result) same
-    (c.set_value.ensures entries (subst (λ (b : List ℕ). IsArchive b entries) (sym same) opened)) in
+    (c.set_value.ensures entries (subst (λ (b : List ℕ). IsArchive b entries) (sym same) opened.1)) in
     let long : length made ≡ c.in_ok-archive.archive.len = omega arith in
     let all : length archive ≡ c.in_ok-archive.archive.len = omega arith in
     let back : c.deref-then-set_value.result.now ≡ made = c.deref-then-set_value.ensures.value ∙ written_back c.in_ok-archive.archive.len made archive long all in
@@ -29,9 +29,9 @@ returns-clause-done g c =
     let archive = c.in_ok-archive.archive.items in
     let made = c.set_value.new.archive in
     let entries = entries_read map.buf.now map.pos in
-    let opened = subst (λ b. IsArchive b entries) c.deref.ensures.value c.in_ok-root.ensures.accepted in
+    let opened = subst (λ b. IsInput b entries) c.deref.ensures.value (c.in_ok-root.ensures.headed, c.in_ok-root.ensures.accepted) in
     let same = c.deref_mut.ensures.value in
     let sets = subst (λ (b : List ℕ). SetsValue c.args.key c.args.value entries b made c.set_value.result) same
-    (c.set_value.ensures entries (subst (λ (b : List ℕ). IsArchive b entries) (sym same) opened)) in
+    (c.set_value.ensures entries (subst (λ (b : List ℕ). IsArchive b entries) (sym same) opened.1)) in
     output_set (g.R.Read.remaining c.args.input.now) (g.W.Write.contents c.args.output.now) _ archive entries c.args.key c.args.value 1 c.in_ok-archive.ensures.all opened
     (not_set_out c.args.key c.args.value entries archive made _ c.set_value.result c.if-set_value.false sets)

@@ -7,7 +7,7 @@ use Rattle.btreekv_commands.proofs.Updates.{first_refused}
 use Rattle.btreekv_commands.proofs.differences.diff.Goals as goal
 
 pub returns-in-Err-clause-err : goal.returns-in-Err-clause-err
-returns-in-Err-clause-err c = first_refused c.args.old.now (c.args.new.now ∷ []) c.in-Err.refusal c.in-Err.ensures.err
+returns-in-Err-clause-err c = first_refused c.args.old.now (c.args.new.now ∷ []) c.in-Err.fault c.in-Err.ensures.err
 
 pub returns-in-Err-open_increasing-clause-err : goal.returns-in-Err-open_increasing-clause-err
 returns-in-Err-open_increasing-clause-err c = record {
@@ -26,6 +26,7 @@ returns-in-Ok-write_changes-clause-ok c =
     let appended = c.in-Ok-write_changes.ensures in record {
       entries = entries_of text_kind text_kind 5 c.in-Ok.from.view;
       others = entries_of text_kind text_kind 5 c.in-Ok-open_increasing.to.view;
+      headed = ((_, c.in-Ok.ensures.headed), (_, c.in-Ok-open_increasing.ensures.headed));
       old_is = c.in-Ok.ensures.ok;
       new_is = c.in-Ok-open_increasing.ensures.ok;
       changes = map lent_change appended.0;

@@ -1,8 +1,8 @@
 use Rattle.std.proofs.Common.{refl}
 use Rattle.btreekv_commands.proofs.opening.open.Goals as goal
 
-pub returns-in-Err-clause-err : goal.returns-in-Err-clause-err
-returns-in-Err-clause-err c = record {
-  first = (c.in-Err.ensures.refuses _).0 refl;
-  none = λ entries is. absurd (cc (c.in-Err.ensures.accepts.1 (entries, is)));
+pub returns-in-Err-open-clause-err : goal.returns-in-Err-open-clause-err
+returns-in-Err-open-clause-err c = record {
+  first = (c.in-Err-open.ensures.refuses _).0 refl;
+  none = λ entries is. absurd (cc (c.in-Err-open.ensures.accepts.1 (entries, is)));
 }

@@ -1,8 +1,8 @@
 use Rattle.std.proofs.Common.{refl}
 use Rattle.btreekv_commands.proofs.opening.strict_count.Goals as goal
 
-pub returns-in-Err-clause-err : goal.returns-in-Err-clause-err
-returns-in-Err-clause-err c = record {
-  first = (c.in-Err.ensures.exact.refuses _).0 refl;
-  none = λ entries is increase. absurd (cc (c.in-Err.ensures.exact.accepts.1 (entries, (is, increase))));
+pub returns-in-Err-open_strict-clause-err : goal.returns-in-Err-open_strict-clause-err
+returns-in-Err-open_strict-clause-err c = record {
+  first = (c.in-Err-open_strict.ensures.exact.refuses _).0 refl;
+  none = λ entries is increase. absurd (cc (c.in-Err-open_strict.ensures.exact.accepts.1 (entries, (is, increase))));
 }

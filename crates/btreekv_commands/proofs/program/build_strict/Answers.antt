@@ -5,4 +5,4 @@ use Rattle.btreekv_commands.proofs.program.build_strict.Goals as goal
 
 pub returns-in-Ok-check_order-clause-err : goal.returns-in-Ok-check_order-clause-err
 returns-in-Ok-check_order-clause-err c =
-    errs_so c.archive.result (fails_so true (Some c.args.text.now) c.in-Ok.count c.in-Ok.ensures.ok) c.archive.ensures.err
+    errs_so c.archive.result (fails_so true c.args.heading (Some c.args.text.now) c.in-Ok.count c.in-Ok.ensures.ok) c.archive.ensures.err

@@ -16,7 +16,7 @@ returns-in-Ok-clause-ok c =
       (
         entries_of text_kind text_kind 5 map,
         range_left r.result,
-        c.in_ok-map.ensures.accepted,
+        (c.in_ok-map.ensures.headed, c.in_ok-map.ensures.accepted),
         rw c.as_str.ensures.value at r.ensures.has_prefix,
         from_nothing _ _ _ c.new-text.ensures.items given.2 ∙ ap (text_in c.args.form) (r.ensures.yields given.0 given.1),
       ),

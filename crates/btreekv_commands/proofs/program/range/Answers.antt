@@ -19,7 +19,7 @@ returns-in-Ok-clause-ok c =
       (
         entries_of text_kind text_kind 5 map,
         range_left r.result,
-        c.in_ok-map.ensures.accepted,
+        (c.in_ok-map.ensures.headed, c.in_ok-map.ensures.accepted),
         record { run = r.ensures.range.run; all = rw (c.as_str.ensures.value, c.as_str-2.ensures.value) at within },
         from_nothing _ _ _ c.new-text.ensures.items given.2 ∙ ap (text_in c.args.form) (r.ensures.range.yields given.0 given.1),
       ),

@@ -11,4 +11,4 @@ returns-clause-ok c =
     let b = c.args.archive.now in
     let m = entries_of text_kind text_kind 5 c.in_ok-map.map in
     let is = c.in_ok-map.ensures.accepted in
-    IfOk-weaker c.figures_of.result _ _ (λ text written. (refl, (m, is, written ∙ ap (λ (n : ℕ). figures n (archive_figures b m is) (length b)) c.len.ensures.entries))) (c.figures_of.ensures.ok m is)
+    IfOk-weaker c.figures_of.result _ _ (λ text written. (refl, (m, (c.in_ok-map.ensures.headed, is), written ∙ ap (λ (n : ℕ). figures n (archive_figures b m is) (length b)) c.len.ensures.entries))) (c.figures_of.ensures.ok m is)

@@ -4,4 +4,4 @@ use Rattle.btreekv_commands.proofs.streaming.test_build.Goals as goal
 
 pub returns-clause-err : goal.returns-clause-err
 returns-clause-err g c =
-    rw c.program_fault.ensures (program_caused (g.B.Read.remaining c.args.input) c.args.count c.in-Err.fault c.in-Err.ensures.read c.in-Err.ensures.err)
+    rw c.program_fault.ensures (program_caused c.args.heading (g.B.Read.remaining c.args.input) c.args.count c.in-Err.fault c.in-Err.ensures.read c.in-Err.ensures.err)

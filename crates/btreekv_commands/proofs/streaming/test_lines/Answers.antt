@@ -10,5 +10,5 @@ returns-clause-err g c =
     let given = g.R.Reopen.bytes c.args.input.now in
     let count = c.in-Ok-count_lines.count in
     let counted = subst (λ (o : Option (List ℕ)). IfSome o (λ bytes. (entries : List Entry) × AreLines bytes entries × (count ≡ length entries))) c.in-Ok.ensures.bytes c.in-Ok-count_lines.ensures.ok in
-    let because = subst (λ (o : Option (List ℕ)). IsReadOrBuildFault (λ f. Because o count (λ es. IsUnbuilt es f)) c.in-Err-test_build.fault) c.in-Ok-reopen-2.ensures.bytes c.in-Err-test_build.ensures.err in
-    fails_so c.args.is_strict given count counted c.in-Err-test_build.fault because
+    let because = subst (λ (o : Option (List ℕ)). IsReadOrBuildFault (λ f. Because o count (λ es. IsUnbuilt c.args.heading es f)) c.in-Err-test_build.fault) c.in-Ok-reopen-2.ensures.bytes c.in-Err-test_build.ensures.err in
+    fails_so c.args.is_strict c.args.heading given count counted c.in-Err-test_build.fault because

@@ -9,6 +9,7 @@ returns-in-Ok-clause-built g c = record {
   natives = c.deref.result.now;
   given = subst (λ (xs : List _). AreGiven (IsOfBoth g.K.Given.IsItem g.V.Given.IsItem c.args.texts.now) (λ e. g.K.Given.Gives c.args.texts.now e.key) (λ e. g.V.Given.Gives c.args.texts.now e.value) c.args.entries.now xs) (sym c.deref.ensures.value) c.in_ok-natives.ensures.given;
   archived = c.in-Ok.ensures.archive;
+  tree = c.in-Ok.ensures.tree;
   increasing = c.in-Ok.ensures.increasing;
 }
 

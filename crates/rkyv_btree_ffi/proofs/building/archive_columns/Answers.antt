@@ -10,6 +10,7 @@ returns-in-Ok-clause-built g c = record {
   natives = c.deref.result.now;
   given = subst (λ (xs : List _). AreGiven (IsRow g.K.Given.IsCell g.V.Given.IsCell c.args.keys.now c.args.values.now) (g.K.Given.CellGives c.args.keys.now) (g.V.Given.CellGives c.args.values.now) (range_with_len 0 c.args.len) xs) (sym c.deref.ensures.value) c.in_ok-natives.ensures.given;
   archived = c.in-Ok.ensures.archive;
+  tree = c.in-Ok.ensures.tree;
   increasing = c.in-Ok.ensures.increasing;
 }
 

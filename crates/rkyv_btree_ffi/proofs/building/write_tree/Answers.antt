@@ -3,7 +3,7 @@ use Rattle.std.proofs.Common.{length, refl}
 use Rattle.std.proofs.lemmas.Result.{IfOk-weaker, IfErr-weaker}
 use Rattle.rkyv_btree_writing_laws.specs.Entries.{now_of}
 use Rattle.rkyv_btree_writing_laws.proofs.TreeSerialised.{list_serialised}
-use Rattle.rkyv_btree_ffi.proofs.Built.{drained, any_fault, strict_fault, archived_all, increasing_all, if_err}
+use Rattle.rkyv_btree_ffi.proofs.Built.{drained, any_fault, strict_fault, archived_all, built_all, increasing_all, if_err}
 use Rattle.rkyv_btree_ffi.proofs.building.write_tree.Goals as goal
 
 pub returns-in-Any-clause-serialised : goal.returns-in-Any-clause-serialised
@@ -37,3 +37,11 @@ returns-in-Increasing-clause-err g c =
 pub returns-in-Increasing-clause-increasing : goal.returns-in-Increasing-clause-increasing
 returns-in-Increasing-clause-increasing g c = λ up.
     increasing_all g.K.Portable.kind g.V.Portable.kind g.K.Native.Archive.archival g.V.Native.Archive.archival c.args.natives.now (λ e. e.rest.now) _ refl (length c.args.natives.now) (λ w. w) c.args.writer.now c.serialize_strict_from_ordered_iter.new.writer g.K.Native.Ord.cmp c.serialize_strict_from_ordered_iter.result c.serialize_strict_from_ordered_iter.ensures.in_order
+
+pub returns-in-Any-clause-tree : goal.returns-in-Any-clause-tree
+returns-in-Any-clause-tree g c =
+    built_all g.K.Portable.kind g.V.Portable.kind g.K.Native.Archive.archival g.V.Native.Archive.archival c.args.natives.now (λ e. e.rest.now) _ refl (length c.args.natives.now) (λ w. w) c.args.writer.now c.serialize_from_ordered_iter.new.writer c.serialize_from_ordered_iter.result (IfOk-weaker c.serialize_from_ordered_iter.result _ _ (λ root built. built.written) c.serialize_from_ordered_iter.ensures.ok)
+
+pub returns-in-Increasing-clause-tree : goal.returns-in-Increasing-clause-tree
+returns-in-Increasing-clause-tree g c =
+    built_all g.K.Portable.kind g.V.Portable.kind g.K.Native.Archive.archival g.V.Native.Archive.archival c.args.natives.now (λ e. e.rest.now) _ refl (length c.args.natives.now) (λ w. w) c.args.writer.now c.serialize_strict_from_ordered_iter.new.writer c.serialize_strict_from_ordered_iter.result (IfOk-weaker c.serialize_strict_from_ordered_iter.result _ _ (λ root built. built.written) c.serialize_strict_from_ordered_iter.ensures.ok)

@@ -1,5 +1,5 @@
 use Rattle.std.proofs.Common.{refl}
-use Rattle.btreekv_commands.proofs.opening.open_increasing.Goals as goal
+use Rattle.btreekv_commands.proofs.opening.strict_map.Goals as goal
 
 pub returns-in-Err-clause-err : goal.returns-in-Err-clause-err
 returns-in-Err-clause-err c = record {

@@ -1,0 +1,23 @@
+-- The first bytes are those of the source.
+use Rattle.std.proofs.Common.{◌≡◌, ◌∙◌, List, ℕ, ap, arith, length, min, subst, sym, take}
+use Rattle.std.proofs.lemmas.List.{length-take, take_min}
+use Rattle.rkyv_btree_source.specs.Known.{AreOf, Known}
+use Rattle.btreearc_lines.specs.Headings.{IsMisheaded}
+use Rattle.btreekv_commands.specs.Opening.{HasFitHeading, texts_name}
+use Rattle.btreekv_commands.proofs.sourced.check_first.Goals as goal
+
+pub returns-in-Ok-heading_of-clause-ok : goal.returns-in-Ok-heading_of-clause-ok
+returns-in-Ok-heading_of-clause-ok g c b e =
+    let known = subst (λ (k : Known). AreOf k b) (sym c.in-Ok.ensures.same) e in
+    let read = c.in-Ok-read_at.ensures.gives b known in
+    let size = c.in-Ok.ensures.value b e in
+    let count : length (take c.min-len.result c.args.room.now) ≡ min 4096 (length b) = simp length-take (omega (arith, size, c.min-len.ensures, c.requires)) in
+    subst (λ (z : List ℕ). HasFitHeading z) (read ∙ (ap (λ n. take n b) count ∙ take_min 4096 b)) (c.in-Ok-heading_of.field-0, c.in-Ok-heading_of.ensures.ok)
+
+pub returns-in-Err-heading_of-clause-err : goal.returns-in-Err-heading_of-clause-err
+returns-in-Err-heading_of-clause-err g c b e =
+    let known = subst (λ (k : Known). AreOf k b) (sym c.in-Ok.ensures.same) e in
+    let read = c.in-Ok-read_at.ensures.gives b known in
+    let size = c.in-Ok.ensures.value b e in
+    let count : length (take c.min-len.result c.args.room.now) ≡ min 4096 (length b) = simp length-take (omega (arith, size, c.min-len.ensures, c.requires)) in
+    subst (λ (z : List ℕ). IsMisheaded texts_name z c.in-Err-heading_of.fault) (read ∙ (ap (λ n. take n b) count ∙ take_min 4096 b)) c.in-Err-heading_of.ensures.err

@@ -1,0 +1,2 @@
+-- Laws of what the types of this room keep.
+pub mod Walking
