@@ -28,11 +28,11 @@ use Rattle.btreekv_commands.specs.declared.command.Command.TheVariants.{Prefix, 
 use Rattle.btreekv_commands.specs.declared.forms.Form.{Form}
 
 -- a failed read has its cause
-pub failed_by : {E : Type 0} (P : E → Type 0) (end room left : ℕ) (fault : SourceFault E) → IfRead P fault → IsTooSmall end room left fault → IsReadFailure P end left (lookup_fault fault)
-failed_by P end room left (Refused e) read caused same = absurd (cc same)
-failed_by P end room left (Read e) read caused same = inl (e, read)
-failed_by P end room left (NoRoom n) read caused same = absurd (cc same)
-failed_by P end room left OverBudget read caused same = inr caused
+pub failed_by : {E : Type 0} (P : E → Type 0) (end node room left : ℕ) (fault : SourceFault E) → IfRead P fault → IsTooSmall end node room left fault → IsReadFailure P end left (lookup_fault fault)
+failed_by P end node room left (Refused e) read caused same = absurd (cc same)
+failed_by P end node room left (Read e) read caused same = inl (e, read)
+failed_by P end node room left (NoRoom n) read caused same = absurd (cc same)
+failed_by P end node room left OverBudget read caused same = inr caused
 
 module _ (prefix : List ℕ) (form : Form) (old new : List Entry) (before : List ℕ) where
   -- an entry that is written is the first that is sought

@@ -209,11 +209,11 @@ pub compared_there : {T : Type 0} {K : Kind} {compared_at : T → List ℕ → �
 compared_there law key room b place at same = law.by_value key room place ∙ (ap (law.compared key) same ∙ sym (law.by_value key b at))
 
 -- what is too small for reads up to an end is so for a further one
-pub too_small_within : (end further room left : ℕ) {X : Type 0} (fault : SourceFault X) → end ≤ further → IsTooSmall end room left fault → IsTooSmall further room left fault
-too_small_within end further room left (Refused e) more h = tt
-too_small_within end further room left (Read e) more h = tt
-too_small_within end further room left (NoRoom n) more h = h
-too_small_within end further room left OverBudget more h = omega (arith, more, h)
+pub too_small_within : (end further node room left : ℕ) {X : Type 0} (fault : SourceFault X) → end ≤ further → IsTooSmall end node room left fault → IsTooSmall further node room left fault
+too_small_within end further node room left (Refused e) more h = tt
+too_small_within end further node room left (Read e) more h = tt
+too_small_within end further node room left (NoRoom n) more h = let small = h.2 in (h.0, h.1, omega (arith, more, small))
+too_small_within end further node room left OverBudget more h = omega (arith, more, h)
 
 -- a path with one more node has more entries left
 pub entries_with : (E : ℕ) (fs all : List (ℕ × ℕ)) (p i : ℕ) → all ≡ fs ++ (p, i) ∷ [] → path_entries E all ≡ path_entries E fs + (E - i)

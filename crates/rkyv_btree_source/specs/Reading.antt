@@ -71,13 +71,13 @@ IfUnread P (Read e) = P
 IfUnread P (NoRoom n) = P
 IfUnread P OverBudget = P
 
--- the cause of a fault of a call that reads nothing after `end`: the `room` bytes that are lent are fewer than it needs, or the `left` bytes
--- of the budget are fewer than there are up to the end
-abbrev pub IsTooSmall : {E : Type 0} → (end room left : ℕ) → SourceFault E → Type 0
-IsTooSmall end room left (Refused e) = Unit {0}
-IsTooSmall end room left (Read e) = Unit {0}
-IsTooSmall end room left (NoRoom n) = room < n
-IsTooSmall end room left OverBudget = left < end
+-- the cause of a fault of a call that reads nothing after `end`: it needs more than the `room` bytes that are lent, those of a node and at
+-- most `end` more for each of a key and a value, or the `left` bytes of the budget are fewer than there are up to the end
+abbrev pub IsTooSmall : {E : Type 0} → (end node room left : ℕ) → SourceFault E → Type 0
+IsTooSmall end node room left (Refused e) = Unit {0}
+IsTooSmall end node room left (Read e) = Unit {0}
+IsTooSmall end node room left (NoRoom n) = (room < n) × (node ≤ n) × (n ≤ node + 2 * end)
+IsTooSmall end node room left OverBudget = left < end
 
 -- how many bytes of a lent buffer a call may use: those of a node, and as many as positions reach
 abbrev pub usable : (node lent : ℕ) → ℕ

@@ -48,6 +48,7 @@ pub trait Fetch: CheckBytes {
         requires short { length room.old ≤ 4294967295 }
         requires part { (b : List ℕ) → AreOf (S.known reader.old.source) b → IsPart b own_bytes.now pos }
         ensures valid { IfOk result (λ place. IsTrue (stands Self.kind room.new place)) }
+        ensures near { IfOk result (λ place. place ≤ pos) }
         ensures brings { (b : List ℕ) → AreOf (S.known reader.old.source) b →
             Brings Self.kind Self.Refuses b pos room.new result }
         ensures same { S.known reader.new.source ≡ S.known reader.old.source }
@@ -75,6 +76,7 @@ fn fetch_own<T: Scalar, E>(
     requires short { length room.old ≤ 4294967295 }
     ensures valid { IfOk result
         (λ place. IsTrue (stands (plain_kind T.form.plain) room.new place)) }
+    ensures near { IfOk result (λ place. place ≤ pos) }
     ensures brings { (b : List ℕ) → IsPart b own_bytes.now pos → Brings (plain_kind T.form.plain)
         (RefusesWhole (plain_kind T.form.plain)) b pos room.new result }
     // Nothing is read, so no budget is too small.

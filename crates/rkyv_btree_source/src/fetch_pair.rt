@@ -34,6 +34,7 @@ pub(crate) fn fetch_pair<K: InPlace, V: InPlace, E>(
     requires short { length room.old ≤ 4294967295 }
     ensures valid { IfOk result
         (λ place. IsTrue (stands (entry_kind K.kind V.kind) room.new place)) }
+    ensures near { IfOk result (λ place. place ≤ pos) }
     ensures brings { (b : List ℕ) → IsPart b own_bytes.now pos → Brings (entry_kind K.kind V.kind)
         (RefusesEntry K.kind V.kind) b pos room.new result }
     // Nothing is read, so no budget is too small.

@@ -6,7 +6,7 @@ ghost use Rattle.rkyv_btree_source.specs.Reading.{IfRead, IfRefused, IsTooSmall,
 ghost use Rattle.rkyv_btree_source.specs.laws.Walking.{placed-prop, walks-prop};
 ghost use Rattle.rkyv_btree_source.specs.mirror.Walking.{AreWalks, IsHeld, IsPlaced, refuses};
 ghost use Rattle.rkyv_btree_unverified.specs.Left.{most_of};
-ghost use Rattle.rkyv_btree_unverified.specs.EntriesFrom.{is_past_place, places_from};
+ghost use Rattle.rkyv_btree_unverified.specs.EntriesFrom.{places_from};
 ghost use Rattle.rkyv_btree_unverified.specs.Walks.{Fails};
 ghost use Rattle.rkyv_btree_unverified.specs.Ways.{places_left};
 ghost use Rattle.rkyv_btree_unverified.specs.mirror.Walked.{IsCounted, walk_most};
@@ -19,6 +19,7 @@ use crate::source::ReadAt;
 use crate::unverified_source::UnverifiedSource;
 use crate::walk::{Brought, step};
 use rkyv_btree_unverified::node::{inner_size, leaf_size};
+use rkyv_btree_unverified::range::is_past;
 use rkyv_btree_unverified::walk::{Phase, UnverifiedWalk};
 use rkyv_btree_view::compare_native::CompareWith;
 use rkyv_btree_view::view::View;
@@ -26,7 +27,7 @@ use rkyv_btree_walk::archived_map::ArchivedMap;
 use rkyv_btree_walk::path::Path;
 use rkyv_btree_walk::shows::Shows;
 use std::marker::PhantomData;
-use std::ops::{Bound, RangeBounds};
+use std::ops::RangeBounds;
 
 /// The entries of a map in a source whose keys are in a range, in order. Each entry is read when it is asked for.
 #[derive(Drop)]
@@ -36,20 +37,10 @@ pub struct SourceRange<S: ReadAt, M: ArchivedMap, T, R> {
     walk: Option<UnverifiedWalk>,
     range: R,
     by: PhantomData<T>,
-    ghost placed: { IfSome walk (IsPlaced M.Key.kind M.Mapped.kind M.E map.pos) } by { placed-prop M.Key.kind M.Mapped.kind M.E map.pos walk },
-    ghost walks: { AreWalks M.Key.kind M.Mapped.kind M.E (S.known map.reader.source) map.pos walk } by { walks-prop M.Key.kind M.Mapped.kind M.E (S.known map.reader.source) map.pos walk },
-}
-
-/// Returns whether a key is past the end of a range.
-fn is_past<T, K: CompareWith<T>, R: RangeBounds<T>>(range: &R, key: &View<'_, K>) -> bool
-    ensures { R.has_bounds range.now →
-        result ≡ is_past_place K.compared_at key.now.buf.now (R.end_bound range.now) key.now.pos }
-{
-    match range.end_bound() {
-        Bound::Unbounded => false,
-        Bound::Included(high) => K::compare_with(high, key).is_lt(),
-        Bound::Excluded(high) => K::compare_with(high, key).is_le(),
-    }
+    ghost placed: { IfSome walk (IsPlaced M.Key.kind M.Mapped.kind M.E map.pos) }
+        by { placed-prop M.Key.kind M.Mapped.kind M.E map.pos walk },
+    ghost walks: { AreWalks M.Key.kind M.Mapped.kind M.E (S.known map.reader.source) map.pos walk }
+        by { walks-prop M.Key.kind M.Mapped.kind M.E (S.known map.reader.source) map.pos walk },
 }
 
 /// Returns whether a call says that the bytes are no map.
@@ -91,7 +82,7 @@ fn begin_walk<
     ensures turns { IfOk result (λ walk. walk_most M.E walk ≤ M.E * 18446744073709551615) }
     ensures same { S.known reader.new.source ≡ S.known reader.old.source }
     ensures fails { IfErr result (IfRead (S.Fails (S.known reader.old.source))) }
-    ensures caused { IfErr result (IsTooSmall (pos + 8) (length room.old) reader.new.left) }
+    ensures caused { IfErr result (IsTooSmall (pos + 8) 0 (length room.old) reader.new.left) }
     ensures left { reader.new.left ≤ reader.old.left }
 {
     let size = match reader.size() {
@@ -189,7 +180,7 @@ impl<
             × (self.new.map.pos ≡ self.old.map.pos)
             × (S.known self.new.map.reader.source ≡ S.known self.old.map.reader.source) }
         ensures fails { IfErr result (IfRead (S.Fails (S.known self.old.map.reader.source))) }
-        ensures caused { IfErr result (IsTooSmall (self.old.map.pos + 8) (length room.old)
+        ensures caused { IfErr result (IsTooSmall (self.old.map.pos + 8) 0 (length room.old)
             self.new.map.reader.left) }
         ensures left { self.new.map.reader.left ≤ self.old.map.reader.left }
     {
@@ -223,7 +214,7 @@ impl<
             × (self.new.map.pos ≡ self.old.map.pos)
             × (S.known self.new.map.reader.source ≡ S.known self.old.map.reader.source) }
         ensures fails { IfErr result (IfRead (S.Fails (S.known self.old.map.reader.source))) }
-        ensures caused { IfErr result (IsTooSmall (self.old.map.pos + 8) (length room.old)
+        ensures caused { IfErr result (IsTooSmall (self.old.map.pos + 8) 0 (length room.old)
             self.new.map.reader.left) }
         ensures left { self.new.map.reader.left ≤ self.old.map.reader.left }
     {
@@ -265,7 +256,7 @@ impl<
     ///
     /// Those of a lookup. `Refused` is the first fault in what is read, and after it nothing is left. After `Read`, `NoRoom` and
     /// `OverBudget` the same entries are left as before: a call with a longer buffer goes on. `NoRoom` says that `lent` is too short:
-    /// it needs `node_len` bytes, and as many as the key and the value take. `OverBudget` says that fewer bytes are left than there are up
+    /// it needs `node_len` bytes, and as many as the key and the value take. These are at most twice `pos + 8`. `OverBudget` says that fewer bytes are left than there are up
     /// to the map's end, at `pos + 8`. No memory is allocated.
     pub fn next<'r>(
         &mut self,
@@ -283,6 +274,7 @@ impl<
             (source_of self.new).pos result }
         ensures bounds { bounds_of self.new ≡ bounds_of self.old }
         ensures caused { IfErr result (IsTooSmall ((source_of self.old).pos + 8)
+            (inner_size (layout_of K.kind V.kind M.E))
             (usable (inner_size (layout_of K.kind V.kind M.E)) (length lent.old))
             (source_of self.new).reader.left) }
         ensures budget { (source_of self.new).reader.left ≤ (source_of self.old).reader.left }

@@ -62,6 +62,7 @@ pub(crate) fn fetch_part<S: ReadAt, T: Fetch>(
     requires short { length room.old ≤ 4294967295 }
     requires part { (b : List ℕ) → AreOf (S.known reader.old.source) b → IsPart b bytes.now node }
     ensures valid { IfOk result (λ place. IsTrue (stands T.kind room.new place)) }
+    ensures near { IfOk result (λ place. place ≤ node + at) }
     ensures brings { (b : List ℕ) → AreOf (S.known reader.old.source) b →
         Brings T.kind T.Refuses b (node + at) room.new result }
     ensures same { S.known reader.new.source ≡ S.known reader.old.source }

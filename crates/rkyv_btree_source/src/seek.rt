@@ -70,7 +70,7 @@ fn seek_keys<
     ensures same { S.known reader.new.source ≡ S.known reader.old.source }
     ensures fails { IfErr result (IfRead (S.Fails (S.known reader.old.source))) }
     ensures caused { IfErr result
-        (IsTooSmall (node + length bytes.now) (length room.old) reader.new.left) }
+        (IsTooSmall (node + length bytes.now) 0 (length room.old) reader.new.left) }
     ensures left { reader.new.left ≤ reader.old.left }
 {
     for i in 0..count {
@@ -115,7 +115,7 @@ fn seek<S: ReadAt, T, K: Fetch + CompareWith<T>, V: Fetch, M: ArchivedMap<Key = 
         + (part.end - part.next) ≤ M.E * nodes.old) }
     ensures same { S.known reader.new.source ≡ S.known reader.old.source }
     ensures fails { IfErr result (IfRead (S.Fails (S.known reader.old.source))) }
-    ensures caused { IfErr result (IsTooSmall (pos + 8) (length room.old) reader.new.left) }
+    ensures caused { IfErr result (IsTooSmall (pos + 8) 0 (length room.old) reader.new.left) }
     ensures left { reader.new.left ≤ reader.old.left }
 {
     let mut at = root;
@@ -191,7 +191,7 @@ fn begin_at<S: ReadAt, T, K: Fetch + CompareWith<T>, V: Fetch, M: ArchivedMap<Ke
     ensures most { IfOk result (λ _. walk_most M.E walk.new ≤ M.E * walk.old.nodes) }
     ensures same { S.known reader.new.source ≡ S.known reader.old.source }
     ensures fails { IfErr result (IfRead (S.Fails (S.known reader.old.source))) }
-    ensures caused { IfErr result (IsTooSmall (pos + 8) (length room.old) reader.new.left) }
+    ensures caused { IfErr result (IsTooSmall (pos + 8) 0 (length room.old) reader.new.left) }
     ensures left { reader.new.left ≤ reader.old.left }
 {
     let root = match read_head::<S, K, V, M>(reader, pos) {
@@ -244,7 +244,7 @@ pub(crate) fn begin<
     ensures most { IfOk result (λ _. walk_most M.E walk.new ≤ M.E * walk.old.nodes) }
     ensures same { S.known reader.new.source ≡ S.known reader.old.source }
     ensures fails { IfErr result (IfRead (S.Fails (S.known reader.old.source))) }
-    ensures caused { IfErr result (IsTooSmall (pos + 8) (length room.old) reader.new.left) }
+    ensures caused { IfErr result (IsTooSmall (pos + 8) 0 (length room.old) reader.new.left) }
     ensures left { reader.new.left ≤ reader.old.left }
 {
     match low {

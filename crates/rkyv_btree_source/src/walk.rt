@@ -54,7 +54,7 @@ fn bring_entry<S: ReadAt, K: Fetch, V: Fetch, M: ArchivedMap<Key = K, Mapped = V
     ensures same { S.known reader.new.source ≡ S.known reader.old.source }
     ensures fails { IfErr result (IfRead (S.Fails (S.known reader.old.source))) }
     ensures caused { IfErr result
-        (IsTooSmall (node + len) (length room.old) reader.new.left) }
+        (IsTooSmall (node + len) 0 (length room.old) reader.new.left) }
     ensures left { reader.new.left ≤ reader.old.left }
 {
     let bytes = &mut page[..len as usize];
@@ -101,7 +101,7 @@ fn child_at<S: ReadAt, K: Portable, V: Portable, M: ArchivedMap<Key = K, Mapped 
     ensures same { S.known reader.new.source ≡ S.known reader.old.source }
     ensures fails { IfErr result (IfRead (S.Fails (S.known reader.old.source))) }
     ensures caused { (n : ℕ) → IfErr result
-        (IsTooSmall (node + inner_size (layout_of K.kind V.kind M.E)) n reader.new.left) }
+        (IsTooSmall (node + inner_size (layout_of K.kind V.kind M.E)) 0 n reader.new.left) }
     ensures left { reader.new.left ≤ reader.old.left }
 {
     let bytes = &mut page[..inner_size::<K, V, M>() as usize];
@@ -135,7 +135,7 @@ fn pending<S: ReadAt, K: Fetch, V: Fetch, M: ArchivedMap<Key = K, Mapped = V>>(
         path.old.items) result }
     ensures same { S.known reader.new.source ≡ S.known reader.old.source }
     ensures fails { IfErr result (IfRead (S.Fails (S.known reader.old.source))) }
-    ensures caused { (n : ℕ) → IfErr result (IsTooSmall (pos + 8) n reader.new.left) }
+    ensures caused { (n : ℕ) → IfErr result (IsTooSmall (pos + 8) 0 n reader.new.left) }
     ensures left { reader.new.left ≤ reader.old.left }
 {
     match path.pop() {
@@ -190,7 +190,7 @@ fn descend<S: ReadAt, K: Fetch, V: Fetch, M: ArchivedMap<Key = K, Mapped = V>>(
         + leaf.count ≤ M.E * nodes.old + path_entries M.E path.old.items) }
     ensures same { S.known reader.new.source ≡ S.known reader.old.source }
     ensures fails { IfErr result (IfRead (S.Fails (S.known reader.old.source))) }
-    ensures caused { (n : ℕ) → IfErr result (IsTooSmall (pos + 8) n reader.new.left) }
+    ensures caused { (n : ℕ) → IfErr result (IsTooSmall (pos + 8) 0 n reader.new.left) }
     ensures left { reader.new.left ≤ reader.old.left }
 {
     let mut at = node;
@@ -251,7 +251,7 @@ fn climb<S: ReadAt, K: Fetch, V: Fetch, M: ArchivedMap<Key = K, Mapped = V>>(
         path_entries M.E path.new.items < path_entries M.E path.old.items)) }
     ensures same { S.known reader.new.source ≡ S.known reader.old.source }
     ensures fails { IfErr result (IfRead (S.Fails (S.known reader.old.source))) }
-    ensures caused { IfErr result (IsTooSmall (pos + 8) (length room.old) reader.new.left) }
+    ensures caused { IfErr result (IsTooSmall (pos + 8) 0 (length room.old) reader.new.left) }
     ensures left { reader.new.left ≤ reader.old.left }
 {
     'up: while let Some((node, index)) = path.pop() {
@@ -304,7 +304,7 @@ fn go_down<S: ReadAt, K: Fetch, V: Fetch, M: ArchivedMap<Key = K, Mapped = V>>(
         ≤ M.E * walk.old.nodes + path_entries M.E walk.old.path.items) }
     ensures same { S.known reader.new.source ≡ S.known reader.old.source }
     ensures fails { IfErr result (IfRead (S.Fails (S.known reader.old.source))) }
-    ensures caused { (n : ℕ) → IfErr result (IsTooSmall (pos + 8) n reader.new.left) }
+    ensures caused { (n : ℕ) → IfErr result (IsTooSmall (pos + 8) 0 n reader.new.left) }
     ensures left { reader.new.left ≤ reader.old.left }
 {
     match pending::<S, K, V, M>(pos, &mut walk.path, reader, page) {
@@ -348,7 +348,7 @@ fn advance<S: ReadAt, K: Fetch, V: Fetch, M: ArchivedMap<Key = K, Mapped = V>>(
         walk_most M.E walk.new < walk_most M.E walk.old)) }
     ensures same { S.known reader.new.source ≡ S.known reader.old.source }
     ensures fails { IfErr result (IfRead (S.Fails (S.known reader.old.source))) }
-    ensures caused { IfErr result (IsTooSmall (pos + 8) (length room.old) reader.new.left) }
+    ensures caused { IfErr result (IsTooSmall (pos + 8) 0 (length room.old) reader.new.left) }
     ensures left { reader.new.left ≤ reader.old.left }
 {
     let (node, next) = (walk.node, walk.next);
@@ -402,7 +402,7 @@ pub(crate) fn step<S: ReadAt, K: Fetch, V: Fetch, M: ArchivedMap<Key = K, Mapped
         walk_most M.E walk.new < walk_most M.E walk.old)) }
     ensures same { S.known reader.new.source ≡ S.known reader.old.source }
     ensures fails { IfErr result (IfRead (S.Fails (S.known reader.old.source))) }
-    ensures caused { IfErr result (IsTooSmall (pos + 8) (length room.old) reader.new.left) }
+    ensures caused { IfErr result (IsTooSmall (pos + 8) 0 (length room.old) reader.new.left) }
     ensures left { reader.new.left ≤ reader.old.left }
 {
     match walk.phase {

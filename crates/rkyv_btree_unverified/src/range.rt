@@ -37,7 +37,7 @@ pub struct UnverifiedRange<'a, M: ArchivedMap, T, R> {
 }
 
 /// Returns whether a key is past the end of a range.
-fn is_past<T, K: CompareWith<T>, R: RangeBounds<T>>(range: &R, key: &View<'_, K>) -> bool
+pub fn is_past<T, K: CompareWith<T>, R: RangeBounds<T>>(range: &R, key: &View<'_, K>) -> bool
     ensures { R.has_bounds range.now →
         result ≡ is_past_place K.compared_at key.now.buf.now (R.end_bound range.now) key.now.pos }
 {

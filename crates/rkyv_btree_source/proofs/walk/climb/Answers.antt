@@ -83,7 +83,7 @@ up-preserved g c =
 pub returns-in-Err-clause-caused : goal.returns-in-Err-clause-caused
 returns-in-Err-clause-caused g c =
     let parts = low_parts g.K.Portable.kind g.V.Portable.kind g.M.ArchivedMap.E c.args.pos c.pop.new.self.items _ _ c.in-Some.index c.in-Some.ensures.items c.up.invariant.low in
-    rw (← c.up.invariant.room) (too_small_within _ _ _ _ c.in-Err.fault (omega (arith, parts.1, c.inner_size-len.ensures)) c.in-Err.ensures.caused)
+    rw (← c.up.invariant.room) (too_small_within _ _ _ _ _ c.in-Err.fault (omega (arith, parts.1, c.inner_size-len.ensures)) c.in-Err.ensures.caused)
 
 pub returns-in-Err-clause-most : goal.returns-in-Err-clause-most
 returns-in-Err-clause-most g c =

@@ -93,4 +93,4 @@ returns-in-Ok-Some-child_at-clause-room g c =
 pub returns-in-Err-child_at-clause-caused : goal.returns-in-Err-child_at-clause-caused
 returns-in-Err-child_at-clause-caused g c n =
     let low = (low_parts g.K.Portable.kind g.V.Portable.kind g.M.ArchivedMap.E c.args.pos c.pop.new.self.items _ _ c.in-Some.index c.in-Some.ensures.items c.requires.low).1 in
-    too_small_within _ _ n _ c.in-Err-child_at.fault (omega (arith, low)) (c.in-Err-child_at.ensures.caused n)
+    too_small_within _ _ 0 n _ c.in-Err-child_at.fault (omega (arith, low)) (c.in-Err-child_at.ensures.caused n)
