@@ -12,11 +12,12 @@ use btreekv_commands::program::run;
 use btreekv_commands::{opening, sourced};
 use clap::ArgMatches;
 use rkyv_btree_source::cached::CachedSource;
-use rkyv_btree_source::source::{ReadAt, SeekSource};
+use rkyv_btree_source::source::ReadAt;
 use rkyv_btree_source::unverified_source::UnverifiedSource;
 use std::fs::File;
 use std::io;
 use std::io::{BufRead, Read};
+use std::os::unix::fs::FileExt;
 use std::str::from_utf8;
 
 /// The number of blocks that the look-up of one key keeps, of 4 kilobytes each.
@@ -25,19 +26,21 @@ const FEW_BLOCKS: usize = 16;
 /// The number of blocks that the look-ups of many keys keep.
 const MANY_BLOCKS: usize = 2048;
 
-/// A regular file as a source, whose size was asked for once: a lookup asks for it each time.
+/// A regular file as a source, whose size was asked for once: a lookup asks for it each time. Each read is one call of the system.
 #[derive(Drop)]
 pub(crate) struct SizedFile {
-    source: SeekSource<File>,
+    file: File,
     size: u64,
 }
 
 impl SizedFile {
     /// Asks for the size of a file.
     fn new(file: File) -> Result<SizedFile, ProgramFault> {
-        let mut source = SeekSource { file };
-        match source.size() {
-            Ok(size) => Ok(SizedFile { source, size }),
+        match file.metadata() {
+            Ok(metadata) => Ok(SizedFile {
+                size: metadata.len(),
+                file,
+            }),
             Err(_) => Err(ProgramFault::InputFailed),
         }
     }
@@ -51,7 +54,7 @@ impl ReadAt for SizedFile {
     }
 
     fn read_at(&mut self, pos: u32, part: &mut [u8]) -> Result<(), io::Error> {
-        self.source.read_at(pos, part)
+        self.file.read_exact_at(part, u64::from(pos))
     }
 }
 

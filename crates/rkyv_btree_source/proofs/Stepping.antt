@@ -1,5 +1,5 @@
 -- Steps of a walk that is read from a source: what it has left where it goes down, or waits.
-use Rattle.std.proofs.Common.{◌≡◌, ◌∙◌, ℕ, ◌+◌, ◌-◌, ◌*◌, ◌/◌, ◌≤◌, Bool, List, length, Option, Some, None, Result, Ok, Err, refl, sym, subst, arith}
+use Rattle.std.proofs.Common.{◌≡◌, ◌∙◌, ℕ, ◌-◌, ◌*◌, ◌/◌, ◌≤◌, Bool, List, length, Option, Some, None, Result, Ok, Err, refl, sym, subst, arith}
 use Rattle.std.specs.Borrow.{Bor}
 use Rattle.std.specs.Prelude.{◌≢◌}
 use Rattle.std.specs.Range.Bound.{bound_map}
@@ -21,7 +21,7 @@ use Rattle.rkyv_btree_unverified.specs.declared.walk.Phase.TheVariants.{Descend,
 use Rattle.rkyv_btree_unverified.specs.declared.walk.UnverifiedWalk.{UnverifiedWalk}
 use Rattle.rkyv_btree_unverified.specs.mirror.Faultless.{FaultlessAt, FaultlessPhase}
 use Rattle.rkyv_btree_unverified.specs.mirror.Sought.{BeginGives, Begins}
-use Rattle.rkyv_btree_unverified.specs.mirror.Walked.{GoesDown, HasAt, HasLeaf, HasPath, HasPhase, IsCounted, IsUnverifiedWalk, LeafFound, walk_most}
+use Rattle.rkyv_btree_unverified.specs.mirror.Walked.{GoesDown, HasAt, HasPath, HasPhase, IsCounted, IsUnverifiedWalk, LeafFound, walk_most}
 use Rattle.rkyv_btree_walk.proofs.Paths.{walk_end}
 use Rattle.rkyv_btree_walk.specs.declared.path.Leaf.{Leaf}
 

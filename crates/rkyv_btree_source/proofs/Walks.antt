@@ -1,9 +1,8 @@
 -- What the steps of a walk give where they are read from a source: what they lead to, and that no map is refused.
-use Rattle.std.proofs.Common.{◌≡◌, ◌∙◌, ℕ, suc, ◌+◌, ◌-◌, ◌≤◌, ◌<◌, ◌++◌, ◌∷◌, [], IsTrue, List, length, take, drop, Option, Some, None, Result, Ok, Err, refl, sym, ap, subst, arith, false, inl, inr, slice_index}
+use Rattle.std.proofs.Common.{◌≡◌, ◌∙◌, ℕ, suc, ◌+◌, ◌-◌, ◌≤◌, ◌<◌, ◌++◌, ◌∷◌, [], IsTrue, List, length, take, drop, Option, Some, None, Result, Ok, Err, refl, sym, ap, arith, false, inl, inr, slice_index}
 use Rattle.std.proofs.lemmas.Bool.{eq-eqb, eqb-true, ne_eqb, cases_Bool}
 use Rattle.std.proofs.lemmas.List.{get_or-take, length-append, length-take-le}
 use Rattle.std.proofs.Math.Seq.{drop-append_seam, take-append_seam}
-use Rattle.std.specs.Prelude.{ℤ, pos}
 use Rattle.std.specs.declared.cmp.Ordering.{Ordering}
 use Rattle.rkyv_btree_portable.specs.Bytes.{bytes_at, number_at, place_at}
 use Rattle.rkyv_btree_portable.specs.Kind.{Kind, IsLawful}
@@ -12,7 +11,7 @@ use Rattle.rkyv_btree_portable.specs.Standing.{SameBytes}
 use Rattle.rkyv_btree_portable.specs.Views.{stands}
 use Rattle.rkyv_btree_portable.specs.declared.refusal.Refusal.{Refusal}
 use Rattle.rkyv_btree_portable.specs.laws.Views.{fitting_of, means_read, stands_of}
-use Rattle.rkyv_btree_format.specs.Layout.{layout_of, are_fitting, leaf_size, inner_size}
+use Rattle.rkyv_btree_format.specs.Layout.{layout_of, are_fitting, inner_size}
 use Rattle.rkyv_btree_verify.specs.Refusals.{IsInner, leaf_len}
 use Rattle.rkyv_btree_source.specs.Reading.{IfUnread, IsPart, IsTooSmall}
 use Rattle.rkyv_btree_source.specs.mirror.Walking.{AreLow, IsLow, IsLowPath}

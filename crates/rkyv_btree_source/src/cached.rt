@@ -77,7 +77,7 @@ pub struct CachedSource<S: ReadAt> {
 }
 
 impl<S: ReadAt> CachedSource<S> {
-    /// Returns a source that keeps up to `count` blocks of 4096 bytes. Nothing is read.
+    /// Returns a source that keeps `count` blocks of 4096 bytes. Nothing is read.
     ///
     /// # Errors
     ///
@@ -86,9 +86,10 @@ impl<S: ReadAt> CachedSource<S> {
     where
         S: Drop,
         ensures source { IfOk result (λ cached. cached.source ≡ source) }
+        ensures blocks { IfOk result (λ cached. length cached.blocks.items ≡ count) }
     {
         let mut blocks = Vec::new(alloc);
-        for _ in 0..count {
+        while blocks.len() < count {
             blocks.push(Block::new())?;
         }
         Ok(CachedSource { source, blocks })

@@ -37,10 +37,8 @@ pub struct SourceRange<S: ReadAt, M: ArchivedMap, T, R> {
     walk: Option<UnverifiedWalk>,
     range: R,
     by: PhantomData<T>,
-    ghost placed: { IfSome walk (IsPlaced M.Key.kind M.Mapped.kind M.E map.pos) }
-        by { placed-prop M.Key.kind M.Mapped.kind M.E map.pos walk },
-    ghost walks: { AreWalks M.Key.kind M.Mapped.kind M.E (S.known map.reader.source) map.pos walk }
-        by { walks-prop M.Key.kind M.Mapped.kind M.E (S.known map.reader.source) map.pos walk },
+    ghost placed: { IfSome walk (IsPlaced M.Key.kind M.Mapped.kind M.E map.pos) } by { placed-prop M.Key.kind M.Mapped.kind M.E map.pos walk },
+    ghost walks: { AreWalks M.Key.kind M.Mapped.kind M.E (S.known map.reader.source) map.pos walk } by { walks-prop M.Key.kind M.Mapped.kind M.E (S.known map.reader.source) map.pos walk },
 }
 
 /// Returns whether a call says that the bytes are no map.

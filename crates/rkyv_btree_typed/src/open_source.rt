@@ -1,5 +1,5 @@
 //! Typed files that are opened as sources.
-ghost use Rattle.std.specs.Prelude.{◌≡◌, ◌+◌, ◌≤◌, ◌<◌, List, ℕ, IfErr, IfOk, IsTrue, length};
+ghost use Rattle.std.specs.Prelude.{◌≡◌, ◌+◌, ◌≤◌, ◌<◌, List, ℕ, IfErr, IfOk, IsTrue, length, min};
 ghost use Rattle.rkyv_btree_format.specs.Layout.{are_fitting};
 ghost use Rattle.rkyv_btree_format.specs.OwnBytes.{own_at};
 ghost use Rattle.rkyv_btree_source.specs.Known.{AreOf};
@@ -75,6 +75,8 @@ pub fn open_typed_source<S: ReadAt + Drop, M: ArchivedMap + TypeName>(
     ensures fails { IfErr result (IfSourceRead (S.Fails (S.known source))) }
     ensures budget { IfOk result (λ map.
         (map.reader.left ≤ budget) × (budget ≤ map.reader.left + length lent.old)) }
+    ensures spent { (b : List ℕ) → AreOf (S.known source) b → IfOk result (λ map.
+        budget ≡ map.reader.left + min (length b) (length lent.old)) }
 {
     let mut map = match UnverifiedSource::<S, M>::open(source, budget) {
         Ok(map) => map,

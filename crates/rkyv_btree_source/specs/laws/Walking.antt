@@ -2,7 +2,7 @@
 use Rattle.std.proofs.Common.{ℕ, List, [], ◌∷◌, Option, Some, None, IfSome}
 use Rattle.std.specs.Coded.{le_prop}
 use Rattle.rkyv_btree_portable.specs.Kind.{Kind}
-use Rattle.rkyv_btree_source.specs.Known.{Known, AreOf}
+use Rattle.rkyv_btree_source.specs.Known.{Known}
 use Rattle.rkyv_btree_source.specs.mirror.Walking.{AreLow, AreWalks, IsPlaced}
 use Rattle.rkyv_btree_unverified.specs.declared.walk.UnverifiedWalk.{UnverifiedWalk}
 use Rattle.rkyv_btree_unverified.specs.laws.Walked.{counted-prop}

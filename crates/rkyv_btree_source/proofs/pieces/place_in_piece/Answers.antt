@@ -1,5 +1,5 @@
 -- The bytes are within the piece.
-use Rattle.std.proofs.Common.{◌≡◌, ◌+◌, ◌≤◌, ap, arith, length}
+use Rattle.std.proofs.Common.{◌+◌, ap, arith}
 use Rattle.rkyv_btree_source.proofs.Held.{in_piece}
 use Rattle.rkyv_btree_source.proofs.pieces.place_in_piece.Goals as goal
 

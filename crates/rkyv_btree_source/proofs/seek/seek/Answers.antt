@@ -3,7 +3,6 @@ use Rattle.std.proofs.Common.{◌∙◌, ◌<◌, ◌≤◌, arith, drop, length
 use Rattle.std.proofs.lemmas.List.{length-append, length-drop, length-take-le}
 use Rattle.std.specs.Prelude.{pos}
 use Rattle.rkyv_btree_format.proofs.Sizes.{room_of}
-use Rattle.rkyv_btree_format.specs.Layout.{layout_of, inner_size}
 use Rattle.rkyv_btree_source.proofs.Faults.{passes_on}
 use Rattle.rkyv_btree_source.proofs.Knowing.{of_same}
 use Rattle.rkyv_btree_source.proofs.Parts.{first_byte}

@@ -1,5 +1,5 @@
 -- The search of the root is that of the map.
-use Rattle.std.proofs.Common.{◌∙◌, arith, length}
+use Rattle.std.proofs.Common.{arith, length}
 use Rattle.std.proofs.lemmas.Result.{IfErr-weaker, IfOk-weaker}
 use Rattle.rkyv_btree_source.proofs.Faults.{caused_within, head_within, of_root}
 use Rattle.rkyv_btree_source.proofs.Fitting.{empty_fits, lookup_fits}

@@ -1,5 +1,5 @@
 -- The way down: what the search of the tree that is left returns, the whole search does.
-use Rattle.std.proofs.Common.{◌≡◌, ℕ, ◌+◌, ◌*◌, ◌≤◌, List, Some, length}
+use Rattle.std.proofs.Common.{◌≡◌, ℕ, ◌+◌, ◌*◌, ◌≤◌, List, length}
 use Rattle.std.specs.Prelude.{Option, Result}
 use Rattle.std.specs.declared.cmp.Ordering.{Ordering}
 use Rattle.rkyv_btree_portable.specs.declared.refusal.Refusal.{Refusal}

@@ -5,7 +5,7 @@ use Rattle.rkyv_btree_source.proofs.Faults.{passes_on}
 use Rattle.rkyv_btree_source.proofs.Stepping.{waits_here, waits_up}
 use Rattle.rkyv_btree_source.proofs.Walks.{entry_never, unread_of, unread_on}
 use Rattle.rkyv_btree_unverified.proofs.Lent.{taken_fits}
-use Rattle.rkyv_btree_unverified.proofs.Taken.{leaf_short, leaf_some, leaf_fails, leaf_takes, path_some, path_walks, path_takes}
+use Rattle.rkyv_btree_unverified.proofs.Taken.{leaf_short, leaf_some, leaf_fails, leaf_takes, path_some, path_takes}
 use Rattle.rkyv_btree_source.proofs.walk.advance.Goals as goal
 
 pub bring_entry-requires-clause-page : goal.bring_entry-requires-clause-page

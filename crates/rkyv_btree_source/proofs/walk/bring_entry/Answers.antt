@@ -63,3 +63,19 @@ returns-in-Ok-fetch_part-2-clause-brings g c b e =
       key = ap (λ l. g.K.Portable.kind.read l c.in-Ok-fetch_part.key) (front_of front back cut c.split_at_mut-rest.ensures.front_len ∙ c.split_at_mut-rest.ensures.front) ∙ kept.1 ∙ key.1 ∙ ap (λ x. g.K.Portable.kind.read b x) key_is;
       value = ap (λ l. g.V.Portable.kind.read l c.in-Ok-fetch_part-2.value) (back_of front back cut c.split_at_mut-rest.ensures.front_len) ∙ value.1 ∙ ap (λ x. g.V.Portable.kind.read b x) value_is;
     }
+
+pub returns-in-Err-NoRoom-clause-caused : goal.returns-in-Err-NoRoom-clause-caused
+returns-in-Err-NoRoom-clause-caused g c =
+    let there = key_inside g.K.Portable.kind g.V.Portable.kind g.M.ArchivedMap.E g.met.K.Portable.laws g.met.V.Portable.laws c.requires.fitting c.args.index c.requires.within in
+    let count = length-take-le c.args.len c.args.page.now c.requires.page in
+    let near = c.in-Ok-fetch_part.ensures.near in
+    let short = rw c.in-Err-NoRoom.field-0-is at c.in-Err-NoRoom.ensures.caused in
+    let more = short.0 in
+    let most = short.2 in
+    let front = c.split_at_mut-rest.ensures.front_len in
+    let back = c.split_at_mut-rest.ensures.back_len in
+    let sum = c.saturating_add.ensures in (
+      omega (arith, more, front, back, sum, c.size.ensures, c.in-Err-NoRoom.needed-is, c.fetch_part.auto.room),
+      omega (arith, sum),
+      omega (arith, most, there, count, near, sum, c.size.ensures, c.key_at-key_at.ensures, c.requires.leaf, c.requires.small, c.in-Err-NoRoom.needed-is, c.read.auto.part),
+    )

@@ -1,5 +1,5 @@
 -- A node is taken from the path, and put back where it has an entry left.
-use Rattle.std.proofs.Common.{◌∙◌, arith, length, refl, sym}
+use Rattle.std.proofs.Common.{◌∙◌, arith, sym}
 use Rattle.rkyv_btree_format.proofs.Sizes.{room_of}
 use Rattle.rkyv_btree_format.specs.Layout.{layout_of}
 use Rattle.rkyv_btree_source.proofs.Faults.{passes_on}
@@ -7,7 +7,7 @@ use Rattle.rkyv_btree_source.proofs.Knowing.{of_same}
 use Rattle.rkyv_btree_source.proofs.Walks.{entries_with, entry_never, low_parts, low_put, too_small_within, unread_of}
 use Rattle.rkyv_btree_unverified.proofs.Chains.{way_placed}
 use Rattle.rkyv_btree_unverified.proofs.Pending.{last_inside}
-use Rattle.rkyv_btree_unverified.proofs.Taken.{climb_fails, climbed, climbs_on, climb_ends, none_of}
+use Rattle.rkyv_btree_unverified.proofs.Taken.{climb_fails, climbed, climbs_on}
 use Rattle.rkyv_btree_source.proofs.walk.climb.Goals as goal
 
 pub bring_entry-requires-clause-leaf : goal.bring_entry-requires-clause-leaf

@@ -1,10 +1,8 @@
 -- Each node that is met is reached, and is put on the path unless it is a leaf.
-use Rattle.std.proofs.Common.{◌≡◌, ◌∙◌, ◌<◌, arith, drop, length, refl, sym, Some, None}
+use Rattle.std.proofs.Common.{◌∙◌, ◌<◌, arith, drop, length, refl, sym, Some, None}
 use Rattle.std.proofs.lemmas.List.{length-append, length-drop, length-take-le}
 use Rattle.std.specs.Prelude.{pos}
 use Rattle.rkyv_btree_format.proofs.Sizes.{room_of}
-use Rattle.rkyv_btree_format.specs.Layout.{layout_of, inner_size}
-use Rattle.rkyv_btree_source.proofs.Faults.{passes_on}
 use Rattle.rkyv_btree_source.proofs.Knowing.{of_same}
 use Rattle.rkyv_btree_source.proofs.Parts.{first_byte}
 use Rattle.rkyv_btree_source.proofs.Walks.{child_leads, child_never, entries_with, low_put, node_count, node_never, node_part}

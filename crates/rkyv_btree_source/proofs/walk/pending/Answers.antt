@@ -1,7 +1,6 @@
 -- Where a path leads: to the root, or to a child of its last node.
-use Rattle.std.proofs.Common.{arith, ◌∙◌, ◌+◌, ◌≤◌, length, refl, sym, subst, Some, None, Err}
-use Rattle.rkyv_btree_format.proofs.Sizes.{room_of}
-use Rattle.rkyv_btree_format.specs.Layout.{layout_of, inner_size}
+use Rattle.std.proofs.Common.{arith, Some, None}
+use Rattle.rkyv_btree_format.specs.Layout.{layout_of}
 use Rattle.rkyv_btree_source.proofs.Faults.{passes_on}
 use Rattle.rkyv_btree_source.proofs.Walks.{child_leads, child_never, head_leads, head_never, low_parts, too_small_within}
 use Rattle.rkyv_btree_unverified.proofs.Pending.{root_none, root_leads, last_inner, last_inside, last_none, last_leads, last_fails}

@@ -1,6 +1,5 @@
 -- The next entry is the first that is left, unless it is past the end of the range.
-use Rattle.std.proofs.Common.{◌≡◌, ◌∙◌, ap, drop, false, refl, sym, take}
-use Rattle.rkyv_btree_format.specs.Read.{entry_at}
+use Rattle.std.proofs.Common.{◌≡◌, ◌∙◌, ap, drop, false, sym, take}
 use Rattle.rkyv_btree_source.proofs.Ranging.{both_same, first_yields, past_alike}
 use Rattle.rkyv_btree_unverified.specs.EntriesFrom.{past_place}
 use Rattle.rkyv_btree_source.proofs.range.SourceRange.next.Goals as goal
