@@ -43,7 +43,11 @@ enum {
     RKYV_BTREE_NO_MEMORY = 35,
     RKYV_BTREE_BAD_ITEM = 36,
     RKYV_BTREE_NOT_INCREASING = 37,
-    RKYV_BTREE_NO_ROOM = 38
+    RKYV_BTREE_NO_ROOM = 38,
+    /* The bytes begin with no header of a typed file, or with that of another one. The cause is in rkyv_btree_refusal. */
+    RKYV_BTREE_NO_HEADER = 48,
+    RKYV_BTREE_OTHER_VERSION = 49,
+    RKYV_BTREE_OTHER_TYPE = 50
 };
 
 /* The types of the keys and the values of a map. A set is a map whose values have no bytes. tools/header.py --write writes this list. */
@@ -84,7 +88,7 @@ enum {
 typedef struct {
     uint32_t code;    /* the code that the call returned */
     int64_t at;       /* a position in the buffer, or 0 */
-    uint64_t found;   /* a byte, a length, a number of entries, or the index of an entry; or 0 */
+    uint64_t found;   /* a byte, a length, a number of entries, the index of an entry, or a version; or 0 */
     uint64_t allowed; /* the most that is allowed there, or 0 */
 } rkyv_btree_refusal;
 
@@ -234,6 +238,20 @@ uint32_t rkyv_btree_build_arrays(uint32_t type, size_t len, const rkyv_btree_col
                                  uint8_t *out, size_t out_len, size_t *archive_len, rkyv_btree_refusal *why);
 uint32_t rkyv_btree_build_arrays_strict(uint32_t type, size_t len, const rkyv_btree_column *keys, const rkyv_btree_column *values,
                                         uint8_t *out, size_t out_len, size_t *archive_len, rkyv_btree_refusal *why);
+
+/* Writes the header of a typed file of a type at the start of `out`, and how many bytes it has. The archive is built right after it. The length is a
+ * multiple of 16. RKYV_BTREE_NO_ROOM, and nothing is written but the length, if `out` is shorter. */
+uint32_t rkyv_btree_write_header(uint32_t type, uint8_t *out, size_t out_len, size_t *header_len);
+
+/* Tests that bytes begin with the header of a typed file of a type, and looks at nothing after it. The calls that open archives and look keys up
+ * don't look at a header: they take typed files and untyped ones. RKYV_BTREE_NO_HEADER if the bytes begin with no header, as an untyped archive.
+ * RKYV_BTREE_OTHER_VERSION if it has another version, which is `found`. RKYV_BTREE_OTHER_TYPE if it has the name of another type, which is
+ * `found` bytes from position `at` on. */
+uint32_t rkyv_btree_check_header(uint32_t type, const uint8_t *data, size_t data_len, rkyv_btree_refusal *why);
+
+/* Writes the name of a type, as a header has it, as much of it as there is room for, and returns how many bytes the whole name has, or 0 if no type has
+ * the number. It ends with a 0 if it fits. */
+size_t rkyv_btree_type_name(uint32_t type, uint8_t *out, size_t out_len);
 
 /* Writes the text of a code, as much of it as there is room for, and returns how many bytes the whole text has. It ends with a 0 if
  * it fits. */

@@ -30,6 +30,10 @@ class Types:
         keys = [each["name"] for each in self.each]
         return maps + [(number, key, self.empty["name"], f"{key}_SET".upper()) for number, key in enumerate(keys, self.first_set)]
 
+    def text(self, key, value):
+        """Returns the name of the type of maps with these keys and values, as the header of a typed file has it."""
+        return f"[{key} / 5]" if value == self.empty["name"] else f"[{key} -> {value} / 5]"
+
 
 class Header:
     """What a header declares: constants, structs by their fields, and functions by their parameters."""

@@ -41,6 +41,7 @@ LISTS = {
     "crates/rkyv_btree_ffi/specs/MapTypes.antt": (
         "type_of n =\n", " None\n", "\n", "    if nat_eq n {number} then Some (typed {key} {value}) else",
     ),
+    "crates/rkyv_btree_ffi/src/typed.rt": ("match map_type {\n", "\n        _ =>", "\n", '        {number} => Some("{text}"),'),
 }
 # The archived types that have other names.
 ARCHIVED = {"empty": "()"}
@@ -67,7 +68,8 @@ def wants(place, text, by):
 def lists():
     """The types of maps by their numbers, in the header, in the source and in its contracts."""
     types = [
-        {"number": number, "name": name, "key": key.capitalize(), "value": value.capitalize()} for number, key, value, name in TYPES.maps()
+        {"number": number, "name": name, "key": key.capitalize(), "value": value.capitalize(), "text": TYPES.text(key, value)}
+        for number, key, value, name in TYPES.maps()
     ]
     for place, (start, end, between, form) in LISTS.items():
         before, _, rest = (ROOT / place).read_text().partition(start)

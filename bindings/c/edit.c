@@ -23,7 +23,8 @@ int main(int argc, char **argv) {
     uint8_t *data = mmap(NULL, (size_t)stat.st_size, PROT_READ | PROT_WRITE, MAP_SHARED, file, 0);
     if (data == MAP_FAILED) return 2;
     rkyv_btree_edit edit = RKYV_BTREE_EDIT(data, (size_t)stat.st_size);
-    uint32_t code = rkyv_btree_open_edit(&edit, RKYV_BTREE_U32_TO_U32, &why);
+    uint32_t code = rkyv_btree_check_header(RKYV_BTREE_U32_TO_U32, data, (size_t)stat.st_size, &why);
+    if (code == RKYV_BTREE_OK || code == RKYV_BTREE_NO_HEADER) code = rkyv_btree_open_edit(&edit, RKYV_BTREE_U32_TO_U32, &why);
     if (code == RKYV_BTREE_OK) {
         code = rkyv_btree_set_number(&edit, strtoull(argv[2], NULL, 10), strtoull(argv[3], NULL, 10));
     }

@@ -69,6 +69,8 @@ int main(int argc, char **argv) {
     if (data == MAP_FAILED) return 2;
     const uint8_t *key = (const uint8_t *)argv[argc - 1];
     size_t key_len = strlen(argv[argc - 1]);
+    uint32_t header = rkyv_btree_check_header(RKYV_BTREE_TEXT_TO_TEXT, data, (size_t)stat.st_size, &why);
+    if (header != RKYV_BTREE_OK && header != RKYV_BTREE_NO_HEADER) return say(header, &why);
     if (argc == 4 && strcmp(argv[2], "--unvalidated") == 0) {
         uint32_t code = rkyv_btree_find_text(RKYV_BTREE_TEXT_TO_TEXT, data, (size_t)stat.st_size, key, key_len, &found, &why);
         return print_found(data, code, &found, &why);

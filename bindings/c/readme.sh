@@ -1,5 +1,5 @@
 #!/usr/bin/env bash
-# Compiles and runs the five lines of README.md, which docs/EMBEDDING.md has too.
+# Compiles and runs the lines of README.md, which docs/EMBEDDING.md has too.
 set -euo pipefail
 here=$(cd "$(dirname "${BASH_SOURCE[0]}")" && pwd)
 lines() {

@@ -465,6 +465,108 @@ static void unvalidated(uint32_t type) {
     free(data);
 }
 
+/* The name of a type as the format has it. */
+static size_t name_of(uint32_t type, char *name) {
+    static const char *const names[] = {[U32] = "u32", [U64] = "u64", [I64] = "i64", [TEXT] = "text", [BYTES] = "bytes"};
+    if (kinds[type].value == EMPTY) return (size_t)sprintf(name, "[%s / 5]", names[kinds[type].key]);
+    return (size_t)sprintf(name, "[%s -> %s / 5]", names[kinds[type].key], names[kinds[type].value]);
+}
+
+/* A typed file of entries: the header, by the bytes that the format says, and the archive after it, which is that without a header. */
+static uint8_t *build_typed(uint32_t type, unsigned count, size_t *len) {
+    rkyv_btree_refusal why = {0};
+    char name[64];
+    size_t name_len = name_of(type, name), start = 0, archive_len = 0, bound = 0;
+    uint8_t wanted[32] = "rkyvbt\1", out[32];
+    wanted[8] = (uint8_t)name_len;
+    memcpy(wanted + 12, name, name_len);
+    memset(out, 0xa5, sizeof out);
+    for (size_t room = 0; room < 32; room++) {
+        start = 0;
+        assert(rkyv_btree_write_header(type, room == 0 ? NULL : out, room, &start) == RKYV_BTREE_NO_ROOM && start == 32);
+        for (size_t i = 0; i < sizeof out; i++) assert(out[i] == 0xa5);
+    }
+    give(type, count);
+    assert(rkyv_btree_build_bound(type, count, texts_len, &bound) == RKYV_BTREE_OK);
+    uint8_t *data = malloc(start + bound);
+    assert(data != NULL);
+    memset(data, 0xa5, start + bound);
+    assert(rkyv_btree_write_header(type, data, start + bound, &start) == RKYV_BTREE_OK && start == 32);
+    assert(memcmp(data, wanted, start) == 0);
+    for (size_t i = start; i < start + bound; i++) assert(data[i] == 0xa5);
+    assert(rkyv_btree_build(type, given, count, texts, texts_len, data + start, bound, &archive_len, &why) == RKYV_BTREE_OK);
+    *len = start + archive_len;
+    uint8_t *untyped = build(type, count, &archive_len);
+    assert(start + archive_len == *len && memcmp(untyped, data + start, archive_len) == 0);
+    free(untyped);
+    return data;
+}
+
+/* Each call reads a typed file as the archive that it has. */
+static void reads_typed(uint32_t type, uint8_t *data, size_t len, unsigned count) {
+    rkyv_btree_map map = {0};
+    rkyv_btree_refusal why = {0};
+    rkyv_btree_entry entry = {0};
+    rkyv_btree_item value = {0};
+    uint8_t buffer[512];
+    assert(rkyv_btree_open(&map, type, data, len, &why) == RKYV_BTREE_OK);
+    assert(rkyv_btree_open_strict(&map, type, data, len, &why) == RKYV_BTREE_OK);
+    walk(&map, 0, count, 10);
+    for (unsigned i = 0; i < count; i += 5) {
+        assert(get(&map, given[i].key, &entry) == RKYV_BTREE_OK && same(data, entry.value, given[i].value));
+        assert(find(type, data, len, given[i].key, &entry, &why) == RKYV_BTREE_OK && same(data, entry.value, given[i].value));
+        assert(find_in(type, data, len, 100, given[i].key, buffer, sizeof buffer, &value, &why) == RKYV_BTREE_OK);
+        assert(same(buffer, value, given[i].value));
+    }
+    rkyv_btree_edit edit = RKYV_BTREE_EDIT(data, len);
+    assert(rkyv_btree_open_edit(&edit, type, &why) == RKYV_BTREE_OK);
+}
+
+/* Headers of each type against each other type, of another version, of no type, and cut at each byte. */
+static void headers(uint32_t type) {
+    char name[64], other[64];
+    uint8_t text[64];
+    size_t len = 0, start = 77;
+    rkyv_btree_map map = {0};
+    uint8_t *data = build_typed(type, 100, &len);
+    reads_typed(type, data, len, 100);
+    size_t name_len = name_of(type, name);
+    memset(text, 0xa5, sizeof text);
+    assert(rkyv_btree_type_name(type, text, sizeof text) == name_len && strcmp((const char *)text, name) == 0);
+    assert(rkyv_btree_type_name(type, text, 3) == name_len && text[3] == (uint8_t)name[3]);
+    rkyv_btree_refusal why = {7, 7, 7, 7};
+    assert(rkyv_btree_check_header(type, data, len, &why) == RKYV_BTREE_OK && why.code == 7); /* no cause is written */
+    for (uint32_t each = 1; each <= LAST; each++) {
+        if (each == type) continue;
+        assert(rkyv_btree_check_header(each, data, len, &why) == RKYV_BTREE_OTHER_TYPE && why.code == RKYV_BTREE_OTHER_TYPE);
+        assert(why.at == 12 && why.found == name_len && memcmp(data + why.at, name, name_len) == 0 && why.allowed == 0);
+        assert(name_of(each, other) != name_len || strcmp(name, other) != 0);
+    }
+    for (size_t cut = 0; cut < 32; cut++) {
+        assert(rkyv_btree_check_header(type, data, cut, &why) == RKYV_BTREE_NO_HEADER && why.code == RKYV_BTREE_NO_HEADER);
+        assert(rkyv_btree_check_header(type, data + cut + 1, len - cut - 1, &why) == RKYV_BTREE_NO_HEADER && why.found == 0);
+        (void)rkyv_btree_open(&map, type, data, cut, &why);
+    }
+    for (size_t at = 0; at < 32; at++) {
+        for (unsigned bit = 0; bit < 8; bit++) {
+            data[at] ^= (uint8_t)(1u << bit);
+            uint32_t code = rkyv_btree_check_header(type, data, len, &why);
+            if (at == 6 || at == 7) assert(code == RKYV_BTREE_OTHER_VERSION && why.found == (uint64_t)(data[6] + 256 * data[7]) && why.allowed == 1);
+            else if (at < 6 || at >= 12 + name_len) assert(code == RKYV_BTREE_NO_HEADER);
+            else assert(code == RKYV_BTREE_OTHER_TYPE || code == RKYV_BTREE_NO_HEADER); /* another name, or none */
+            data[at] ^= (uint8_t)(1u << bit);
+        }
+    }
+    why.code = 7;
+    for (uint32_t none = 0; none <= NO_TYPE; none += NO_TYPE) {
+        assert(rkyv_btree_write_header(none, data, len, &start) == RKYV_BTREE_BAD_TYPE && start == 77);
+        assert(rkyv_btree_check_header(none, data, len, &why) == RKYV_BTREE_BAD_TYPE && why.code == 7);
+        assert(rkyv_btree_type_name(none, text, sizeof text) == 0 && text[0] == (uint8_t)name[0]);
+    }
+    assert(rkyv_btree_check_header(type, data, len, &why) == RKYV_BTREE_OK);
+    free(data);
+}
+
 static void messages(void) {
     uint8_t out[128];
     for (uint32_t code = 0; code < 64; code++) {
@@ -478,8 +580,7 @@ static void messages(void) {
 
 static void save(const char *name, uint32_t type) {
     size_t len = 0;
-    give(type, MOST);
-    uint8_t *data = build(type, MOST, &len);
+    uint8_t *data = build_typed(type, MOST, &len);
     FILE *file = fopen(name, "wb");
     assert(file != NULL && fwrite(data, 1, len, file) == len && fclose(file) == 0);
     free(data);
@@ -492,6 +593,7 @@ int main(int count_of_words, char **words) {
         if (step == 1) one_type(type, MOST), one_call(type, MOST);
         for (unsigned count = 0; count <= MOST; count += step + count / 3) pieces(type, count);
         unvalidated(type);
+        headers(type);
     }
     edits();
     sets();

@@ -116,6 +116,29 @@ class Lookups(unittest.TestCase):
                 except Error:
                     self.assertRaises(Error, Set, data, "text", strict=True)
 
+    def test_headers(self):
+        for key_type, value_type, entries in (("u32", "u32", [(1, 2)]), ("text", "bytes", [("a", b"b")]), ("i64", None, [-1])):
+            for untyped in (False, True):
+                data = build_set(key_type, entries, untyped=untyped) if value_type is None else build(key_type, value_type, entries, untyped=untyped)
+                for settings in ({}, {"block": 8, "cache": 0}, {"top": top_of(data, key_type, value_type)}):
+                    Remote(Counted(data).fetch, len(data), key_type, value_type, **settings).check_type()
+                    other, later = (kind(fetch, len(data), "bytes", "u32", **{**settings, "top": None}) for kind, fetch in (
+                        (Remote, Counted(data).fetch), (AsyncRemote, Counted(data).later)
+                    ))
+                    for call in (other.check_type, lambda: asyncio.run(later.check_type())):
+                        if untyped:
+                            call()
+                            continue
+                        with self.assertRaisesRegex(Error, r"^the bytes are of type \[.* / 5\], not \[bytes -> u32 / 5\]$"):
+                            call()
+        for data in (b"", bytes(8), b"rkyvbt"):
+            Remote(Counted(data).fetch, len(data), "u32", "u32").check_type()
+        data = b"rkyvbt\2\0" + bytes(8000)
+        reads = Counted(data)
+        with self.assertRaisesRegex(Error, "^the type header has version 2, not 1$"):
+            Remote(reads.fetch, len(data), "u32", "u32", block=512).check_type()
+        self.assertEqual(reads.reads, [(0, 4096)])
+
     def test_fetches_that_fail(self):
         data = build("u32", "u32", ENTRIES["u32", "u32"])
         with self.assertRaisesRegex(OSError, "^[0-9]+ bytes from position [0-9]+ on were asked for, and [0-9]+ came$"):
@@ -222,7 +245,7 @@ class Sidecars(unittest.TestCase):
     def test_bytes(self):
         # The Rust crate makes the same sidecar.
         written = pathlib.Path(__file__).parents[1] / "rust" / "tests" / "sidecar.hex"
-        data = build("text", "u32", ((f"key {n:02}", n) for n in range(40)))
+        data = build("text", "u32", ((f"key {n:02}", n) for n in range(40)), untyped=True)
         self.assertEqual(top_of(data, "text", "u32", levels=1, etag='"one"'), bytes.fromhex(written.read_text()))
 
     def test_refusals(self):
@@ -333,7 +356,7 @@ class Ranges(unittest.TestCase):
 
     def test_each_refusal(self):
         # Eight bytes that belong to nothing, a leaf, and the offset of the root with the number of entries. The leaf ends with its own number.
-        good = bytes(8) + build("u32", "u32", ENTRIES["u32", "u32"][:5])
+        good = bytes(8) + build("u32", "u32", ENTRIES["u32", "u32"][:5], untyped=True)
         self.assertEqual(len(good), 64)
         for at, byte, code in ((60, 4, 7), (56, 0x80, 1), (56, 0xCF, 2), (8, 7, 3), (52, 6, 4)):
             data = good[:at] + bytes([byte]) + good[at + 1 :]
@@ -343,7 +366,7 @@ class Ranges(unittest.TestCase):
                 list(Remote(Counted(data).fetch, len(data), "u32", "u32").range())
             self.assertEqual(caught.exception.code, code)
             self.assertEqual(vars(caught.exception), vars(whole.exception))
-        text = build("text", "u32", [("é", 1)])
+        text = build("text", "u32", [("é", 1)], untyped=True)
         # The first byte of the text, and the offset that leads to it.
         for at, byte, code in ((0, 0xFF, 5), (9, 1, 1)):
             data = text[:at] + bytes([byte]) + text[at + 1 :]

@@ -262,7 +262,7 @@ class Maps(unittest.TestCase):
                 call()
 
     def test_refused(self):
-        good = build("u32", "u32", [(1, 2)])
+        good = build("u32", "u32", [(1, 2)], untyped=True)
         for data, code in ((b"", 1), (bytes(7), 1), (b"\x07" + good[1:], 3), (good[:-1], 2)):
             with self.assertRaises(Error) as caught:
                 Map(data, "u32", "u32")
@@ -517,14 +517,14 @@ class Maps(unittest.TestCase):
         self.assertEqual(len(set(NUMBERS.values())), len(NUMBERS))
         for (key_type, value_type), number in NUMBERS.items():
             if value_type == EMPTY:
-                data = build_set(key_type, VALUES[key_type])
+                data = build_set(key_type, VALUES[key_type], untyped=True)
                 texts = sum(len(key.encode() if isinstance(key, str) else key) for key in VALUES[key_type] if not isinstance(key, int))
                 layout = Layout(key_type, EMPTY, len(data))
                 self.assertEqual(len(data), -(-texts // layout.align) * layout.align + layout.leaf_size + 8)
                 self.assertEqual(Set(data, key_type)._map._map.type, number)
                 continue
             entry = VALUES[key_type][1], VALUES[value_type][1]
-            data = build(key_type, value_type, [entry])
+            data = build(key_type, value_type, [entry], untyped=True)
             texts = sum(len(part) for part in entry if not isinstance(part, int))
             layout = Layout(key_type, value_type, len(data))
             # A leaf after the texts, which are rounded up to its alignment, and the eight bytes of the map.
@@ -538,6 +538,107 @@ class Maps(unittest.TestCase):
             self.assertEqual(rkyv_btree._lib.open(rkyv_btree._Map(), number, None, 0, rkyv_btree._Refusal()), BAD_TYPE)
         with self.assertRaisesRegex(ValueError, "^a type must be 'u32', 'u64', 'i64', 'text' or 'bytes', not 'i32'$"):
             build("i32", "u32", [])
+
+    def typed(self, types, untyped=False):
+        """Returns an archive of a type of maps or sets."""
+        key_type, value_type = types
+        if value_type == EMPTY:
+            return build_set(key_type, VALUES[key_type], untyped=untyped)
+        return build(key_type, value_type, zip(VALUES[key_type], VALUES[value_type]), untyped=untyped)
+
+    def calls(self, data, types, **settings):
+        """Returns all that opens bytes as of a type, or looks a key up in them."""
+        key_type, value_type = types
+        if value_type == EMPTY:
+            return [
+                lambda: Set(data, key_type, **settings),
+                lambda: Set(data, key_type, strict=True, **settings),
+                lambda: contains(data, key_type, VALUES[key_type][0], **settings),
+            ]
+        return [
+            lambda: Map(data, *types, **settings),
+            lambda: Map(data, *types, strict=True, **settings),
+            lambda: Edit(bytearray(data), *types, **settings),
+            lambda: find(data, *types, VALUES[key_type][0], **settings),
+        ]
+
+    def test_each_type_as_each_other(self):
+        names = {types: f"[{types[0]} / 5]" if types[1] == EMPTY else f"[{types[0]} -> {types[1]} / 5]" for types in NUMBERS}
+        self.assertEqual(len(names), 30)
+        for types, name in names.items():
+            data = self.typed(types)
+            header = b"rkyvbt\1\0" + len(name).to_bytes(4, "little") + name.encode()
+            self.assertEqual(data, header.ljust(32, b"\0") + self.typed(types, untyped=True))
+            for other, expected in names.items():
+                for call in self.calls(data, other):
+                    if other == types:
+                        call()
+                        continue
+                    with self.assertRaises(Error) as caught:
+                        call()
+                    self.assertEqual(str(caught.exception), f"the bytes are of type {name}, not {expected}")
+                    self.assertEqual((caught.exception.code, caught.exception.at, caught.exception.found), (50, 12, len(name)))
+
+    def test_without_a_header(self):
+        for types in NUMBERS:
+            for untyped in (False, True):
+                for call in [*self.calls(self.typed(types, untyped), types), *self.calls(self.typed(types, untyped), types, untyped=True)]:
+                    call()
+        # The first text of an archive begins as a header does.
+        data = build("text", "u32", [("rkyvbt, and more", 1)], untyped=True)
+        with self.assertRaises(Error) as caught:
+            Map(data, "text", "u32")
+        self.assertEqual(caught.exception.code, 49)
+        self.assertEqual(dict(Map(data, "text", "u32", untyped=True)), {"rkyvbt, and more": 1})
+        self.assertEqual(dict(Map(build("text", "u32", [("rkyvbt, and more", 1)]), "text", "u32")), {"rkyvbt, and more": 1})
+
+    def test_headers_of_other_versions(self):
+        for types in NUMBERS:
+            for version in (0, 2, 256, 65535):
+                data = self.typed(types)
+                data = data[:6] + version.to_bytes(2, "little") + data[8:]
+                for call in self.calls(data, types):
+                    with self.assertRaisesRegex(Error, f"^the type header has version {version}, not 1$"):
+                        call()
+                for call in self.calls(data, types, untyped=True):
+                    call()
+
+    def test_headers_that_are_cut(self):
+        def told(call):
+            try:
+                call()
+            except Error as error:
+                return error.code
+            return 0
+
+        for types in NUMBERS:
+            data = self.typed(types)
+            for cut in range(33):
+                for part in (data[:cut], data[cut:]):
+                    codes = [told(call) for call in self.calls(part, types)]
+                    if 0 < cut < 32:
+                        self.assertEqual(codes, [told(call) for call in self.calls(part, types, untyped=True)])
+
+    def test_typed_files(self):
+        with tempfile.TemporaryDirectory() as folder:
+            path = pathlib.Path(folder) / "archive"
+            path.write_bytes(build("text", "u32", [("a", 1)]))
+            said = r"^the bytes are of type \[text -> u32 / 5\], not \[text (-> u64 )?/ 5\]$"
+            for call in (
+                lambda: Map.from_file(path, "text", "u64"), lambda: Edit.from_file(path, "text", "u64"), lambda: Set.from_file(path, "text"),
+            ):
+                with self.assertRaisesRegex(Error, said):
+                    call()
+            with Edit.from_file(path, "text", "u32") as found:
+                found["a"] = 2
+            for untyped in (False, True):
+                self.assertEqual(dict(Map.from_file(path, "text", "u32", untyped=untyped)), {"a": 2})
+                Edit.from_file(path, "text", "u32", untyped).close()
+        name = "é" * 100
+        data = b"rkyvbt\1\0" + (200).to_bytes(4, "little") + name.encode() + bytes(12 + 8)
+        with self.assertRaisesRegex(Error, f"^the bytes are of type {name[:64]}, not "):
+            Map(data, "u32", "u32")
+        self.assertEqual(len(Map(data, "u32", "u32", untyped=True)), 0)
 
     def test_version_and_types(self):
         folder = pathlib.Path(rkyv_btree.__file__).parent

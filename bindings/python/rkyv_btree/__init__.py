@@ -32,10 +32,13 @@ from ._raw import (
     BAD_VALUE,
     EMPTY,
     LAYOUTS,
+    NO_HEADER,
     NOT_FOUND,
     NOT_OPEN,
     NUMBERS,
     OK,
+    OTHER_TYPE,
+    OTHER_VERSION,
     POSITION_OVERFLOW,
     TYPES,
     Type,
@@ -62,6 +65,10 @@ _CLASSES: dict[str, type] = {"text": str, "bytes": bytes}
 _FIRST_BATCH, _LAST_BATCH = 16, 1024
 # How many entries `build` takes from its iterable at a time.
 _CHUNK = 8192
+# The most bytes that an archive has, with its header.
+_MOST = 2**32 - 1
+# How many bytes of another type's name a message shows.
+_NAME_SHOWN = 128
 
 
 # How the six numbers of an entry are read: of the key, and then of the value, a number, where a text begins, and how many bytes it has.
@@ -113,10 +120,11 @@ _release_buffer.restype, _release_buffer.argtypes = None, (_P(_PyBuffer),)
 class Error(ValueError):
     """Bytes are no map, or entries have no archive. `code` is that of include/rkyv_btree.h, and `at` is a position.
 
-    Of entries that have no archive `found` is the index of the one that is bad or out of order.
+    Of entries that have no archive `found` is the index of the one that is bad or out of order. Of a typed file of another type or another
+    version the message has both names or both versions.
     """
 
-    def __init__(self, code: int, at: int = 0, found: int = 0, allowed: int = 0) -> None:
+    def __init__(self, code: int, at: int = 0, found: int = 0, allowed: int = 0, names: str = "") -> None:
         text = ctypes.create_string_buffer(128)
         _lib.strerror(code, text, len(text))
         message = text.value.decode()
@@ -124,6 +132,10 @@ class Error(ValueError):
             message += f" at position {at}"
         elif code in AT_ENTRY:
             message += f" at entry {found}"
+        elif code == OTHER_VERSION:
+            message = f"the type header has version {found}, not {allowed}"
+        elif code == OTHER_TYPE:
+            message = f"the bytes are of type {names}"
         super().__init__(message)
         self.code, self.at, self.found, self.allowed = code, at, found, allowed
 
@@ -151,6 +163,35 @@ def _types_of(key_type: str, value_type: Union[str, None]) -> tuple[int, str, st
     if value_type is None:
         return _set_number_of(key_type), key_type, EMPTY
     return _number_of(key_type, value_type), key_type, value_type
+
+
+@cache
+def _header_of(number: int) -> bytes:
+    """Returns the header of typed files of a type."""
+    header, length = ctypes.create_string_buffer(64), _SIZE()
+    code = _lib.write_header(number, header, len(header), length)
+    if code != OK:
+        raise Error(code)
+    return header.raw[: length.value]
+
+
+def _name_of(number: int) -> str:
+    """Returns the name of a type, as a header has it."""
+    name = ctypes.create_string_buffer(64)
+    return name.raw[: _lib.type_name(number, name, len(name))].decode()
+
+
+def _check_type(number: int, view: memoryview, address: int) -> None:
+    """Raises Error if bytes begin with the header of another type or another version. Those of an untyped archive begin with none."""
+    why = _Refusal()
+    code = _lib.check_header(number, address, view.nbytes, why)
+    if code in (OK, NO_HEADER):
+        return
+    names = ""
+    if code == OTHER_TYPE:
+        found = bytes(view.cast("B")[why.at : why.at + min(why.found, _NAME_SHOWN)]).decode(errors="ignore")
+        names = f"{found}, not {_name_of(number)}"
+    raise Error(code, why.at, why.found, why.allowed, names)
 
 
 @cache
@@ -278,6 +319,9 @@ class _Values(ValuesView):
 class Map(Mapping):
     """The map of a whole archive, in bytes or in a mapped file.
 
+    A typed file must be of these types. With `untyped=True` its header isn't looked at: so an untyped archive is opened whose first bytes
+    are those of a header by chance, as those of a text can be.
+
     It has the calls of a mapping. A slice of keys, as `prices["b":"d"]`, is an iterator over the entries from the first key up to
     before the second. `strict=True` refuses archives whose keys don't increase. In others a key can be there and not be found, unless
     the map's own iteration gives it: such a key stands for its own entry. So `dict(prices)` is `dict(prices.items())`.
@@ -285,33 +329,37 @@ class Map(Mapping):
     A map is closed by `close`, or at the end of a `with`. Close it while no other thread uses it.
     """
 
-    def __init__(self, data: bytes, key_type: Type, value_type: Type, strict: bool = False) -> None:
+    def __init__(self, data: bytes, key_type: Type, value_type: Type, strict: bool = False, untyped: bool = False) -> None:
         """Validates `data`. Raises Error if it is no map of these types."""
         if not isinstance(data, bytes):
             raise TypeError(f"data must be bytes, which don't change, not {type(data).__name__}; Map.from_file maps a file")
         self._file: Union[mmap.mmap, None] = None
         self._data: Any = data
-        self._start(memoryview(data), key_type, value_type, strict)
+        self._start(memoryview(data), key_type, value_type, strict, untyped)
 
     @classmethod
-    def from_file(cls, path: Union[str, os.PathLike], key_type: Type, value_type: Type, strict: bool = False) -> Map:
+    def from_file(
+        cls, path: Union[str, os.PathLike], key_type: Type, value_type: Type, strict: bool = False, untyped: bool = False
+    ) -> Map:
         """Maps a file and validates it. The file must not change while the map is used."""
         with open(path, "rb") as file:
             if os.fstat(file.fileno()).st_size == 0:
-                return cls(b"", key_type, value_type, strict)
+                return cls(b"", key_type, value_type, strict, untyped)
             mapped = mmap.mmap(file.fileno(), 0, access=mmap.ACCESS_READ)
         self = cls.__new__(cls)
         self._file = self._data = mapped
-        self._start(memoryview(mapped), key_type, value_type, strict)
+        self._start(memoryview(mapped), key_type, value_type, strict, untyped)
         return self
 
-    def _start(self, view: memoryview, key_type: str, value_type: str, strict: bool) -> None:
+    def _start(self, view: memoryview, key_type: str, value_type: str, strict: bool, untyped: bool) -> None:
         number = self._describe(view, key_type, value_type)
         # Whether the keys increase, if that is known.
         self._order = True if strict else None
-        why = _Refusal()
+        why, address = _Refusal(), _address_of(view)
+        if not untyped:
+            _check_type(number, view, address)
         opened = _lib.open_strict if strict else _lib.open
-        code = opened(self._map, number, _address_of(view), view.nbytes, why)
+        code = opened(self._map, number, address, view.nbytes, why)
         if code != OK:
             raise Error(code, why.at, why.found, why.allowed)
 
@@ -490,15 +538,15 @@ class Set(AbstractSet):
         (True, False, 2, ['pear'])
     """
 
-    def __init__(self, data: bytes, key_type: Type, strict: bool = False) -> None:
-        """Validates `data`. Raises Error if it is no set of this type."""
-        self._map: Map = _Members(data, key_type, EMPTY, strict)
+    def __init__(self, data: bytes, key_type: Type, strict: bool = False, untyped: bool = False) -> None:
+        """Validates `data`. Raises Error if it is no set of this type. A header is looked at as by `Map`."""
+        self._map: Map = _Members(data, key_type, EMPTY, strict, untyped)
 
     @classmethod
-    def from_file(cls, path: Union[str, os.PathLike], key_type: Type, strict: bool = False) -> Set:
+    def from_file(cls, path: Union[str, os.PathLike], key_type: Type, strict: bool = False, untyped: bool = False) -> Set:
         """Maps a file and validates it. The file must not change while the set is used."""
         self = cls.__new__(cls)
-        self._map = _Members.from_file(path, key_type, EMPTY, strict)
+        self._map = _Members.from_file(path, key_type, EMPTY, strict, untyped)
         return self
 
     @classmethod
@@ -553,31 +601,33 @@ class Edit(Map):
         6
     """
 
-    def __init__(self, data: Any, key_type: Type, value_type: Type) -> None:
+    def __init__(self, data: Any, key_type: Type, value_type: Type, untyped: bool = False) -> None:
         """Validates `data`: a `bytearray`, or another buffer that can be written. Raises Error if it is no map of these types."""
         self._file = None
         view = memoryview(data)
         # A slice of it has the method `decode`.
         self._data = data if isinstance(data, (bytearray, mmap.mmap)) else _Slices(view)
-        self._start_edit(view, key_type, value_type)
+        self._start_edit(view, key_type, value_type, untyped)
 
     @classmethod
-    def from_file(cls, path: Union[str, os.PathLike], key_type: Type, value_type: Type) -> Edit:
+    def from_file(cls, path: Union[str, os.PathLike], key_type: Type, value_type: Type, untyped: bool = False) -> Edit:
         """Maps a file for writing and validates it. Nothing else may write to the file until the map is closed."""
         with open(path, "r+b") as file:
             if os.fstat(file.fileno()).st_size == 0:
-                return cls(bytearray(), key_type, value_type)
+                return cls(bytearray(), key_type, value_type, untyped)
             mapped = mmap.mmap(file.fileno(), 0)
         self = cls.__new__(cls)
         self._file = self._data = mapped
-        self._start_edit(memoryview(mapped), key_type, value_type)
+        self._start_edit(memoryview(mapped), key_type, value_type, untyped)
         return self
 
-    def _start_edit(self, view: memoryview, key_type: str, value_type: str) -> None:
+    def _start_edit(self, view: memoryview, key_type: str, value_type: str, untyped: bool) -> None:
         if view.readonly:
             raise TypeError("data must be a buffer that can be written, as a bytearray is")
-        number, why = self._describe(view, key_type, value_type), _Refusal()
-        self._edit = _Edit(_address_of(view), view.nbytes, 0, 0)
+        number, why, address = self._describe(view, key_type, value_type), _Refusal(), _address_of(view)
+        if not untyped:
+            _check_type(number, view, address)
+        self._edit = _Edit(address, view.nbytes, 0, 0)
         code = _lib.open_edit(self._edit, number, why)
         if code != OK:
             raise Error(code, why.at, why.found, why.allowed)
@@ -610,25 +660,28 @@ class Edit(Map):
         _lib.read_edit(self._map, self._edit)
 
 
-def find(data: Any, key_type: Type, value_type: Type, key: Key) -> Union[Value, None]:
+def find(data: Any, key_type: Type, value_type: Type, key: Key, untyped: bool = False) -> Union[Value, None]:
     """Returns the value of a key in bytes that nobody has validated, or None. The lookup validates what it reads.
 
     `data` is `bytes`, a `bytearray`, a `memoryview`, an `mmap`, or another contiguous buffer. It must not change during the call.
 
     On the archive of a map that is what a lookup in `Map(data, key_type, value_type)` returns. On other bytes a value that is found is
-    valid and is beside an equal key, and None doesn't mean that the key is absent. Raises Error for a fault in what the lookup reads.
+    valid and is beside an equal key, and None doesn't mean that the key is absent. Raises Error for a fault in what the lookup reads, and for a
+    typed file of other types. With `untyped=True` no header is looked at.
 
         >>> find(build("text", "u32", [("apple", 3), ("pear", 5)]), "text", "u32", "pear")
         5
     """
-    return _found(data, _number_of(key_type, value_type), key_type, value_type, key)
+    return _found(data, _number_of(key_type, value_type), key_type, value_type, key, untyped)
 
 
-def _found(data: Any, number: int, key_type: str, value_type: str, key: Any) -> Union[Value, None]:
+def _found(data: Any, number: int, key_type: str, value_type: str, key: Any, untyped: bool) -> Union[Value, None]:
     """Returns the value of a key in bytes that nobody has validated, as an archive of the type with this number, or None."""
     entry, why = _Entry(), _Refusal()
     with memoryview(data) as view:
         address = _address_of(view)
+        if not untyped:
+            _check_type(number, view, address)
         if not _is_key(key, key_type):
             return None
         text = _bytes_of(key)
@@ -643,16 +696,16 @@ def _found(data: Any, number: int, key_type: str, value_type: str, key: Any) -> 
         return _value_of(_Slices(view), entry.value, value_type)
 
 
-def contains(data: Any, key_type: Type, key: Key) -> bool:
+def contains(data: Any, key_type: Type, key: Key, untyped: bool = False) -> bool:
     """Returns whether a key is in bytes that nobody has validated, as the archive of a set. The lookup validates what it reads.
 
-    `data` is as of `find`. On the archive of a set whose keys increase that is what `key in Set(data, key_type)` returns. On other bytes False
+    `data` and `untyped` are as of `find`. On the archive of a set whose keys increase that is what `key in Set(data, key_type)` returns. On other bytes False
     doesn't mean that the key is absent. Raises Error for a fault in what the lookup reads.
 
         >>> contains(build_set("text", ["apple", "pear"]), "text", "pear")
         True
     """
-    return _found(data, _set_number_of(key_type), key_type, EMPTY, key) is not None
+    return _found(data, _set_number_of(key_type), key_type, EMPTY, key, untyped) is not None
 
 
 class _Numbers:
@@ -726,25 +779,35 @@ def _started(kind: str, name: str) -> Union[_Numbers, _Texts]:
     return _Texts(kind, name) if kind in _CLASSES else _Numbers(kind, name)
 
 
-def _built(number: int, count: int, keys: _Column, values: _Column, texts_len: int, strict: bool) -> bytes:
-    """Returns the archive of two columns, whose texts and byte strings have so many bytes."""
+def _built(number: int, count: int, keys: _Column, values: _Column, texts_len: int, strict: bool, untyped: bool) -> bytes:
+    """Returns the archive of two columns, whose texts and byte strings have so many bytes, after the header of its type."""
     bound, length, why = _SIZE(), _SIZE(), _Refusal()
     code = _lib.build_bound(number, count, texts_len, bound)
     if code != OK:
         raise Error(code)
-    out = mmap.mmap(-1, bound.value)
+    header = b"" if untyped else _header_of(number)
+    out = mmap.mmap(-1, len(header) + bound.value)
+    out[: len(header)] = header
     with memoryview(out) as view:
         call = _lib.build_arrays_strict if strict else _lib.build_arrays
-        code = call(number, count, keys, values, _address_of(view), bound.value, length, why)
+        code = call(number, count, keys, values, _address_of(view) + len(header), bound.value, length, why)
     if code != OK:
         raise Error(code, found=why.found)
-    return out[: length.value]
+    if len(header) + length.value > _MOST:
+        raise Error(POSITION_OVERFLOW)
+    return out[: len(header) + length.value]
 
 
 def build(
-    key_type: Type, value_type: Type, entries: Union[Mapping[Key, Value], Iterable[tuple[Key, Value]]], strict: bool = False
+    key_type: Type,
+    value_type: Type,
+    entries: Union[Mapping[Key, Value], Iterable[tuple[Key, Value]]],
+    strict: bool = False,
+    untyped: bool = False,
 ) -> bytes:
     """Returns the archive of entries, in their order. Raises Error if they have none, or with `strict` if the keys don't increase.
+
+    It is a typed file: a header with the name of its type is before it, unless it is `untyped`.
 
     `entries` is a mapping, or any iterable of pairs. It is gone through once, and a few thousand pairs of it are held at a time.
     """
@@ -756,11 +819,11 @@ def build(
         keys.extend([key for key, _ in chunk], count)
         values.extend([value for _, value in chunk], count)
         count += len(chunk)
-    return _built(number, count, keys.column(), values.column(), keys.texts_len + values.texts_len, strict)
+    return _built(number, count, keys.column(), values.column(), keys.texts_len + values.texts_len, strict, untyped)
 
 
-def build_set(key_type: Type, keys: Iterable[Key], strict: bool = False) -> bytes:
-    """Returns the archive of a set of keys, in their order. Raises as `build` does.
+def build_set(key_type: Type, keys: Iterable[Key], strict: bool = False, untyped: bool = False) -> bytes:
+    """Returns the archive of a set of keys, in their order, after a header as that of `build`. Raises as `build` does.
 
     `keys` is any iterable. Keys that are there twice stay so, unless `strict` refuses them.
     """
@@ -768,7 +831,7 @@ def build_set(key_type: Type, keys: Iterable[Key], strict: bool = False) -> byte
     while chunk := list(islice(rest, _CHUNK)):
         column.extend(chunk, count)
         count += len(chunk)
-    return _built(number, count, column.column(), _Column(), column.texts_len, strict)
+    return _built(number, count, column.column(), _Column(), column.texts_len, strict, untyped)
 
 
 class _Buffers:
@@ -801,8 +864,8 @@ class _Buffers:
         return view
 
 
-def build_arrays(key_type: Type, value_type: Type, keys: Any, values: Any, strict: bool = False) -> bytes:
-    """Returns the archive of two columns of one length, in their order, without a Python object for each entry.
+def build_arrays(key_type: Type, value_type: Type, keys: Any, values: Any, strict: bool = False, untyped: bool = False) -> bytes:
+    """Returns the archive of two columns of one length, in their order, after a header as that of `build`, without a Python object for each entry.
 
     A column of numbers is a buffer of them, as an `array.array` or an array of numpy is. A column of texts or of bytes is a pair of
     buffers, as Arrow has them: offsets of 4 or 8 bytes, one more than there are texts, and the bytes of all texts. The buffers aren't copied, and
@@ -817,4 +880,5 @@ def build_arrays(key_type: Type, value_type: Type, keys: Any, values: Any, stric
     given = _Buffers(key_type, keys, "keys"), _Buffers(value_type, values, "values")
     if given[0].count != given[1].count:
         raise ValueError(f"there are {given[0].count} keys and {given[1].count} values")
-    return _built(number, given[0].count, given[0].column, given[1].column, given[0].texts_len + given[1].texts_len, strict)
+    texts_len = given[0].texts_len + given[1].texts_len
+    return _built(number, given[0].count, given[0].column, given[1].column, texts_len, strict, untyped)

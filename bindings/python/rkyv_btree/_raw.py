@@ -30,6 +30,9 @@ NO_MEMORY = 35
 BAD_ITEM = 36
 NOT_INCREASING = 37
 NO_ROOM = 38
+NO_HEADER = 48
+OTHER_VERSION = 49
+OTHER_TYPE = 50
 U32_TO_U32 = 1
 U32_TO_U64 = 2
 U32_TO_TEXT = 3
@@ -217,6 +220,9 @@ def declared(library: ctypes.CDLL) -> SimpleNamespace:
         ("build_strict", _U32, _U32, _BYTES, _SIZE, _BYTES, _SIZE, _BYTES, _SIZE, _P(_SIZE), _P(_Refusal)),
         ("build_arrays", _U32, _U32, _SIZE, _P(_Column), _P(_Column), _BYTES, _SIZE, _P(_SIZE), _P(_Refusal)),
         ("build_arrays_strict", _U32, _U32, _SIZE, _P(_Column), _P(_Column), _BYTES, _SIZE, _P(_SIZE), _P(_Refusal)),
+        ("write_header", _U32, _U32, _BYTES, _SIZE, _P(_SIZE)),
+        ("check_header", _U32, _U32, _BYTES, _SIZE, _P(_Refusal)),
+        ("type_name", _SIZE, _U32, _BYTES, _SIZE),
         ("strerror", _SIZE, _U32, _BYTES, _SIZE),
     ):
         function = getattr(library, f"rkyv_btree_{name}")

@@ -15,7 +15,7 @@ from collections import OrderedDict
 from collections.abc import AsyncIterator, Awaitable, Callable, Generator, Iterable, Iterator, Mapping
 from typing import Any, NamedTuple, TypeVar, Union
 
-from . import Error, Key, Type, Value, _bytes_of, _checked, _is_key, _lib, _types_of, _value_of
+from . import Error, Key, Type, Value, _address_of, _bytes_of, _check_type, _checked, _is_key, _lib, _types_of, _value_of
 from ._nodes import LEVELS, ROOT, Item, Layout, Text, decoded, order_of
 from ._raw import (
     BAD_ITEM,
@@ -42,6 +42,8 @@ _Top = Union[bytes, str, os.PathLike, Top, Iterable[tuple[int, bytes]]]
 
 # How many bytes before a missing part go with it into a piece, where they are at hand.
 _BEFORE = 2048
+# How many of the first bytes are read for a header.
+_FIRST = 4096
 
 
 class Changed(OSError):
@@ -254,6 +256,11 @@ class _Lookups:
             kept = self._around(blocks, pos, length)
         return kept[1][pos - kept[0] :]
 
+    def _first_checked(self) -> _Fetching[None]:
+        """Raises Error if the first bytes are the header of another type or another version."""
+        first = memoryview((yield from self._part(0, min(_FIRST, self._size))))
+        _check_type(self._number, first, _address_of(first))
+
     def _start(self, low: Union[Key, None], high: Union[Key, None]) -> _Walk:
         """Returns a walk over the entries from `low` on and before `high`."""
         for bound in (low, high):
@@ -371,6 +378,13 @@ class Remote(_Lookups):
     def __exit__(self, *error: object) -> None:
         self.close()
 
+    def check_type(self) -> None:
+        """Reads the header of a typed file. Raises Error if it is that of another type or another version, and what `fetch` raises.
+
+        No other call reads a header. Up to 4096 bytes are read for it; one that is longer counts as none, as an untyped archive has.
+        """
+        self._run(self._first_checked())
+
     def get(self, key: Key, default: Any = None) -> Any:
         """Returns the value of a key, or `default`. Raises Error for a fault in what the lookup reads, and what `fetch` raises."""
         return self.get_many([key]).get(key, default)
@@ -433,6 +447,10 @@ class AsyncRemote(_Lookups):
     ) -> None:
         super().__init__(size, key_type, value_type, block, cache, top)
         self._fetch = fetch
+
+    async def check_type(self) -> None:
+        """Reads the header of a typed file, and raises as `Remote.check_type` does."""
+        await self._run(self._first_checked())
 
     async def get(self, key: Key, default: Any = None) -> Any:
         """Returns the value of a key, or `default`. Raises as `Remote.get` does."""

@@ -1,15 +1,22 @@
 use crate::error::Error;
 use crate::field::sealed::Cells;
 use crate::field::Field;
+use crate::header::header_of;
 use crate::map::type_number;
 use crate::raw;
 use std::marker::PhantomData;
 
+/// The most bytes that an archive has, with its header.
+const MOST: usize = u32::MAX as usize;
+
 /// Entries of which an archive is built, in their order. They are kept as two columns.
+///
+/// The archive is a typed file: a header with the name of its type is before it, unless `untyped` is called.
 pub struct Builder<K, V> {
     keys: Cells,
     values: Cells,
     len: usize,
+    typed: bool,
     of: PhantomData<(K, V)>,
 }
 
@@ -27,7 +34,7 @@ type Build = unsafe extern "C" fn(
 impl<'a, K: Field<'a>, V: Field<'a>> Builder<K, V> {
     /// Returns a builder without entries.
     pub fn new() -> Builder<K, V> {
-        Builder { keys: Cells::default(), values: Cells::default(), len: 0, of: PhantomData }
+        Builder { keys: Cells::default(), values: Cells::default(), len: 0, typed: true, of: PhantomData }
     }
 
     /// Adds an entry at the end.
@@ -41,6 +48,13 @@ impl<'a, K: Field<'a>, V: Field<'a>> Builder<K, V> {
     #[must_use]
     pub fn entry(mut self, key: K, value: V) -> Builder<K, V> {
         self.push(key, value);
+        self
+    }
+
+    /// Returns the builder, whose archives have no header.
+    #[must_use]
+    pub fn untyped(mut self) -> Builder<K, V> {
+        self.typed = false;
         self
     }
 
@@ -74,7 +88,10 @@ impl<'a, K: Field<'a>, V: Field<'a>> Builder<K, V> {
     }
 
     fn build_by(&self, build: Build) -> Result<Vec<u8>, Error> {
-        let mut archive = vec![0; self.bound()?];
+        let header = if self.typed { header_of(type_number::<K, V>())? } else { Vec::new() };
+        let start = header.len();
+        let mut archive = vec![0; start + self.bound()?];
+        archive[..start].copy_from_slice(&header);
         let mut len = 0;
         let mut why = raw::Refusal::default();
         // SAFETY: the columns are borrowed during the call, and `archive` is exclusive.
@@ -84,8 +101,8 @@ impl<'a, K: Field<'a>, V: Field<'a>> Builder<K, V> {
                 self.len,
                 &self.keys.column(),
                 &self.values.column(),
-                archive.as_mut_ptr(),
-                archive.len(),
+                archive[start..].as_mut_ptr(),
+                archive.len() - start,
                 &mut len,
                 &mut why,
             )
@@ -93,7 +110,10 @@ impl<'a, K: Field<'a>, V: Field<'a>> Builder<K, V> {
         if code != raw::OK {
             return Err(Error::refused(raw::Refusal { code, ..why }));
         }
-        archive.truncate(len);
+        if start + len > MOST {
+            return Err(Error::refused(raw::Refusal { code: raw::POSITION_OVERFLOW, ..why }));
+        }
+        archive.truncate(start + len);
         Ok(archive)
     }
 }

@@ -1,6 +1,7 @@
 use crate::error::Error;
 use crate::field::sealed::Passed;
 use crate::field::{AsKey, Field, Number};
+use crate::header::check_type;
 use crate::map::{type_number, Map};
 use crate::raw;
 use std::marker::PhantomData;
@@ -17,8 +18,18 @@ impl<'a, K: Field<'a>, V: Field<'a> + Number> Edit<'a, K, V> {
     ///
     /// # Errors
     ///
-    /// The first fault for which the bytes are no map.
+    /// As of [`Map::open`].
     pub fn open(data: &'a mut [u8]) -> Result<Edit<'a, K, V>, Error> {
+        check_type(type_number::<K, V>(), data)?;
+        Edit::open_untyped(data)
+    }
+
+    /// Validates a whole archive, and looks at no header.
+    ///
+    /// # Errors
+    ///
+    /// As of [`Map::open_untyped`].
+    pub fn open_untyped(data: &'a mut [u8]) -> Result<Edit<'a, K, V>, Error> {
         let mut raw = raw::Edit { data: data.as_mut_ptr(), data_len: data.len(), pos: 0, kind: 0 };
         let mut why = raw::Refusal::default();
         // SAFETY: pointer and length are those of one slice, which is borrowed as long as the map is there.

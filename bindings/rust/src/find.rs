@@ -1,6 +1,7 @@
 use crate::error::Error;
 use crate::field::sealed::Passed;
 use crate::field::{AsKey, Field};
+use crate::header::check_type;
 use crate::map::type_number;
 use crate::raw;
 
@@ -11,7 +12,7 @@ use crate::raw;
 ///
 /// # Errors
 ///
-/// The first fault in what the lookup reads.
+/// The first fault in what the lookup reads, or that the bytes are a typed file of another type or another version.
 ///
 /// # Examples
 ///
@@ -22,6 +23,16 @@ use crate::raw;
 /// # Ok::<(), rkyv_btree::Error>(())
 /// ```
 pub fn find<'a, K: Field<'a>, V: Field<'a>>(data: &'a [u8], key: impl AsKey<K>) -> Result<Option<V>, Error> {
+    check_type(type_number::<K, V>(), data)?;
+    find_untyped::<K, V>(data, key)
+}
+
+/// Returns what `find` does, and looks at no header.
+///
+/// # Errors
+///
+/// The first fault in what the lookup reads.
+pub fn find_untyped<'a, K: Field<'a>, V: Field<'a>>(data: &'a [u8], key: impl AsKey<K>) -> Result<Option<V>, Error> {
     let mut entry = raw::Entry::default();
     let mut why = raw::Refusal::default();
     let kind = type_number::<K, V>();

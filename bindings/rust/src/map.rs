@@ -1,6 +1,7 @@
 use crate::error::Error;
 use crate::field::sealed::{Passed, Query, Stored};
 use crate::field::{AsKey, Field};
+use crate::header::check_type;
 use crate::raw;
 use std::cmp::Ordering;
 use std::fmt;
@@ -32,12 +33,23 @@ unsafe impl<K, V> Sync for Map<'_, K, V> {}
 type Open = unsafe extern "C" fn(*mut raw::Map, u32, *const u8, usize, *mut raw::Refusal) -> u32;
 
 impl<'a, K: Field<'a>, V: Field<'a>> Map<'a, K, V> {
-    /// Validates a whole archive, whose own bytes are the last eight.
+    /// Validates a whole archive, whose own bytes are the last eight. A typed file must be of the map's type.
+    ///
+    /// # Errors
+    ///
+    /// The bytes are a typed file of another type or another version, or the first fault for which they are no map.
+    pub fn open(data: &'a [u8]) -> Result<Map<'a, K, V>, Error> {
+        check_type(type_number::<K, V>(), data)?;
+        Map::open_untyped(data)
+    }
+
+    /// Validates a whole archive, and looks at no header. So an untyped archive is opened whose first bytes are those of a header by
+    /// chance, as those of a text can be.
     ///
     /// # Errors
     ///
     /// The first fault for which the bytes are no map.
-    pub fn open(data: &'a [u8]) -> Result<Map<'a, K, V>, Error> {
+    pub fn open_untyped(data: &'a [u8]) -> Result<Map<'a, K, V>, Error> {
         Map::open_by(data, raw::rkyv_btree_open)
     }
 
@@ -45,8 +57,18 @@ impl<'a, K: Field<'a>, V: Field<'a>> Map<'a, K, V> {
     ///
     /// # Errors
     ///
-    /// The first fault for which the bytes are no such map.
+    /// The bytes are a typed file of another type or another version, or the first fault for which they are no such map.
     pub fn open_strict(data: &'a [u8]) -> Result<Map<'a, K, V>, Error> {
+        check_type(type_number::<K, V>(), data)?;
+        Map::open_strict_untyped(data)
+    }
+
+    /// Validates a whole archive whose keys increase, and looks at no header.
+    ///
+    /// # Errors
+    ///
+    /// The first fault for which the bytes are no such map.
+    pub fn open_strict_untyped(data: &'a [u8]) -> Result<Map<'a, K, V>, Error> {
         Map::open_by(data, raw::rkyv_btree_open_strict)
     }
 

@@ -25,6 +25,9 @@ pub const NO_MEMORY: u32 = 35;
 pub const BAD_ITEM: u32 = 36;
 pub const NOT_INCREASING: u32 = 37;
 pub const NO_ROOM: u32 = 38;
+pub const NO_HEADER: u32 = 48;
+pub const OTHER_VERSION: u32 = 49;
+pub const OTHER_TYPE: u32 = 50;
 pub const U32_TO_U32: u32 = 1;
 pub const U32_TO_U64: u32 = 2;
 pub const U32_TO_TEXT: u32 = 3;
@@ -389,6 +392,23 @@ unsafe extern "C" {
         archive_len: *mut usize,
         why: *mut Refusal,
     ) -> u32;
+    pub fn rkyv_btree_write_header(
+        kind: u32,
+        out: *mut u8,
+        out_len: usize,
+        header_len: *mut usize,
+    ) -> u32;
+    pub fn rkyv_btree_check_header(
+        kind: u32,
+        data: *const u8,
+        data_len: usize,
+        why: *mut Refusal,
+    ) -> u32;
+    pub fn rkyv_btree_type_name(
+        kind: u32,
+        out: *mut u8,
+        out_len: usize,
+    ) -> usize;
     pub fn rkyv_btree_strerror(
         code: u32,
         out: *mut u8,

@@ -5,6 +5,7 @@ mod pieces;
 use crate::error::Error;
 use crate::field::sealed::Query;
 use crate::field::{AsKey, Field, Nothing};
+use crate::header::check_type;
 use crate::map::type_number;
 use crate::raw;
 use crate::top::{Kept, Top, TopError};
@@ -16,6 +17,9 @@ use std::fs::File;
 use std::io::{self, Read, Seek, SeekFrom};
 use std::ops::{Range, RangeBounds};
 use std::slice;
+
+/// How many of the first bytes are read for a header.
+const FIRST: u64 = 4096;
 
 /// What reads parts of an archive that lies elsewhere: a file, or a closure that takes a position and a buffer.
 pub trait ReadRange {
@@ -137,6 +141,26 @@ impl<R: ReadRange> Remote<R> {
     pub fn with_top<'k, K: Field<'k>, V: Field<'k>>(mut self, top: Top) -> Result<Remote<R>, TopError> {
         self.top = top.pieces_of(type_number::<K, V>(), self.size)?;
         Ok(self)
+    }
+
+    /// Reads the header of a typed file of a map. No other call reads a header. Up to 4096 bytes are read for it; one that is longer
+    /// counts as none, as an untyped archive has.
+    ///
+    /// # Errors
+    ///
+    /// What the reader fails with, or that the header is that of another type or another version.
+    pub fn check_type<'k, K: Field<'k>, V: Field<'k>>(&mut self) -> Result<(), RemoteError<R::Error>> {
+        let first = self.part(0..self.size.min(FIRST)).map_err(RemoteError::Read)?;
+        Ok(check_type(type_number::<K, V>(), &first)?)
+    }
+
+    /// Reads the header of a typed file of a set, as `check_type` does that of a map.
+    ///
+    /// # Errors
+    ///
+    /// As of `check_type`.
+    pub fn check_set_type<'k, K: Field<'k>>(&mut self) -> Result<(), RemoteError<R::Error>> {
+        self.check_type::<K, Nothing>()
     }
 
     /// Returns the value of a key. A text is borrowed until the next lookup.

@@ -1,7 +1,7 @@
 use crate::builder::Builder;
 use crate::error::Error;
 use crate::field::{AsKey, Field, Nothing};
-use crate::find::find;
+use crate::find::{find, find_untyped};
 use crate::map::{self, Map};
 use std::fmt;
 use std::iter::FusedIterator;
@@ -24,22 +24,40 @@ pub struct Set<'a, K> {
 }
 
 impl<'a, K: Field<'a>> Set<'a, K> {
-    /// Validates a whole archive, whose own bytes are the last eight.
+    /// Validates a whole archive, whose own bytes are the last eight. A typed file must be of the set's type.
+    ///
+    /// # Errors
+    ///
+    /// As of [`Map::open`].
+    pub fn open(data: &'a [u8]) -> Result<Set<'a, K>, Error> {
+        Ok(Set { map: Map::open(data)? })
+    }
+
+    /// Validates a whole archive, and looks at no header, as [`Map::open_untyped`] does.
     ///
     /// # Errors
     ///
     /// The first fault for which the bytes are no set.
-    pub fn open(data: &'a [u8]) -> Result<Set<'a, K>, Error> {
-        Ok(Set { map: Map::open(data)? })
+    pub fn open_untyped(data: &'a [u8]) -> Result<Set<'a, K>, Error> {
+        Ok(Set { map: Map::open_untyped(data)? })
     }
 
     /// Validates a whole archive whose keys increase. A lookup in it finds each key, and a range has all that is in it.
     ///
     /// # Errors
     ///
-    /// The first fault for which the bytes are no such set.
+    /// As of [`Map::open_strict`].
     pub fn open_strict(data: &'a [u8]) -> Result<Set<'a, K>, Error> {
         Ok(Set { map: Map::open_strict(data)? })
+    }
+
+    /// Validates a whole archive whose keys increase, and looks at no header.
+    ///
+    /// # Errors
+    ///
+    /// The first fault for which the bytes are no such set.
+    pub fn open_strict_untyped(data: &'a [u8]) -> Result<Set<'a, K>, Error> {
+        Ok(Set { map: Map::open_strict_untyped(data)? })
     }
 
     /// Returns the number of keys.
@@ -79,9 +97,18 @@ impl<'a, K: Field<'a>> Set<'a, K> {
 ///
 /// # Errors
 ///
-/// The first fault in what the lookup reads.
+/// As of [`find`].
 pub fn contains<'a, K: Field<'a>>(data: &'a [u8], key: impl AsKey<K>) -> Result<bool, Error> {
     Ok(find::<K, Nothing>(data, key)?.is_some())
+}
+
+/// Returns what `contains` does, and looks at no header.
+///
+/// # Errors
+///
+/// The first fault in what the lookup reads.
+pub fn contains_untyped<'a, K: Field<'a>>(data: &'a [u8], key: impl AsKey<K>) -> Result<bool, Error> {
+    Ok(find_untyped::<K, Nothing>(data, key)?.is_some())
 }
 
 impl<'a, K: Field<'a> + fmt::Debug> fmt::Debug for Set<'a, K> {
@@ -142,7 +169,7 @@ impl<'a, K: Field<'a>, Q: AsKey<K>, R: RangeBounds<Q>> Iterator for SetRange<'a,
     }
 }
 
-/// Keys of which the archive of a set is built, in their order.
+/// Keys of which the archive of a set is built, in their order. It is a typed file, as that of a [`Builder`].
 pub struct SetBuilder<K> {
     entries: Builder<K, Nothing>,
 }
@@ -156,6 +183,12 @@ impl<'a, K: Field<'a>> SetBuilder<K> {
     /// Adds a key at the end.
     pub fn push(&mut self, key: K) {
         self.entries.push(key, Nothing);
+    }
+
+    /// Returns the builder, whose archives have no header.
+    #[must_use]
+    pub fn untyped(self) -> SetBuilder<K> {
+        SetBuilder { entries: self.entries.untyped() }
     }
 
     /// Returns the archive of the keys.

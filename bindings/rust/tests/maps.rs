@@ -50,7 +50,7 @@ fn refusals_are_errors() {
     fn count(bytes: &[u8]) -> Result<usize, Box<dyn std::error::Error>> {
         Ok(Map::<u32, u32>::open(bytes)?.len())
     }
-    let mut bytes = Builder::new().entry(1u32, 2u32).build().unwrap();
+    let mut bytes = Builder::new().entry(1u32, 2u32).untyped().build().unwrap();
     assert_eq!(count(&bytes).unwrap(), 1);
     bytes[0] = 7;
     assert_eq!(count(&bytes).unwrap_err().to_string(), "the byte is the kind of no node at position 0");
@@ -245,7 +245,7 @@ fn refusals() {
     }
     assert_eq!(code(&[]), Some(1));
     assert_eq!(code(&[0; 7]), Some(1));
-    let mut bytes = Builder::new().entry(1u32, 2u32).build().unwrap();
+    let mut bytes = Builder::new().entry(1u32, 2u32).untyped().build().unwrap();
     assert_eq!(code(&bytes), None);
     bytes[0] = 7;
     let error = Map::<u32, u32>::open(&bytes).err().unwrap();

@@ -149,14 +149,14 @@ fn refusals() {
     assert_eq!(refusal(&[0; 7], 7).code(), 1);
     assert_eq!(refusal(&[], 1 << 32).code(), 8);
     assert_eq!(Remote::new(Counted { data: &[0; 8], reads: 0 }, 8).get::<u32, u32>(1), Ok(None));
-    let mut data = Builder::new().entry(1u32, 2u32).build().unwrap();
+    let mut data = Builder::new().entry(1u32, 2u32).untyped().build().unwrap();
     data[0] = 7;
     assert_eq!(refusal(&data, data.len() as u64).to_string(), "the byte is the kind of no node at position 0");
 }
 
 #[test]
 fn no_bytes_crash_a_lookup() {
-    let good = (0..40u32).map(|n| (n, "some text")).collect::<Builder<_, _>>().build().unwrap();
+    let good = (0..40u32).map(|n| (n, "some text")).collect::<Builder<_, _>>().untyped().build().unwrap();
     for at in 0..good.len() {
         for byte in [0, 1, 127, 128, 255] {
             let mut data = good.clone();
@@ -300,7 +300,7 @@ fn a_range_of_bad_bytes() {
 
 #[test]
 fn a_range_after_an_error() {
-    let mut data = (0..40u32).map(|n| (n, n)).collect::<Builder<_, _>>().build().unwrap();
+    let mut data = (0..40u32).map(|n| (n, n)).collect::<Builder<_, _>>().untyped().build().unwrap();
     data[0] = 7;
     let mut remote = counted(&data, 64, 2);
     let mut entries = remote.range::<u32, u32, u32>(..);
@@ -408,7 +408,7 @@ fn sidecars_that_do_not_fit() {
 #[test]
 fn a_sidecar_of_python() {
     let words: Vec<String> = (0..40).map(|n| format!("key {n:02}")).collect();
-    let data = words.iter().zip(0..).map(|(word, n)| (word.as_str(), n)).collect::<Builder<&str, u32>>().build().unwrap();
+    let data = words.iter().zip(0..).map(|(word, n)| (word.as_str(), n)).collect::<Builder<&str, u32>>().untyped().build().unwrap();
     let hex = include_str!("sidecar.hex");
     let written: Vec<u8> = hex.split_whitespace().flat_map(|line| line.as_bytes().chunks(2)).map(digits).collect();
     assert_eq!(Top::of::<&str, u32>(&data, 1, "\"one\"").unwrap().to_bytes(), written);

@@ -2,6 +2,7 @@ pub mod ArchiveLengths
 pub mod Built
 pub mod Cursors
 pub mod Fits
+pub mod Headers
 pub mod Lengths
 pub mod LookedUp
 pub mod Never

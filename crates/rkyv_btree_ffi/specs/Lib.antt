@@ -8,6 +8,7 @@ pub mod Cursors
 pub mod Editing
 pub mod Entries
 pub mod Finding
+pub mod Headers
 pub mod Items
 pub mod Lengths
 pub mod MapTypes

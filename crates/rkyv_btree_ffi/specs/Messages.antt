@@ -26,4 +26,7 @@ message_of code =
     if nat_eq code 36 then codes "an item is no key or value of the type" else
     if nat_eq code 37 then codes "the keys don't increase" else
     if nat_eq code 38 then codes "the archive is longer than the room for it" else
+    if nat_eq code 48 then codes "there is no type header" else
+    if nat_eq code 49 then codes "the type header has another version" else
+    if nat_eq code 50 then codes "the bytes are of another type" else
     codes "no such code"

@@ -46,15 +46,24 @@ pub const NOT_INCREASING: u32 = 37;
 /// The archive has more bytes than there is room for.
 pub const NO_ROOM: u32 = 38;
 
+/// The bytes begin with no header of a typed file.
+pub const NO_HEADER: u32 = 48;
+
+/// The header has another version.
+pub const OTHER_VERSION: u32 = 49;
+
+/// The header has the name of another type.
+pub const OTHER_TYPE: u32 = 50;
+
 /// Why bytes were refused. `code` is that of the export.
 #[repr(C)]
 #[derive(Drop)]
 pub struct BtreeRefusal {
-    /// The code, from 1 to 9.
+    /// The code.
     pub code: u32,
     /// A position in the buffer, or 0.
     pub at: i64,
-    /// What was found there: a byte, a length, a number of entries, or the index of an entry.
+    /// What was found there: a byte, a length, a number of entries, the index of an entry, or a version.
     pub found: u64,
     /// The most that is allowed there.
     pub allowed: u64,

@@ -19,3 +19,4 @@ pub mod order;
 pub mod pieces;
 pub mod query;
 pub mod reading;
+pub mod typed;

@@ -30,8 +30,26 @@ fn message(code: u32) -> &'static str
         36 => "an item is no key or value of the type",
         37 => "the keys don't increase",
         38 => "the archive is longer than the room for it",
+        48 => "there is no type header",
+        49 => "the type header has another version",
+        50 => "the bytes are of another type",
         _ => "no such code",
     }
+}
+
+/// Writes a text, as much of it as there is room for, and a 0 after it if that fits. Returns the length of the text.
+pub(crate) fn put_text(text: &str, out: &mut [u8]) -> usize
+    ensures len { result ≡ length text.now }
+    ensures text { take (min result (length out.old)) out.new
+        ≡ take (min result (length out.old)) text.now }
+{
+    let text = text.as_bytes();
+    let room = text.len().min(out.len());
+    out[..room].copy_from_slice(&text[..room]);
+    if room < out.len() {
+        out[room] = 0;
+    }
+    text.len()
 }
 
 /// Writes the text of a code, as much of it as there is room for, and a 0 after it if that fits. Returns the length of the text.
@@ -41,11 +59,5 @@ pub extern "C" fn rkyv_btree_strerror(code: u32, out: &mut [u8]) -> usize
     ensures text { take (min result (length out.old)) out.new
         ≡ take (min result (length out.old)) (message_of code) }
 {
-    let text = message(code).as_bytes();
-    let room = text.len().min(out.len());
-    out[..room].copy_from_slice(&text[..room]);
-    if room < out.len() {
-        out[room] = 0;
-    }
-    text.len()
+    put_text(message(code), out)
 }
