@@ -17,7 +17,7 @@ for words in "key --from" "key --unvalidated" --from --unvalidated "--strict key
 done
 status=0
 ./lookup numbers.archive x 2> said || status=$?
-[[ $status == 2 && $(cat said) == "lookup: the bytes are of another type"* ]]
+[[ $status == 2 && $(cat said) == "lookup: the bytes are of type [u32 -> u32 / 5], not [text -> text / 5]" ]]
 tail -c +33 texts.archive > untyped.archive
 [[ $(./lookup untyped.archive "key 00007") == "value 7" ]]
 ./edit numbers.archive 14 4711

@@ -23,6 +23,19 @@ static int say(uint32_t code, const rkyv_btree_refusal *why) {
     return 2;
 }
 
+/* Refuses a typed file of another type or another version. A file without a header is taken as an archive alone. */
+static int check(const uint8_t *data, size_t len) {
+    rkyv_btree_refusal why = {0};
+    uint8_t name[64] = {0};
+    uint32_t code = rkyv_btree_check_header(RKYV_BTREE_TEXT_TO_TEXT, data, len, &why);
+    if (code == RKYV_BTREE_OK || code == RKYV_BTREE_NO_HEADER) return 0;
+    if (code != RKYV_BTREE_OTHER_TYPE) return say(code, &why);
+    rkyv_btree_type_name(RKYV_BTREE_TEXT_TO_TEXT, name, sizeof name);
+    int shown = why.found < 128 ? (int)why.found : 128;
+    fprintf(stderr, "lookup: the bytes are of type %.*s, not %s\n", shown, (const char *)data + why.at, (const char *)name);
+    return 2;
+}
+
 static int list_from(const rkyv_btree_map *map, const char *key) {
     rkyv_btree_cursor cursor = {0};
     rkyv_btree_entry entries[64] = {0};
@@ -69,8 +82,7 @@ int main(int argc, char **argv) {
     if (data == MAP_FAILED) return 2;
     const uint8_t *key = (const uint8_t *)argv[argc - 1];
     size_t key_len = strlen(argv[argc - 1]);
-    uint32_t header = rkyv_btree_check_header(RKYV_BTREE_TEXT_TO_TEXT, data, (size_t)stat.st_size, &why);
-    if (header != RKYV_BTREE_OK && header != RKYV_BTREE_NO_HEADER) return say(header, &why);
+    if (check(data, (size_t)stat.st_size) != 0) return 2;
     if (argc == 4 && strcmp(argv[2], "--unvalidated") == 0) {
         uint32_t code = rkyv_btree_find_text(RKYV_BTREE_TEXT_TO_TEXT, data, (size_t)stat.st_size, key, key_len, &found, &why);
         return print_found(data, code, &found, &why);

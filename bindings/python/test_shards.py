@@ -1,6 +1,7 @@
 """Tests of data sets of many archives: written, read, replaced by writers that are killed, and written by Dask if it is there."""
 
 import doctest
+import functools
 import os
 import pathlib
 import random
@@ -16,7 +17,7 @@ from importlib.util import find_spec
 from unittest import mock
 
 import rkyv_btree.shards
-from rkyv_btree import Error
+from rkyv_btree import Error, Map, build
 from rkyv_btree.shards import Shards, gc, publish, write_shard, write_shards
 
 ENTRIES = {
@@ -84,6 +85,24 @@ class DataSets(Folder):
             for number in (0, 1):
                 for suffix in suffixes:
                     self.assertRegex(files[2 + number * len(suffixes) + suffixes.index(suffix)], f"^shards/0000{number}-[0-9a-f]{{64}}{suffix}$")
+
+    def test_typed_files(self):
+        entries = ENTRIES["u64", "text"]
+        published = write_shards(entries, self.folder, "u64", "text", entries=300)
+        names = [name for name in self.files() if name.startswith("shards/") and not name.endswith(".top")]
+        self.assertEqual(len(names), 4)
+        for name in [*names, f"index/{published.index}"]:
+            data = pathlib.Path(self.folder, name).read_bytes()
+            self.assertEqual(data[:8], b"rkyvbt\1\0")
+            self.assertIn(len(Map(data, "u64", "text", strict=True)), (4, 100, 300))
+            with self.assertRaisesRegex(Error, r"^the bytes are of type \[u64 -> text / 5\], not \[u64 -> u64 / 5\]$"):
+                Map(data, "u64", "u64")
+        # A data set without headers is read too.
+        with mock.patch("rkyv_btree.shards.build", functools.partial(build, untyped=True)):
+            published = write_shards(entries, self.folder, "u64", "text", entries=300)
+        self.assertEqual(pathlib.Path(self.folder, "index", published.index).read_bytes()[:6].count(b"rkyvbt"), 0)
+        with Shards(self.folder) as shards:
+            self.compare(shards, entries)
 
     def test_an_empty_data_set(self):
         self.assertEqual(write_shards([], self.folder, "text", "u32").shards, 0)

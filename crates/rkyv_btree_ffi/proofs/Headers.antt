@@ -1,7 +1,7 @@
 -- Headers of typed files: what is written in turn, and that no two causes hold.
 use Rattle.std.proofs.Common.{arith, ◌≡◌, ◌≢◌, ◌↔◌, ◌∙◌, ℕ, ◌+◌, ◌-◌, ◌≤◌, List, ◌++◌, length, take, drop, codes, decimal, refl, sym, ap, subst, Option, Some, inl, inr}
 use Rattle.std.proofs.Math.Seq.{take-append_seam}
-use Rattle.std.proofs.lemmas.List.{append_assoc, drop-replicate}
+use Rattle.std.proofs.lemmas.List.{append_assoc, drop-replicate, length-append}
 use borrow.Rule.Slice.PartMut.{put_mid}
 use Rattle.std.proofs.lemmas.Fmt.{decimal_digit}
 use Rattle.std.specs.Int.{to_le_bytes, w32}
@@ -43,14 +43,25 @@ header_made name first second third e1 e2 e3 some few =
     ∙ (ap (λ x. front name ++ (x ++ drop (12 + n - 12) (zeros 20))) e3
     ∙ (ap (λ x. front name ++ (name ++ x)) rest ∙ append_assoc (versioned 1) le (name ++ zeros (round_up (12 + n) 16 - (12 + n)))))
 
--- the name of a header begins at position 12
-pub name_place : (name bytes : List ℕ) → HasHeader name bytes → bytes_at bytes 12 (length name) ≡ name
+-- what stands before the name of a header, and what after it
+parts_of : (name bytes : List ℕ) → HasHeader name bytes → (after : List ℕ) × (bytes ≡ front name ++ (name ++ after))
 unfolding header
-name_place name bytes h =
+parts_of name bytes h =
     let le = to_le_bytes w32 (length name) in
     let pad = zeros (round_up (12 + length name) 16 - (12 + length name)) in
-    let whole : bytes ≡ front name ++ (name ++ (pad ++ h.rest)) = h.parts ∙ (append_assoc (versioned 1) (named name) h.rest ∙ (ap (λ x. versioned 1 ++ x) (append_assoc le (name ++ pad) h.rest ∙ ap (λ x. le ++ x) (append_assoc name pad h.rest)) ∙ sym (append_assoc (versioned 1) le (name ++ (pad ++ h.rest))))) in
-    ap (λ b. take (length name) (drop 12 b)) whole ∙ take-append_seam name (pad ++ h.rest)
+    (pad ++ h.rest, h.parts ∙ (append_assoc (versioned 1) (named name) h.rest ∙ (ap (λ x. versioned 1 ++ x) (append_assoc le (name ++ pad) h.rest ∙ ap (λ x. le ++ x) (append_assoc name pad h.rest)) ∙ sym (append_assoc (versioned 1) le (name ++ (pad ++ h.rest))))))
+
+-- the name of a header begins at position 12, and ends within the bytes
+pub name_place : (name bytes : List ℕ) → HasHeader name bytes → bytes_at bytes 12 (length name) ≡ name
+name_place name bytes h =
+    let parts = parts_of name bytes h in
+    ap (λ b. take (length name) (drop 12 b)) parts.1 ∙ take-append_seam name parts.0
+
+pub name_inside : (name bytes : List ℕ) → HasHeader name bytes → 12 + length name ≤ length bytes
+name_inside name bytes h =
+    let parts = parts_of name bytes h in
+    let before : length (front name) ≡ 12 = refl in
+    omega (arith, ap length parts.1, length-append (front name) (name ++ parts.0), length-append name parts.0, before)
 
 -- the text by a number is the name of its type
 pub named_is : (name : List ℕ) (o : Option MapType) (t : MapType) → Some name ≡ option_map type_name o → o ≡ Some t → name ≡ type_name t
@@ -94,4 +105,4 @@ module _ (name bytes : List ℕ) where
   pub misheaded : (why : BtreeRefusal) → IsMisheaded name bytes why → AreExact why.code
   misheaded why (inl (NoHeader, h, e)) = subst (λ (w : BtreeRefusal). AreExact w.code) (sym e) (unheaded h)
   misheaded why (inl (OtherVersion version, h, e)) = subst (λ (w : BtreeRefusal). AreExact w.code) (sym e) (versioned_other version h)
-  misheaded why (inr (h, differs, e)) = subst (λ (w : BtreeRefusal). AreExact w.code) (sym e) (named_other (bytes_at bytes 12 why.found) h differs)
+  misheaded why (inr (len, (_, h, differs), e)) = subst (λ (w : BtreeRefusal). AreExact w.code) (sym e) (named_other (bytes_at bytes 12 len) h differs)

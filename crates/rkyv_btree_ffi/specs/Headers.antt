@@ -1,5 +1,5 @@
 -- Headers of typed files as C has them: the name of each type of maps, and why bytes have no header of a name.
-use Rattle.std.specs.Prelude.{◌≡◌, ◌≢◌, ℕ, ◌≤◌, ◌<◌, ◌⊎◌, List, ◌++◌, length, drop, pos}
+use Rattle.std.specs.Prelude.{◌≡◌, ◌≢◌, ℕ, ◌+◌, ◌≤◌, ◌<◌, ◌⊎◌, List, ◌++◌, length, drop, pos}
 use Rattle.rkyv_btree_portable.specs.Bytes.{bytes_at}
 use Rattle.rkyv_btree_typed.specs.TypeHeader.{HasHeader, IsUnheaded, header}
 use Rattle.rkyv_btree_typed.specs.TypeNames.{TypeTerm, name_of}
@@ -49,8 +49,12 @@ module _ (name : List ℕ) where
   abbrev pub HasOtherName : List ℕ → Type 0
   HasOtherName bytes = (found : List ℕ) × HasHeader found bytes × (found ≢ name)
 
-  -- why they don't begin with the header of the name: they have none that is read, or the name of this length from position 12 on is another one
+  -- they have it, and it is this many of them from position 12 on
+  abbrev pub HasOtherNameAt : List ℕ → ℕ → Type 0
+  HasOtherNameAt bytes len = (12 + len ≤ length bytes) × HasHeader (bytes_at bytes 12 len) bytes × (bytes_at bytes 12 len ≢ name)
+
+  -- why they don't begin with the header of the name, as C has it: they have none that is read, or that of another name
   abbrev pub IsMisheaded : List ℕ → BtreeRefusal → Type 0
   IsMisheaded bytes why =
       ((fault : HeaderFault) × IsUnheaded bytes fault × (why ≡ header_cause fault))
-      ⊎ (HasHeader (bytes_at bytes 12 why.found) bytes × (bytes_at bytes 12 why.found ≢ name) × (why ≡ record { code = 50; at = pos 12; found = why.found; allowed = 0 }))
+      ⊎ ((len : ℕ) × HasOtherNameAt bytes len × (why ≡ record { code = 50; at = pos 12; found = len; allowed = 0 }))

@@ -1,7 +1,7 @@
 -- A header that is read has one name, which begins at position 12.
-use Rattle.std.proofs.Common.{◌∙◌, List, ℕ, inr, refl, subst, sym}
+use Rattle.std.proofs.Common.{◌∙◌, List, ℕ, inr, length, refl, subst, sym}
 use Rattle.std.specs.Cmp.Lexicographic.{other_text}
-use Rattle.rkyv_btree_ffi.proofs.Headers.{name_place}
+use Rattle.rkyv_btree_ffi.proofs.Headers.{name_inside, name_place}
 use Rattle.rkyv_btree_typed.proofs.Headers.{one_name}
 use Rattle.rkyv_btree_typed.specs.TypeHeader.{HasHeader}
 use Rattle.rkyv_btree_ffi.proofs.typed.tested.Goals as goal
@@ -15,4 +15,5 @@ pub returns-clause-refuses : goal.returns-clause-refuses
 returns-clause-refuses c =
     let differs = other_text c.in-Ok.found.now c.args.name.now c.if-eq.ensures in
     let place = name_place c.in-Ok.found.now c.args.buf.now c.in-Ok.ensures.name in
-    inr (subst (λ (n : List ℕ). HasHeader n c.args.buf.now) (sym place) c.in-Ok.ensures.name, λ e. differs (sym place ∙ e), refl)
+    let inside = name_inside c.in-Ok.found.now c.args.buf.now c.in-Ok.ensures.name in
+    inr (length c.in-Ok.found.now, (inside, subst (λ (n : List ℕ). HasHeader n c.args.buf.now) (sym place) c.in-Ok.ensures.name, λ e. differs (sym place ∙ e)), refl)
