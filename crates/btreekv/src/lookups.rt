@@ -14,7 +14,7 @@ use clap::ArgMatches;
 use rkyv_btree_source::cached::CachedSource;
 use rkyv_btree_source::source::ReadAt;
 use rkyv_btree_source::unverified_source::UnverifiedSource;
-use std::fs::File;
+use std::fs::{File, metadata};
 use std::io;
 use std::io::{BufRead, Read};
 use std::os::unix::fs::FileExt;
@@ -25,6 +25,12 @@ const FEW_BLOCKS: usize = 16;
 
 /// The number of blocks that the look-ups of many keys keep.
 const MANY_BLOCKS: usize = 2048;
+
+/// The most bytes of a regular file that is read whole for many keys.
+const MOST_WHOLE: u64 = 268435456;
+
+/// How many bytes of a regular file are read for each byte of the keys, where it is read whole.
+const BYTES_FOR_A_BYTE: u64 = 128;
 
 /// A regular file as a source, whose size was asked for once: a lookup asks for it each time. Each read is one call of the system.
 #[derive(Drop)]
@@ -216,10 +222,26 @@ fn get_keys_in<S: ReadAt + Drop>(
     Ok(status)
 }
 
-/// Reads and validates all of an archive.
-fn validated(system: &System<'_>, file: File) -> Result<Vec<u8>, ProgramFault> {
+/// Returns whether a file of keys is so long that it takes less time to read all of a regular file than what the look-ups need of it.
+fn are_many(system: &System<'_>, file: &File, keys: &str) -> bool {
+    let (Ok(archive), Ok(keys)) = (file.metadata(), metadata(system.rt, keys)) else {
+        return false;
+    };
+    let size = archive.len();
+    keys.is_file() && size <= MOST_WHOLE && size / BYTES_FOR_A_BYTE <= keys.len()
+}
+
+/// Reads all of an archive, and validates it if it is no regular file, or the words ask for it.
+fn read_archive(
+    system: &System<'_>,
+    matches: &ArgMatches<'_>,
+    file: File,
+) -> Result<Vec<u8>, ProgramFault> {
+    let is_validated = !is_regular(&file) || matches.get_flag("validate");
     let bytes = read_all(system.alloc(), &mut Progress::new(system, file))?;
-    opening::open(&bytes)?;
+    if is_validated {
+        opening::open(&bytes)?;
+    }
     Ok(bytes)
 }
 
@@ -228,13 +250,14 @@ fn get_keys(system: &System<'_>, matches: &ArgMatches<'_>, keys: &str) -> Result
     // The words have no key then, so the first of them is the file.
     let path = matches.get_str("KEY").unwrap_or("");
     let file = system.open(path)?;
-    if is_regular(&file) && !matches.get_flag("validate") {
+    let in_parts = is_regular(&file) && !matches.get_flag("validate");
+    if in_parts && !are_many(system, &file, keys) {
         return match cached(system, file, MANY_BLOCKS) {
             Ok(source) => get_keys_in(system, matches, source, keys),
             Err(fault) => Err(system.fail(Names::of_input(Some(path)), &fault)),
         };
     }
-    match validated(system, file) {
+    match read_archive(system, matches, file) {
         Ok(bytes) => get_keys_in(system, matches, bytes.as_slice(), keys),
         Err(fault) => Err(system.fail(Names::of_input(Some(path)), &fault)),
     }
