@@ -159,6 +159,91 @@ ends 2 'btreekv: entry 1: not a JSON object of key and value' '{"key":"\\ud834",
 ends 2 'btreekv: entry 1: not a JSON object of key and value' '{"key":"\xff","value":"b"}\n'               ''  build --ndjson
 ends 2 "error: the argument '--strict' cannot be used with '--ndjson'" '' ''                                    build --strict --ndjson
 
+# CSV and TSV: the first record is a header, and each has two fields
+ends 0 ''                                          ''                          "$empty"                      build --csv
+ends 0 ''                                          'key,value\n'               "$empty"                      build --csv
+ends 0 ''                                          'a,b'                       "$empty"                      build --csv
+ends 0 ''                                          'k,v\nb,3\na,2\n'           "$sorted"                     build --csv
+ends 0 ''                                          'k,v\nb,1\na,2\nb,3'        "$sorted"                     build --csv
+ends 0 ''                                          'k,v\nb,3\na,2\n'           "$sorted"                     build --sort --csv
+ends 0 ''                                          'k,v\r\nb,3\r\na,2\r\n'     "$sorted"                     build --csv
+ends 0 ''                                          'k,v\rb,3\ra,2\r'           "$sorted"                     build --csv
+ends 0 ''                                          '\n\nk,v\n\nb,3\n\r\na,2\n\n' "$sorted"                   build --csv
+ends 0 ''                                          '\xef\xbb\xbfk,v\nb,3\na,2\n' "$sorted"                   build --csv
+ends 0 ''                                          '"k\n1","v,"\n"b","3"\n"a",2\n' "$sorted"                 build --csv
+ends 0 ''                                          'k\tv\nb\t3\na\t2\n'        "$sorted"                     build --tsv
+ends 0 ''                                          '"k\t1"\tv\n"b"\t"3"\na\t"2"' "$sorted"                   build --tsv
+ends 0 ''                                          'k,v\n"",\n'                "$(archive_of '\t\n')"        build --csv
+ends 0 ''                                          'k,v\n a, "b"\n'            "$(archive_of ' a\t "b"\n')"  build --csv
+ends 0 ''                                          'k,v\na"b,"c"d\n'           "$(archive_of 'a"b\tcd\n')"   build --csv
+ends 0 ''                                          'k,v\na,"b""c'              "$(archive_of 'a\tb"c\n')"    build --csv
+ends 0 ''                                          'k\tv\na,b\tc,"d"\n'        "$(archive_of 'a,b\tc,"d"\n')" build --tsv
+ends 0 ''                                          'k,v\n"a\tb","c\nd\\e"\n'   "$escaped"                    build --csv
+ends 2 'btreekv: record 1: not two fields of UTF-8' 'a\n'                      ''                            build --csv
+ends 2 'btreekv: record 1: not two fields of UTF-8' 'a,b,c\nd,e\n'             ''                            build --csv
+ends 2 'btreekv: record 1: not two fields of UTF-8' 'a\xff,b\nc,d\n'           ''                            build --csv
+ends 2 'btreekv: record 2: not two fields of UTF-8' 'k,v\na\n'                 ''                            build --csv
+ends 2 'btreekv: record 3: not two fields of UTF-8' 'k,v\na,"\n\n"\nb,c,\n'    ''                            build --csv
+ends 2 'btreekv: record 2: not two fields of UTF-8' 'k,v\na,b\xe2\x82\n'       ''                            build --csv
+ends 2 'btreekv: record 2: not two fields of UTF-8' 'k,v\n\xff,b\na\n'         ''                            build --csv
+ends 2 'btreekv: record 2: not two fields of UTF-8' 'k,v\n"a,b\nc,d\n'         ''                            build --csv
+ends 2 'btreekv: record 1: not two fields of UTF-8' 'k,v\na,b\n'               ''                            build --tsv
+ends 2 'btreekv: record 2: not two fields of UTF-8' 'k\tv\na\tb\tc\n'          ''                            build --tsv
+ends 0 ''                                          "$empty"                    'key,value\n'                 list --csv
+ends 0 ''                                          "$empty"                    'key\tvalue\n'                list --tsv
+ends 0 ''                                          "$unordered"                'key,value\nb,1\na,2\nb,3\n'  list --csv
+ends 0 ''                                          "$unordered"                'key\tvalue\nb\t1\na\t2\nb\t3\n' list --tsv
+ends 0 ''                                          "$escaped"                  'key,value\na\tb,"c\nd\\e"\n' list --csv
+ends 0 ''                                          "$escaped"                  'key\tvalue\n"a\tb"\t"c\nd\\e"\n' list --tsv
+commas=$(archive_of '\t\na,b\t"c"\r\n')
+ends 0 ''                                          "$commas"                   'key,value\n,\n"a,b","""c""\r"\n' list --csv
+ends 0 ''                                          "$commas"                   'key\tvalue\n\t\na,b\t"""c""\r"\n' list --tsv
+ends 2 'btreekv: refused: position 0 is out of range' 'abc'                    ''                            list --csv
+ends 2 "error: the argument '--csv' cannot be used with '--tsv'" ''            ''                            list --csv --tsv
+ends 2 "error: the argument '--csv' cannot be used with '--tsv'" ''            ''                            build --csv --tsv
+ends 2 "error: the argument '--csv' cannot be used with '--strict'" ''         ''                            build --csv --strict
+for word in ndjson escape null; do
+    ends 2 "error: the argument '--csv' cannot be used with '--$word'" '' ''   build --sort --csv "--$word"
+    ends 2 "error: the argument '--tsv' cannot be used with '--$word'" '' ''   list --tsv "--$word"
+done
+ends 2 "error: the argument '--tsv' cannot be used with '--json'" ''           ''                            list --tsv --json
+printf 'k,v\na\n' > rows.csv
+ends 2 'btreekv: record 2 of rows.csv: not two fields of UTF-8' '' ''          build --csv rows.csv
+ends 2 'btreekv: input failed: .: Is a directory (os error 21)' '' ''          build --csv .
+
+# What Python's module for CSV writes is read as the same entries, and it reads the same entries of what is written.
+cat > tables.py <<'E'
+import csv, io, json, random, subprocess, sys
+def run(*words, given=b""):
+    done = subprocess.run([sys.argv[1], *words], input=given, capture_output=True)
+    if done.returncode or done.stderr:
+        sys.exit(f"tables: {words}: status {done.returncode}: {done.stderr}")
+    return done.stdout
+def text_of(rows, **how):
+    text = io.StringIO(newline="")
+    csv.writer(text, **how).writerows(rows)
+    return text.getvalue().encode()
+chance = random.Random(1180)
+parts = ['"', ",", "\t", "\n", "\r", "\r\n", "\\", " ", "a", "b", "\0", "#", ";", "\ufeff", "\u00e4", "\U0001d11e", '""', "'"]
+for _ in range(60):
+    texts = ["".join(chance.choices(parts, k=chance.randrange(5))) for _ in range(2 * chance.randrange(12))]
+    rows = [["key", "value"], *map(list, zip(texts[::2], texts[1::2]))]
+    entries = sorted(dict(rows[1:]).items(), key=lambda it: it[0].encode())
+    archive = run("build", "--ndjson", given="".join(json.dumps({"key": k, "value": v}) + "\n" for k, v in entries).encode())
+    for flag, mark in ("--csv", ","), ("--tsv", "\t"):
+        for how in ({"lineterminator": "\r\n"}, {"quoting": csv.QUOTE_ALL, "lineterminator": "\n"}):
+            if run("build", flag, given=text_of(rows, delimiter=mark, **how)) != archive:
+                sys.exit(f"tables: {flag}: other entries than {rows}")
+        written = run("list", flag, given=archive)
+        if [*csv.reader(io.StringIO(written.decode(), newline=""), delimiter=mark)] != [rows[0], *map(list, entries)]:
+            sys.exit(f"tables: {flag}: {written} of {entries}")
+        if b"\r" not in written and written != text_of([rows[0], *entries], delimiter=mark, lineterminator="\n"):
+            sys.exit(f"tables: {flag}: other quotes: {written}")
+        if run("build", flag, given=written) != archive:
+            sys.exit(f"tables: {flag}: another archive of {written}")
+E
+python3 tables.py "$program" 2> said || fail "$(cat said)"
+
 # typed files and others: the tree is the same, and a header of another type or version is refused
 untyped=$(archive_of 'a\t2\nb\t3\n' --untyped)
 [[ $sorted == "$(printf '%b' "$header" | od -An -v -t x1 | tr -d '\n' | sed 's/ /\\x/g')$untyped" ]] || fail "a typed file isn't the header and the archive"
@@ -167,12 +252,14 @@ ends 0 ''                                          'a\t2\nb\t3\n'              "
 ends 0 ''                                          'a\t2\nb\t3\n'              "$untyped"                    build --untyped --strict
 ends 0 ''                                          'b\t3\na\t2\n'              "$untyped"                    build --untyped --sort
 ends 0 ''                                          '{"key":"b","value":"3"}\n{"key":"a","value":"2"}\n' "$untyped" build --untyped --ndjson
+ends 0 ''                                          'k,v\nb,3\na,2\n'           "$untyped"                    build --untyped --csv
+ends 0 ''                                          "$untyped"                  'key\tvalue\na\t2\nb\t3\n'    list --tsv
 ends 0 ''                                          "$untyped"                  'a\t2\nb\t3\n'              list
 ends 0 ''                                          "$untyped"                  'ok 2 entries\n'              check --strict
 ends 0 ''                                          "$untyped"                  '3\n'                         get b
 foreign='rkyvbt\x01\x00\x10\x00\x00\x00[u32 -> u32 / 5]\x00\x00\x00\x00'$untyped
 later='rkyvbt\x02\x00'$untyped
-for words in list 'list --json' check 'check --strict' stat explain 'get a' 'range a b' 'prefix a'; do
+for words in list 'list --json' 'list --csv' check 'check --strict' stat explain 'get a' 'range a b' 'prefix a'; do
     read -ra words <<< "$words"
     ends 2 'btreekv: refused: the bytes are of type [u32 -> u32 / 5], not [text -> text / 5]' "$foreign" '' "${words[@]}"
     ends 2 'btreekv: refused: the type header has version 2, not 1' "$later" '' "${words[@]}"
@@ -302,6 +389,8 @@ done
 python3 -c 'import json; print(*(f"{k}\t{v}" for k, v in json.load(open("object")).items()), sep="\n")' | cmp -s - many || fail "20000 lines: another object"
 shuf --random-source=many many | "$program" build --sort | cmp -s - archive || fail "20000 lines: sorted otherwise"
 "$program" list --ndjson archive | "$program" build --ndjson | cmp -s - archive || fail "20000 lines: another archive of JSON lines"
+"$program" list --csv archive | "$program" build --csv | cmp -s - archive || fail "20000 lines: another archive of CSV"
+"$program" list --tsv archive | "$program" build --tsv | cmp -s - archive || fail "20000 lines: another archive of TSV"
 
 # A file with an error that the look-up doesn't meet, and that it meets
 cp archive damaged
@@ -701,7 +790,7 @@ leaves() {
     got=$(cat status)
     [[ $got == 141 && ! -s said ]] || fail "words ${*@Q}: a reader that goes away: status $got: $(cat said)"
 }
-for words in 'list large' 'list --ndjson large' 'list --json large' 'range 1 2 large' 'prefix 1 large' 'build million' 'diff none large'; do
+for words in 'list large' 'list --ndjson large' 'list --json large' 'list --csv large' 'range 1 2 large' 'prefix 1 large' 'build million' 'diff none large'; do
     read -ra words <<< "$words"
     leaves "${words[@]}"
 done

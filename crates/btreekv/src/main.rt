@@ -76,13 +76,16 @@ fn build_named<R: Reopen>(
     output: Option<File>,
 ) -> Result<u8, Ended> {
     match (build_lines(system, command, input, output), command) {
-        (Ok(status), Command::BuildFrom(_, _)) => Ok(status),
+        (Ok(status), Command::BuildFrom(_, _) | Command::BuildTable(_, _)) => Ok(status),
         (Ok(status), _) => {
             system.warn_of_returns(names.input, input);
             Ok(status)
         }
         (Err(ProgramFault::Line(number)), Command::BuildFrom(form, _)) => {
             Err(system.bad_record(names.input, number, *form))
+        }
+        (Err(ProgramFault::Line(number)), Command::BuildTable(_, _)) => {
+            Err(system.bad_row(names.input, number))
         }
         (Err(fault), _) => Err(system.fail_at(names, input, &fault)),
     }

@@ -253,6 +253,14 @@ impl<'a> System<'a> {
         Ended { status: FAILED }
     }
 
+    /// Writes the line of a record of a table that isn't two texts. Records are counted from 1, with the header.
+    pub fn bad_row(&self, name: Option<&str>, number: u64) -> Ended {
+        let rt = self.rt;
+        let of = Named(" of ", name);
+        let _ = eprintln!(rt; "btreekv: record {number}{of}: not two fields of UTF-8");
+        Ended { status: FAILED }
+    }
+
     /// Writes a warning if each line of an input ends with a carriage return.
     pub fn warn_of_returns<R: Reopen>(&self, name: Option<&str>, lines: &R) {
         let rt = self.rt;

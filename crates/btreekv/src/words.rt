@@ -2,6 +2,7 @@
 
 use btreearc_lines::heading::Heading;
 use btreekv_commands::command;
+use btreekv_commands::csv_records::Table;
 use btreekv_commands::forms::Form;
 use btreekv_commands::records::Records;
 use clap::{Arg, ArgAction, ArgMatches, Command, Error, value_parser};
@@ -20,13 +21,15 @@ const EXAMPLES: &str = "Examples:
 const BUILD_EXAMPLES: &str = "Examples:
   btreekv build --strict -o fruits fruits.lines
   sort -u words | sed 's/$/\\t1/' | btreekv build > words.archive
-  btreekv list --escape old | btreekv build --sort --escape -o new";
+  btreekv list --escape old | btreekv build --sort --escape -o new
+  btreekv build --csv -o prices prices.csv";
 
 /// Examples of `list`.
 const LIST_EXAMPLES: &str = "Examples:
   btreekv list fruits | head
   btreekv list --ndjson fruits | jq -r .value
-  btreekv list --null fruits | sort -z";
+  btreekv list --null fruits | sort -z
+  btreekv list --csv fruits > fruits.csv";
 
 /// Examples of `get`.
 const GET_EXAMPLES: &str = "Examples:
@@ -99,6 +102,27 @@ fn with_json_lines<'a>(alloc: Global, command: Command<'a>) -> Result<Command<'a
     command.arg(lines.conflicts_with("escape")?.conflicts_with("null")?)
 }
 
+/// Returns the flag of a table, which goes with no other form, nor with this flag.
+fn alone<'a>(table: Arg<'a>, other: &'a str) -> Result<Arg<'a>, AllocError> {
+    table
+        .conflicts_with("escape")?
+        .conflicts_with("null")?
+        .conflicts_with("ndjson")?
+        .conflicts_with(other)
+}
+
+/// Adds the flags of CSV and of the same with tabs, which don't go with this flag.
+fn with_tables<'a>(
+    alloc: Global,
+    command: Command<'a>,
+    help: &'a str,
+    other: &'a str,
+) -> Result<Command<'a>, AllocError> {
+    let csv = flag(alloc, "csv", help).conflicts_with("tsv")?;
+    let tsv = flag(alloc, "tsv", "the same with tabs in place of commas");
+    command.arg(alone(csv, other)?)?.arg(alone(tsv, other)?)
+}
+
 /// Returns the words of `build`.
 fn build<'a>(alloc: Global) -> Result<Command<'a>, AllocError> {
     let sort = flag(
@@ -126,7 +150,8 @@ fn build<'a>(alloc: Global) -> Result<Command<'a>, AllocError> {
         "untyped",
         "leave out the header with the type's name",
     );
-    Command::new(alloc, "build")
+    let tables = "read CSV of a header and records KEY,VALUE; sorted as by --sort";
+    let command = Command::new(alloc, "build")
         .about("write the archive of lines KEY TAB VALUE")
         .after_help(BUILD_EXAMPLES)
         .arg(sort.conflicts_with("strict")?)?
@@ -139,7 +164,8 @@ fn build<'a>(alloc: Global) -> Result<Command<'a>, AllocError> {
                 .conflicts_with("strict")?
                 .conflicts_with("escape")?
                 .conflicts_with("null")?,
-        )?
+        )?;
+    with_tables(alloc, command, tables, "strict")?
         .arg(output(alloc))?
         .arg(file(alloc))
 }
@@ -202,7 +228,9 @@ fn list<'a>(alloc: Global) -> Result<Command<'a>, AllocError> {
     let command = Command::new(alloc, "list")
         .about("write the lines of an archive")
         .after_help(LIST_EXAMPLES);
-    with_json_lines(alloc, with_forms(alloc, command)?)?
+    let command = with_json_lines(alloc, with_forms(alloc, command)?)?;
+    let tables = "write CSV: the header key,value, and a record an entry";
+    with_tables(alloc, command, tables, "json")?
         .arg(
             json.conflicts_with("escape")?
                 .conflicts_with("null")?
@@ -353,10 +381,23 @@ fn heading_of(matches: &ArgMatches<'_>) -> Heading {
     }
 }
 
+/// Returns how the table is that a command reads or writes, if it is one.
+fn table_of(matches: &ArgMatches<'_>) -> Option<Table> {
+    if matches.get_flag("csv") {
+        Some(Table::Csv)
+    } else if matches.get_flag("tsv") {
+        Some(Table::Tsv)
+    } else {
+        None
+    }
+}
+
 /// Returns the command of the words of `build`.
 fn build_command(matches: &ArgMatches<'_>) -> command::Command {
     let heading = heading_of(matches);
-    if matches.get_flag("strict") {
+    if let Some(table) = table_of(matches) {
+        command::Command::BuildTable(table, heading)
+    } else if matches.get_flag("strict") {
         command::Command::BuildStrict(heading)
     } else if matches.get_flag("escape") {
         command::Command::BuildFrom(Records::Escaped, heading)
@@ -402,7 +443,10 @@ pub fn command_of(
             Ok(command::Command::Prefix(text, form))
         }
         "list" if matches.get_flag("json") => Ok(command::Command::ListJson),
-        _ => Ok(command::Command::List(form)),
+        _ => match table_of(matches) {
+            Some(table) => Ok(command::Command::ListTable(table)),
+            None => Ok(command::Command::List(form)),
+        },
     }
 }
 

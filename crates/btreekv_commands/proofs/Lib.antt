@@ -21,6 +21,10 @@ pub mod SidecarBytes
 pub mod Sorted
 pub mod SortedChanges
 pub mod Splitting
+pub mod TablesOnce
+pub mod TablesParsed
+pub mod TablesRead
+pub mod TablesWritten
 pub mod Taken
 pub mod TextsWritten
 pub mod TopParts

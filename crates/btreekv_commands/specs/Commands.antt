@@ -17,6 +17,7 @@ use Rattle.btreearc_lines.specs.declared.fault.ProgramFault.TheVariants.{Line, R
 use Rattle.btreearc_lines.specs.Headings.{IsMisheaded}
 use Rattle.btreearc_lines.specs.declared.heading.Heading.{Heading}
 use Rattle.btreekv_commands.specs.Building.{last_values, IsBuilt, IsBuiltMap, IsUnbuilt, IsUnbuiltInOrder, IsUnbuiltMap}
+use Rattle.btreekv_commands.specs.CsvRecords.{AreTableEntries, IsBadRow, table_text}
 use Rattle.btreekv_commands.specs.Figures.{archive_figures, figures}
 use Rattle.btreekv_commands.specs.Forms.{text_in, value_line}
 use Rattle.btreekv_commands.specs.Json.{json_object}
@@ -24,9 +25,10 @@ use Rattle.btreekv_commands.specs.Lines.{Entry, AreLines, IsBadLine}
 use Rattle.btreekv_commands.specs.Opening.{texts, texts_name, IsInput, KeysIncrease, CountsStrict, RefusesArchive, RefusesStrictArchive}
 use Rattle.btreekv_commands.specs.Prefixes.{HasPrefix}
 use Rattle.btreekv_commands.specs.Records.{AreRecords, IsBadRecord}
+use Rattle.btreekv_commands.specs.declared.csv_records.Table.{Table}
 use Rattle.btreekv_commands.specs.declared.records.Records.{Records}
 use Rattle.btreekv_commands.specs.declared.command.Command.{Command}
-use Rattle.btreekv_commands.specs.declared.command.Command.TheVariants.{Build, BuildFrom, BuildStrict, BuildSorted, List as ListEntries}
+use Rattle.btreekv_commands.specs.declared.command.Command.TheVariants.{Build, BuildFrom, BuildStrict, BuildSorted, BuildTable, List as ListEntries, ListTable}
 use Rattle.btreekv_commands.specs.declared.command.Command.TheVariants.{Check, CheckStrict, Explain, Get, ListJson, Prefix, Range, Stat}
 
 -- the line of an archive of so many entries
@@ -58,9 +60,13 @@ Outputs (BuildSorted heading) input text status =
 Outputs (BuildFrom form heading) input text status =
     (status ≡ 0) × ((entries : List Entry) × AreRecords form input entries
     × IsBuiltMap heading text (last_values entries) × KeysIncrease (last_values entries))
+Outputs (BuildTable table heading) input text status =
+    (status ≡ 0) × ((entries : List Entry) × AreTableEntries table input entries
+    × IsBuiltMap heading text (last_values entries) × KeysIncrease (last_values entries))
 Outputs (ListEntries form) input text status = (status ≡ 0) × ((entries : List Entry) × IsInput input entries × (text ≡ text_in form entries))
 Outputs ListJson input text status =
     (status ≡ 0) × ((entries : List Entry) × IsInput input entries × (text ≡ json_object entries ++ 10 ∷ []))
+Outputs (ListTable table) input text status = (status ≡ 0) × ((entries : List Entry) × IsInput input entries × (text ≡ table_text table entries))
 Outputs Check input text status = (status ≡ 0) × ((entries : List Entry) × IsInput input entries × (text ≡ total (length entries)))
 Outputs CheckStrict input text status = (status ≡ 0) × ((count : ℕ) × CountsStrict input count × (text ≡ total count))
 Outputs Stat input text status =
@@ -94,6 +100,16 @@ FailsToBuildFrom form heading input (NotBuilt fault) =
 FailsToBuildFrom form heading input Memory = Unit {0}
 FailsToBuildFrom form heading input _ = ⊥
 
+-- why an archive isn't built of a table: the first bad record, or why its entries have no archive; or reading it failed, or there
+-- is no memory
+abbrev pub FailsToBuildTable : Table → Heading → List ℕ → ProgramFault → Type 0
+FailsToBuildTable table heading input (Line n) = IsBadRow table input n
+FailsToBuildTable table heading input (NotBuilt fault) =
+    (entries : List Entry) × AreTableEntries table input entries × IsUnbuiltMap heading (last_values entries) fault
+FailsToBuildTable table heading input InputFailed = Unit {0}
+FailsToBuildTable table heading input Memory = Unit {0}
+FailsToBuildTable table heading input _ = ⊥
+
 -- why an archive isn't read: another header comes first, or the first error of bytes that are none; or there is no memory
 abbrev pub FailsToRead : (List ℕ → Refusal → Type 0) → List ℕ → ProgramFault → Type 0
 FailsToRead Refuses input (Refused refusal) = Refuses input refusal
@@ -107,6 +123,7 @@ Fails (Build heading) input fault = FailsToBuild (IsUnbuilt heading) input fault
 Fails (BuildStrict heading) input fault = FailsToBuild (IsUnbuiltInOrder heading) input fault
 Fails (BuildSorted heading) input fault = FailsToBuild (λ entries. IsUnbuiltMap heading (last_values entries)) input fault
 Fails (BuildFrom form heading) input fault = FailsToBuildFrom form heading input fault
+Fails (BuildTable table heading) input fault = FailsToBuildTable table heading input fault
 Fails CheckStrict input fault = FailsToRead RefusesStrictArchive input fault
 Fails _ input fault = FailsToRead RefusesArchive input fault
 

@@ -1,6 +1,7 @@
 pub mod Building
 pub mod Changing
 pub mod Commands
+pub mod CsvRecords
 pub mod Escapes
 pub mod Figures
 pub mod Files

@@ -1,5 +1,6 @@
 //! The commands.
 
+use crate::csv_records::Table;
 use crate::forms::Form;
 use crate::records::Records;
 use btreearc_lines::heading::Heading;
@@ -15,10 +16,14 @@ pub enum Command {
     BuildSorted(Heading),
     /// Archive the entries of the input's records in increasing order of their keys. Of equal keys the last value counts.
     BuildFrom(Records, Heading),
+    /// Archive the entries of the input's table in increasing order of their keys. Of equal keys the last value counts.
+    BuildTable(Table, Heading),
     /// Write the entries of the input's archive.
     List(Form),
     /// Write the entries of the input's archive as a JSON object.
     ListJson,
+    /// Write the entries of the input's archive as a table.
+    ListTable(Table),
     /// Write how many entries the input's archive has.
     Check,
     /// Write how many entries the input's archive has, whose keys must increase.

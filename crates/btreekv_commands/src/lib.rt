@@ -5,6 +5,7 @@
 pub mod building;
 mod changes;
 pub mod command;
+pub mod csv_records;
 pub mod differences;
 mod entries;
 pub mod escapes;

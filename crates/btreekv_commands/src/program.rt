@@ -1,10 +1,11 @@
 //! The commands over a reader and a writer.
 ghost use Rattle.std.specs.Prelude.{◌≡◌, IfOk, IfErr, string_bytes};
 ghost use Rattle.btreekv_commands.specs.Commands.{Does, Fails, FailsToBuild, FailsToRead, Outputs, total};
-ghost use Rattle.btreekv_commands.specs.declared.command.Command.TheVariants.{Build, BuildFrom, BuildStrict, BuildSorted, List as ListEntries};
+ghost use Rattle.btreekv_commands.specs.declared.command.Command.TheVariants.{Build, BuildFrom, BuildStrict, BuildSorted, BuildTable, List as ListEntries, ListTable};
 ghost use Rattle.btreekv_commands.specs.declared.command.Command.TheVariants.{Check, CheckStrict, Explain, Get, ListJson, Prefix, Range, Stat};
 
 use crate::command::Command;
+use crate::csv_records::{Table, parse_table, table_of};
 use crate::entries::{check_order, count_lines};
 use crate::figures::figures_of;
 use crate::forms::{Form, push_value};
@@ -49,6 +50,15 @@ fn list_json(alloc: Global, archive: &[u8]) -> Result<Vec<u8>, ProgramFault>
         Ok(()) => Ok(text),
         Err(_) => Err(ProgramFault::Memory),
     }
+}
+
+/// Returns the table of the entries of an archive.
+fn list_table(alloc: Global, archive: &[u8], table: Table) -> Result<Vec<u8>, ProgramFault>
+    ensures ok { IfOk result (λ text. Outputs (ListTable table) archive.now text.items 0) }
+    ensures err { IfErr result (Fails (ListTable table) archive.now) }
+{
+    let map = open(archive)?;
+    table_of(alloc, table, map.iter())
 }
 
 /// Returns the line of an archive of so many entries.
@@ -220,6 +230,21 @@ fn build_from(
     building::sorted_archive(alloc, heading, entries)
 }
 
+/// Returns the archive of a table in increasing order of its keys.
+fn build_table(
+    alloc: Global,
+    table: Table,
+    heading: Heading,
+    text: &[u8],
+) -> Result<Vec<u8>, ProgramFault>
+    ensures ok { IfOk result (λ bytes.
+        Outputs (BuildTable table heading) text.now bytes.items 0) }
+    ensures err { IfErr result (Fails (BuildTable table heading) text.now) }
+{
+    let entries = parse_table(alloc, table, text)?;
+    building::sorted_archive(alloc, heading, entries)
+}
+
 /// Returns what a command writes of an input, and its status.
 fn output_of(alloc: Global, command: &Command, input: &[u8]) -> Result<(Vec<u8>, u8), ProgramFault>
     ensures ok { IfOk result (λ r. Outputs command.now input.now r.0.items r.1) }
@@ -230,8 +255,12 @@ fn output_of(alloc: Global, command: &Command, input: &[u8]) -> Result<(Vec<u8>,
         Command::BuildStrict(heading) => Ok((build_strict(alloc, *heading, input)?, 0)),
         Command::BuildSorted(heading) => Ok((build_sorted(alloc, *heading, input)?, 0)),
         Command::BuildFrom(form, heading) => { Ok((build_from(alloc, *form, *heading, input)?, 0)) }
+        Command::BuildTable(table, heading) => {
+            Ok((build_table(alloc, *table, *heading, input)?, 0))
+        }
         Command::List(form) => Ok((list(alloc, input, *form)?, 0)),
         Command::ListJson => Ok((list_json(alloc, input)?, 0)),
+        Command::ListTable(table) => Ok((list_table(alloc, input, *table)?, 0)),
         Command::Check => Ok((check(alloc, input)?.into_bytes(), 0)),
         Command::CheckStrict => Ok((check_strict(alloc, input)?.into_bytes(), 0)),
         Command::Stat => Ok((stat(alloc, input)?.into_bytes(), 0)),
