@@ -239,18 +239,18 @@ uint32_t rkyv_btree_build_arrays(uint32_t type, size_t len, const rkyv_btree_col
 uint32_t rkyv_btree_build_arrays_strict(uint32_t type, size_t len, const rkyv_btree_column *keys, const rkyv_btree_column *values,
                                         uint8_t *out, size_t out_len, size_t *archive_len, rkyv_btree_refusal *why);
 
-/* Writes the header of a typed file of a type at the start of `out`, and how many bytes it has. The archive is built right after it. The length is a
- * multiple of 16. RKYV_BTREE_NO_ROOM, and nothing is written but the length, if `out` is shorter. */
+/* Writes the header of a typed file of a type at the start of `out`, and how many bytes it has. The archive is built right after it. The
+ * length is a multiple of 16. RKYV_BTREE_NO_ROOM, and nothing is written but the length, if `out` is shorter. */
 uint32_t rkyv_btree_write_header(uint32_t type, uint8_t *out, size_t out_len, size_t *header_len);
 
-/* Tests that bytes begin with the header of a typed file of a type, and looks at nothing after it. The calls that open archives and look keys up
- * don't look at a header: they take typed files and untyped ones. RKYV_BTREE_NO_HEADER if the bytes begin with no header, as an untyped archive.
+/* Tests that bytes begin with the header of a typed file of a type, and looks at nothing after it. The calls that open archives and look
+ * keys up don't look at a header: they take typed files and untyped ones. RKYV_BTREE_NO_HEADER if the bytes begin with no header, as an untyped archive.
  * RKYV_BTREE_OTHER_VERSION if it has another version, which is `found`. RKYV_BTREE_OTHER_TYPE if it has the name of another type, which is
  * `found` bytes from position `at` on. */
 uint32_t rkyv_btree_check_header(uint32_t type, const uint8_t *data, size_t data_len, rkyv_btree_refusal *why);
 
-/* Writes the name of a type, as a header has it, as much of it as there is room for, and returns how many bytes the whole name has, or 0 if no type has
- * the number. It ends with a 0 if it fits. */
+/* Writes the name of a type, as a header has it, as much of it as there is room for, and returns how many bytes the whole name has, or 0
+ * if no type has the number. It ends with a 0 if it fits. */
 size_t rkyv_btree_type_name(uint32_t type, uint8_t *out, size_t out_len);
 
 /* Writes the text of a code, as much of it as there is room for, and returns how many bytes the whole text has. It ends with a 0 if

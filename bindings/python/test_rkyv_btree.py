@@ -620,6 +620,11 @@ class Maps(unittest.TestCase):
                         self.assertEqual(codes, [told(call) for call in self.calls(part, types, untyped=True)])
 
     def test_typed_files(self):
+        # What `btreearc build` writes of two lines: tools/run.sh has the same bytes.
+        zeros = bytes(4)
+        header = b"rkyvbt\1\0\x10\0\0\0[u32 -> u32 / 5]" + zeros
+        leaf = zeros + b"\7\0\0\0\x08\0\0\0" + 3 * zeros + b"\x0b\0\0\0\x0c\0\0\0" + 3 * zeros + b"\2\0\0\0"
+        self.assertEqual(build("u32", "u32", [(7, 11), (8, 12)]), header + leaf + b"\xd0\xff\xff\xff\2\0\0\0")
         with tempfile.TemporaryDirectory() as folder:
             path = pathlib.Path(folder) / "archive"
             path.write_bytes(build("text", "u32", [("a", 1)]))

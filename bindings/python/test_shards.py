@@ -87,12 +87,12 @@ class DataSets(Folder):
                     self.assertRegex(files[2 + number * len(suffixes) + suffixes.index(suffix)], f"^shards/0000{number}-[0-9a-f]{{64}}{suffix}$")
 
     def test_typed_files(self):
-        entries = ENTRIES["u64", "text"]
+        entries, place = ENTRIES["u64", "text"], rkyv_btree.shards._folder_of(self.folder)
         published = write_shards(entries, self.folder, "u64", "text", entries=300)
-        names = [name for name in self.files() if name.startswith("shards/") and not name.endswith(".top")]
+        names = [f"shards/{name}" for _, (name, _, _) in Shards(self.folder)._index]
         self.assertEqual(len(names), 4)
         for name in [*names, f"index/{published.index}"]:
-            data = pathlib.Path(self.folder, name).read_bytes()
+            data = place.read(name)
             self.assertEqual(data[:8], b"rkyvbt\1\0")
             self.assertIn(len(Map(data, "u64", "text", strict=True)), (4, 100, 300))
             with self.assertRaisesRegex(Error, r"^the bytes are of type \[u64 -> text / 5\], not \[u64 -> u64 / 5\]$"):
@@ -100,7 +100,7 @@ class DataSets(Folder):
         # A data set without headers is read too.
         with mock.patch("rkyv_btree.shards.build", functools.partial(build, untyped=True)):
             published = write_shards(entries, self.folder, "u64", "text", entries=300)
-        self.assertEqual(pathlib.Path(self.folder, "index", published.index).read_bytes()[:6].count(b"rkyvbt"), 0)
+        self.assertNotEqual(place.read(f"index/{published.index}")[:6], b"rkyvbt")
         with Shards(self.folder) as shards:
             self.compare(shards, entries)
 

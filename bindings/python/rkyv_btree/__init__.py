@@ -178,7 +178,8 @@ def _header_of(number: int) -> bytes:
 def _name_of(number: int) -> str:
     """Returns the name of a type, as a header has it."""
     name = ctypes.create_string_buffer(64)
-    return name.raw[: _lib.type_name(number, name, len(name))].decode()
+    _lib.type_name(number, name, len(name))
+    return name.value.decode()
 
 
 def _check_type(number: int, view: memoryview, address: int) -> None:
@@ -699,8 +700,8 @@ def _found(data: Any, number: int, key_type: str, value_type: str, key: Any, unt
 def contains(data: Any, key_type: Type, key: Key, untyped: bool = False) -> bool:
     """Returns whether a key is in bytes that nobody has validated, as the archive of a set. The lookup validates what it reads.
 
-    `data` and `untyped` are as of `find`. On the archive of a set whose keys increase that is what `key in Set(data, key_type)` returns. On other bytes False
-    doesn't mean that the key is absent. Raises Error for a fault in what the lookup reads.
+    `data` and `untyped` are as of `find`. On the archive of a set whose keys increase that is what `key in Set(data, key_type)` returns. On other
+    bytes False doesn't mean that the key is absent. Raises Error as `find` does.
 
         >>> contains(build_set("text", ["apple", "pear"]), "text", "pear")
         True
