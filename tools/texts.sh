@@ -97,6 +97,11 @@ ends 0 ''                                          "$fruit"                    '
 ends 0 ''                                          "$fruit"                    ''                            prefix abcd
 ends 0 ''                                          "$fruit"                    ''                            prefix c
 ends 0 ''                                          "$long"                     '\xc3\xa4\t\xf0\x9d\x84\x9e\n' prefix ä
+ends 0 ''                                          "$three"                    'apple\tred\n'                first
+ends 0 ''                                          "$unordered"                'b\t1\n'                    first
+ends 0 ''                                          "$long"                     '\xc3\xa4\t\xf0\x9d\x84\x9e\n' first
+ends 1 ''                                          "$empty"                    ''                            first
+ends 1 ''                                          "$empty"                    ''                            first --ndjson
 ends 0 ''                                          "$empty"                    "$(figures 0 0 0 0 0 0 0 0 0 0 8 32 40)" stat
 ends 0 ''                                          "$three"                    "$(figures 3 1 1 0 1 60 0 88 12 23 8 33 164)" stat
 ends 0 ''                                          "$empty"                    '{}\n'                        list --json
@@ -109,6 +114,7 @@ ends 0 ''                                          "$empty"                    "
 ends 2 'btreekv: refused: position 0 is out of range' ''                       ''                            explain
 ends 2 'btreekv: refused: position 0 is out of range' ''                       ''                            list
 ends 2 'btreekv: refused: position 0 is out of range' 'abc'                    ''                            get a
+ends 2 'btreekv: refused: position 0 is out of range' 'abc'                    ''                            first
 ends 2 'btreekv: input failed: absent: No such file or directory (os error 2)' '' ''                     list absent
 ends 2 'btreekv: input failed: .: Is a directory (os error 21)' '' ''                                    check .
 ends 2 "error: 'btreekv' requires a subcommand but one was not provided" ''    ''
@@ -132,6 +138,9 @@ ends 0 ''                                          "$nulled"                   '
 ends 0 ''                                          "$nulled"                   'c\nd\0'                     get --null b
 ends 0 ''                                          "$three"                    '{"key":"fig","value":"blue and green"}\n' range --ndjson b ofen
 ends 0 ''                                          "$three"                    '{"key":"pear","value":"yellow"}\n' prefix --ndjson p
+ends 0 ''                                          "$escaped"                  "$tabs"                       first --escape
+ends 0 ''                                          "$nulled"                   'a\te\0'                     first --null
+ends 0 ''                                          "$three"                    '{"key":"apple","value":"red"}\n' first --ndjson
 ends 0 ''                                          "$empty"                    ''                            list --ndjson
 ends 0 ''                                          'a\tb'                      "$(archive_of 'a\tb\n')"     build --sort --escape
 ends 0 ''                                          'b\t1\0a\t2\0b\t3'         "$sorted"                     build --sort --null
@@ -142,6 +151,7 @@ ends 2 'btreekv: entry 2: not KEY TAB VALUE with escapes' 'a\tb\0c'           ''
 ends 2 'error: the following required arguments were not provided:' ''        ''                            build --escape
 ends 2 "error: the argument '--escape' cannot be used with '--null'" ''       ''                            list --escape --null
 ends 2 "error: the argument '--json' cannot be used with '--ndjson'" ''       ''                            list --json --ndjson
+ends 2 "error: the argument '--escape' cannot be used with '--null'" ''       ''                            first --escape --null
 
 # JSON lines: those of list are read back, and others with two members that are strings
 ends 0 ''                                          ''                          "$empty"                      build --ndjson
@@ -172,7 +182,7 @@ ends 0 ''                                          "$untyped"                  '
 ends 0 ''                                          "$untyped"                  '3\n'                         get b
 foreign='rkyvbt\x01\x00\x10\x00\x00\x00[u32 -> u32 / 5]\x00\x00\x00\x00'$untyped
 later='rkyvbt\x02\x00'$untyped
-for words in list 'list --json' check 'check --strict' stat explain 'get a' 'range a b' 'prefix a'; do
+for words in list 'list --json' check 'check --strict' stat explain first 'get a' 'range a b' 'prefix a'; do
     read -ra words <<< "$words"
     ends 2 'btreekv: refused: the bytes are of type [u32 -> u32 / 5], not [text -> text / 5]' "$foreign" '' "${words[@]}"
     ends 2 'btreekv: refused: the type header has version 2, not 1' "$later" '' "${words[@]}"
@@ -184,7 +194,7 @@ ends 0 ''                                          'a\tb\r\nc\td\n'            "
 
 # the version, and help with examples
 ends 0 ''                                          ''                          'btreekv 0.1.0\n'             --version
-for command in '' build list get; do
+for command in '' build list first get; do
     "$program" $command --help > written 2> said && grep -q '^Examples:$' written && [[ ! -s said ]] || fail "help of '$command': $(cat said)"
 done
 
@@ -208,14 +218,23 @@ ends 0 '' '' 'apple\tred\nfig\tblue and green\n' range apple fig archive
 ends 0 '' '' 'fig\tblue and green\n' prefix f archive
 ends 0 '' '' '{"key":"pear","value":"yellow"}\n' prefix --ndjson p archive
 ends 0 '' '' '' range z a archive
+ends 0 '' '' 'apple\tred\n' first archive
+ends 0 '' '' '{"key":"apple","value":"red"}\n' first --ndjson archive
+ends 0 'btreekv: 192 of 164 bytes read' '' 'apple\tred\n' first --stats archive
+ends 0 'btreekv: 164 of 164 bytes read' '' 'apple\tred\n' first --stats --validate archive
+ends 0 'btreekv: 164 of 164 bytes read' "$three" 'apple\tred\n' first --stats
 ends 0 'btreekv: 164 of 164 bytes read' '' 'fig\tblue and green\n' range --stats --validate b ofen archive
 ends 0 'btreekv: 164 of 164 bytes read' "$three" 'fig\tblue and green\n' prefix --stats f
+ends 2 'btreekv: refused: short: position 0 is out of range' '' '' first short
 ends 2 'btreekv: refused: short: position 0 is out of range' '' '' range a z short
 ends 2 'btreekv: refused: short: position 0 is out of range' '' '' prefix a short
+ends 2 'btreekv: input failed: absent: No such file or directory (os error 2)' '' '' first absent
+ends 2 'btreekv: input failed: .: Is a directory (os error 21)' '' '' first .
 ends 2 'btreekv: input failed: absent: No such file or directory (os error 2)' '' '' range a z absent
 ends 2 'btreekv: input failed: .: Is a directory (os error 21)' '' '' prefix a .
 truncate -s 4294967296 huge
 ends 2 'btreekv: refused: huge: buffer is longer than 4294967295 bytes' '' '' get pear huge
+ends 2 'btreekv: refused: huge: buffer is longer than 4294967295 bytes' '' '' first huge
 ends 2 'btreekv: refused: huge: buffer is longer than 4294967295 bytes' '' '' prefix pear huge
 rm huge
 
@@ -244,6 +263,9 @@ alike() {
 }
 printf '%b' "$unordered" > unordered
 printf '%b' "$empty" > none
+ends 0 '' '' 'b\t1\n' first unordered
+ends 1 'btreekv: 8 of 40 bytes read' '' '' first --stats none
+ends 1 'btreekv: 40 of 40 bytes read' '' '' first --stats --validate none
 for key in '' a b c; do
     alike "$key" unordered
     alike --json "$key" none
@@ -264,6 +286,8 @@ shuf --random-source=many many > mixed
 cut -f 1 mixed | "$program" get --keys-from - archive | cmp -s - mixed || fail "20000 lines: other lines of all keys"
 [[ $("$program" range 'key 019999' z archive | wc -l) == 2 ]] || fail "20000 lines: another range"
 [[ $("$program" prefix 'key 0123' archive | wc -l) == 100 ]] || fail "20000 lines: another prefix"
+[[ $("$program" first archive) == $'key 000001\tvalue of key 000001' ]] || fail "20000 lines: another first entry"
+"$program" first wide | cmp -s - <("$program" list wide | head -n 1) || fail "long texts: another first entry"
 "$program" explain archive > explained || fail "20000 lines: not explained"
 # The figures are those of the lines of explain.
 cat > counted.py <<'E'
@@ -313,6 +337,15 @@ ends 0 '' '' 'key 012345\tvalue of key 012345\nkey 012346\tvalue of key 012346\n
 ends 2 'btreekv: refused: damaged: entry at position 184 is bad' '' '' range --validate 'key 012345' 'key 012346' damaged
 ends 2 'btreekv: refused: damaged: entry at position 184 is bad' '' '' range 'key 000001' 'key 012346' damaged
 ends 2 'btreekv: refused: damaged: entry at position 184 is bad' '' '' prefix 'key 00000' damaged
+ends 2 'btreekv: refused: damaged: entry at position 184 is bad' '' '' first damaged
+python3 -c '
+held = open("archive", "rb").read()
+at = held.rindex(b"value of key 020000")
+open("damaged", "wb").write(held[:at] + b"\xff" + held[at + 1 :])
+'
+ends 0 '' '' 'key 000001\tvalue of key 000001\n' first damaged
+"$program" first --validate damaged > written 2> said && fail "a damaged value: not refused"
+[[ $(cat said) == 'btreekv: refused: damaged: entry at position '*' is bad' && ! -s written ]] || fail "a damaged value: $(cat said)"
 
 # Any bytes are looked up in, or refused. Where all are valid the values are alike, and so are the lines of a range and of a prefix if the
 # keys increase.
@@ -330,16 +363,16 @@ for _ in range(300):
     open("damaged", "wb").write(held)
     key = f"key {chance.randrange(217):06}"
     is_strict = subprocess.run([program, "check", "--strict", "damaged"], capture_output=True).returncode == 0
-    for command, *words in (["get", key], ["range", key, "key 0001"], ["prefix", key[:-1]]):
+    for command, *words in (["get", key], ["range", key, "key 0001"], ["prefix", key[:-1]], ["first"]):
         parts, whole = (subprocess.run([program, command, *flags, *words, "damaged"], capture_output=True) for flags in ([], ["--validate"]))
         kinds.add((command, parts.returncode, whole.returncode))
         is_line = parts.stderr.startswith(b"btreekv: refused: damaged: ") and parts.stderr.count(b"\n") == 1
         is_refused = parts.returncode == 2 and not parts.stdout and is_line
         if not is_refused and (parts.returncode not in (0, 1) or parts.stderr):
             sys.exit(f"damaged: {command}: status {parts.returncode}: {parts.stderr}")
-        if whole.returncode != 2 and (is_strict or command == "get") and (parts.returncode, parts.stdout) != (whole.returncode, whole.stdout):
+        if whole.returncode != 2 and (is_strict or command in ("get", "first")) and (parts.returncode, parts.stdout) != (whole.returncode, whole.stdout):
             sys.exit(f"damaged: {command} {words}: {parts.stdout} and {whole.stdout}")
-for command in ("get", "range", "prefix"):
+for command in ("get", "range", "prefix", "first"):
     if not {(command, 0, 0), (command, 0, 2), (command, 2, 2)} <= kinds:
         sys.exit(f"damaged: {command}: only {kinds}")
 E
@@ -369,6 +402,9 @@ resident build --strict <(cat million) 2>> said | cmp -s - large || fail "a mill
 [[ $(resident get --stats 1500000 large 2> said) == 'value of 1500000' ]] || fail "a million lines: another value: $(cat said)"
 read -r _ count of size words < said
 [[ $of == of && $size == "$(stat -c %s large)" && $words == 'bytes read' && $count -lt 4096 ]] || fail "a million lines: a look-up: $(cat said)"
+[[ $(resident first --stats large 2> said) == $'1000000\tvalue of 1000000' ]] || fail "a million lines: another first entry: $(cat said)"
+read -r _ count of size words < said
+[[ $of == of && $words == 'bytes read' && $count -lt 4096 ]] || fail "a million lines: the first entry: $(cat said)"
 cmp -s <(resident range --stats 1500000 1500099 large 2> said) <(sed -n '500001,500100p' million) || fail "a million lines: another range: $(cat said)"
 read -r _ count of size words < said
 [[ $of == of && $words == 'bytes read' && $count -lt 32768 ]] || fail "a million lines: a range: $(cat said)"
@@ -507,7 +543,7 @@ for name in foreign later; do
     why='the type header has version 2, not 1'
     [[ $name == later ]] || why='the bytes are of type [u32 -> u32 / 5], not [text -> text / 5]'
     for words in "get a $name" "get --validate a $name" "get --keys-from keys $name" "update $name changes" "merge $name typed" "merge typed $name" \
-        "diff $name typed" "diff typed $name" "top 1 $name"; do
+        "diff $name typed" "diff typed $name" "top 1 $name" "first $name" "first --validate $name"; do
         read -ra words <<< "$words"
         refuses "btreekv: refused: $name: $why" '' "${words[@]}"
     done
@@ -614,6 +650,7 @@ same 'btreekv: input is output: both' both list both
 same 'btreekv: input is output: both' twin list both
 same 'btreekv: input is output: twin' both check twin
 same 'btreekv: input is output: both' both get b both
+same 'btreekv: input is output: both' both first both
 same 'btreekv: input is output: both' both get --keys-from keys both
 same 'btreekv: input is output: both' both get --validate b both
 same 'btreekv: input is output: both' both top 1 both

@@ -225,7 +225,7 @@ fn status(system: &System<'_>) -> Result<u8, Ended> {
         "diff" => archives::diff(system, matches),
         "top" => archives::top(system, matches),
         "get" => lookups::get(system, matches),
-        "range" | "prefix" => ranges::run(system, name, matches),
+        "first" | "range" | "prefix" => ranges::run(system, name, matches),
         _ => one_file(system, name, matches),
     }
 }

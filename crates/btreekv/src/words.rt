@@ -28,6 +28,11 @@ const LIST_EXAMPLES: &str = "Examples:
   btreekv list --ndjson fruits | jq -r .value
   btreekv list --null fruits | sort -z";
 
+/// Examples of `first`.
+const FIRST_EXAMPLES: &str = "Examples:
+  btreekv first fruits
+  btreekv first --ndjson fruits";
+
 /// Examples of `get`.
 const GET_EXAMPLES: &str = "Examples:
   btreekv get fig fruits
@@ -244,6 +249,14 @@ fn with_reading<'a>(alloc: Global, command: Command<'a>) -> Result<Command<'a>, 
         ))
 }
 
+/// Returns the words of `first`.
+fn first<'a>(alloc: Global) -> Result<Command<'a>, AllocError> {
+    let command = Command::new(alloc, "first")
+        .about("write the line of the first entry, which has the least key if the keys increase")
+        .after_help(FIRST_EXAMPLES);
+    with_reading(alloc, with_json_lines(alloc, with_forms(alloc, command)?)?)?.arg(file(alloc))
+}
+
 /// Returns the words of `get`.
 fn get<'a>(alloc: Global) -> Result<Command<'a>, AllocError> {
     let keys = Arg::new(alloc, "keys-from")
@@ -306,6 +319,7 @@ fn with_readers<'a>(alloc: Global, command: Command<'a>) -> Result<Command<'a>, 
         .subcommand(check(alloc)?)?
         .subcommand(stat(alloc)?)?
         .subcommand(explain(alloc)?)?
+        .subcommand(first(alloc)?)?
         .subcommand(get(alloc)?)?
         .subcommand(range(alloc)?)?
         .subcommand(prefix(alloc)?)
@@ -388,6 +402,7 @@ pub fn command_of(
         }
         "stat" => Ok(command::Command::Stat),
         "explain" => Ok(command::Command::Explain),
+        "first" => Ok(command::Command::First(form)),
         "get" => {
             let key = owned(alloc, matches, "KEY")?;
             Ok(command::Command::Get(key, form))

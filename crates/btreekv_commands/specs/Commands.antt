@@ -18,7 +18,8 @@ use Rattle.btreearc_lines.specs.Headings.{IsMisheaded}
 use Rattle.btreearc_lines.specs.declared.heading.Heading.{Heading}
 use Rattle.btreekv_commands.specs.Building.{last_values, IsBuilt, IsBuiltMap, IsUnbuilt, IsUnbuiltInOrder, IsUnbuiltMap}
 use Rattle.btreekv_commands.specs.Figures.{archive_figures, figures}
-use Rattle.btreekv_commands.specs.Forms.{text_in, value_line}
+use Rattle.btreekv_commands.specs.Forms.{entry_line, text_in, value_line}
+use Rattle.btreekv_commands.specs.declared.forms.Form.{Form}
 use Rattle.btreekv_commands.specs.Json.{json_object}
 use Rattle.btreekv_commands.specs.Lines.{Entry, AreLines, IsBadLine}
 use Rattle.btreekv_commands.specs.Opening.{texts, texts_name, IsInput, KeysIncrease, CountsStrict, RefusesArchive, RefusesStrictArchive}
@@ -27,7 +28,7 @@ use Rattle.btreekv_commands.specs.Records.{AreRecords, IsBadRecord}
 use Rattle.btreekv_commands.specs.declared.records.Records.{Records}
 use Rattle.btreekv_commands.specs.declared.command.Command.{Command}
 use Rattle.btreekv_commands.specs.declared.command.Command.TheVariants.{Build, BuildFrom, BuildStrict, BuildSorted, List as ListEntries}
-use Rattle.btreekv_commands.specs.declared.command.Command.TheVariants.{Check, CheckStrict, Explain, Get, ListJson, Prefix, Range, Stat}
+use Rattle.btreekv_commands.specs.declared.command.Command.TheVariants.{Check, CheckStrict, Explain, First, Get, ListJson, Prefix, Range, Stat}
 
 -- the line of an archive of so many entries
 abbrev pub total : ℕ → List ℕ
@@ -41,6 +42,11 @@ found_in_archive b key = found_at text_kind text_kind 5 b (own_at texts b) (slic
 abbrev pub FoundValue : (List ℕ → List ℕ) → Option Entry → List ℕ → ℕ → Type 0
 FoundValue written None text status = (text ≡ []) × (status ≡ 1)
 FoundValue written (Some e) text status = (text ≡ written e.1) × (status ≡ 0)
+
+-- the first entry of a list, as it is written, with status 0; or nothing, with status 1
+abbrev pub FirstEntry : Form → List Entry → List ℕ → ℕ → Type 0
+FirstEntry form [] text status = (text ≡ []) × (status ≡ 1)
+FirstEntry form (e ∷ es) text status = (text ≡ entry_line form e) × (status ≡ 0)
 
 -- these entries of a list are a run of it, and those from the key `low` to the key `high`
 pub record IsBetween (low high : List ℕ) (entries within : List Entry) : Type 0 where
@@ -67,6 +73,7 @@ Outputs Stat input text status =
     (status ≡ 0) × ((entries : List Entry) × (is : IsInput input entries)
     × (text ≡ figures (length entries) (archive_figures input entries is.1) (length input)))
 Outputs Explain input text status = (status ≡ 0) × ((entries : List Entry) × IsInput input entries)
+Outputs (First form) input text status = (entries : List Entry) × IsInput input entries × FirstEntry form entries text status
 Outputs (Get key form) input text status =
     ((entries : List Entry) × IsInput input entries)
     × FoundValue (value_line form) (found_in_archive input (string_bytes key)) text status

@@ -27,6 +27,8 @@ pub enum Command {
     Stat,
     /// Write the bytes of the input's archive with their meaning.
     Explain,
+    /// Write the first entry.
+    First(Form),
     /// Write the value of this key.
     Get(String, Form),
     /// Write the entries of the keys from the first to the second, both included.
