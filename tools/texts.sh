@@ -182,7 +182,7 @@ ends 0 ''                                          "$untyped"                  '
 ends 0 ''                                          "$untyped"                  '3\n'                         get b
 foreign='rkyvbt\x01\x00\x10\x00\x00\x00[u32 -> u32 / 5]\x00\x00\x00\x00'$untyped
 later='rkyvbt\x02\x00'$untyped
-for words in list 'list --json' check 'check --strict' stat explain first 'get a' 'range a b' 'prefix a'; do
+for words in list 'list --json' check 'check --strict' stat explain first 'get a' 'range a b' 'prefix a' 'set a b'; do
     read -ra words <<< "$words"
     ends 2 'btreekv: refused: the bytes are of type [u32 -> u32 / 5], not [text -> text / 5]' "$foreign" '' "${words[@]}"
     ends 2 'btreekv: refused: the type header has version 2, not 1' "$later" '' "${words[@]}"
@@ -194,7 +194,7 @@ ends 0 ''                                          'a\tb\r\nc\td\n'            "
 
 # the version, and help with examples
 ends 0 ''                                          ''                          'btreekv 0.1.0\n'             --version
-for command in '' build list first get; do
+for command in '' build set list first get; do
     "$program" $command --help > written 2> said && grep -q '^Examples:$' written && [[ ! -s said ]] || fail "help of '$command': $(cat said)"
 done
 
@@ -493,6 +493,25 @@ printf '\n' | "$program" update old | "$program" list | cmp -s - <(printf 'a\t1\
 printf 'a\t1\nb\t3\nc\t4\n' | "$program" build > new
 "$program" diff old new | cmp -s - <(printf '\nb\t3\nc\t4\n') || fail "diff: other lines"
 
+# A case of an entry that is set, as an update by its line sets it: the lines of the archive with escapes, the key and the value.
+sets() {
+    printf '%b' "$1" | "$program" build --strict > old
+    printf '%s\t%s\n' "$2" "$3" | "$program" update old > expected
+    "$program" set "${@:2}" old > written 2> said || fail "set ${*:2}: $(cat said)"
+    cmp -s written expected && [[ ! -s said ]] || fail "set ${*:2}: another archive"
+    "$program" set "${@:2}" < old | cmp -s - expected || fail "set ${*:2}: another archive of standard input"
+}
+sets '' a 1
+for key in fig banana a zoo '' -k; do
+    sets "$fruits" "$key" blue
+    sets "$fruits" "$key" ''
+    sets "$fruits" "$key" --value
+done
+[[ $("$program" set $'a\tb' $'c\nd\\e' none | od -An -v -t x1 | tr -d '\n' | sed 's/ /\\x/g') == "$escaped" ]] || fail "set: another tab or line feed"
+"$program" set 'key 012345' other archive -o changed || fail "20000 lines: not set"
+"$program" list changed | cmp -s - <(sed 's/^\(key 012345\t\).*/\1other/' many) || fail "20000 lines: set otherwise"
+printf '\tv\na\t1\nb\t2\n' | "$program" build > old
+
 # A case of an error: the message, standard input with escapes, and the words. Nothing is written.
 refuses() {
     local got=0
@@ -513,12 +532,16 @@ printf 'b\xff\n' > lines
 refuses 'btreekv: line 1 of lines: byte 2 is not UTF-8' '' update old lines
 refuses 'btreekv: refused: unsorted: entry 1 is out of order' '' update unsorted
 refuses 'btreekv: refused: short: position 0 is out of range' '' update short
+refuses 'btreekv: refused: unsorted: entry 1 is out of order' '' set a b unsorted
+refuses 'btreekv: refused: short: position 0 is out of range' '' set a b short
+refuses 'btreekv: refused: position 0 is out of range' 'abc' set a b
+refuses 'error: the following required arguments were not provided:' '' set a
 refuses 'btreekv: refused: unsorted: entry 1 is out of order' '' diff old unsorted
 refuses 'btreekv: refused: unsorted: entry 1 is out of order' '' diff unsorted short
 refuses 'btreekv: refused: unsorted: entry 1 is out of order' '' merge old new unsorted short
 refuses 'btreekv: refused: short: position 0 is out of range' '' merge short unsorted
 refuses 'btreekv: refused: unsorted: entry 1 is out of order' '' merge old unsorted
-for words in 'merge old absent' 'update absent' 'update old absent' 'diff absent old'; do
+for words in 'merge old absent' 'update absent' 'update old absent' 'set a b absent' 'diff absent old'; do
     read -ra words <<< "$words"
     refuses 'btreekv: input failed: absent: No such file or directory (os error 2)' '' "${words[@]}"
 done
@@ -532,10 +555,12 @@ printf '%b' "$later" > later
 printf 'zebra\tblack\n' > changes
 cat old.lines changes | "$program" build --sort --untyped > expected
 "$program" update bare changes | cmp -s - expected || fail "update of an untyped file: another one"
+"$program" set zebra black bare | cmp -s - expected || fail "set of an untyped file: another one"
 "$program" build changes > more
 "$program" merge bare more | cmp -s - expected || fail "merge of an untyped file: another one"
 cat old.lines changes | "$program" build --sort > expected
 "$program" update typed changes | cmp -s - expected || fail "update of a typed file: another one"
+"$program" set zebra black typed | cmp -s - expected || fail "set of a typed file: another one"
 "$program" build --untyped changes > more
 "$program" merge typed more | cmp -s - expected || fail "merge of a typed file: another one"
 "$program" diff bare typed | cmp -s - /dev/null || fail "diff of a typed file: other lines"
@@ -543,7 +568,7 @@ for name in foreign later; do
     why='the type header has version 2, not 1'
     [[ $name == later ]] || why='the bytes are of type [u32 -> u32 / 5], not [text -> text / 5]'
     for words in "get a $name" "get --validate a $name" "get --keys-from keys $name" "update $name changes" "merge $name typed" "merge typed $name" \
-        "diff $name typed" "diff typed $name" "top 1 $name" "first $name" "first --validate $name"; do
+        "diff $name typed" "diff typed $name" "top 1 $name" "first $name" "first --validate $name" "set a b $name"; do
         read -ra words <<< "$words"
         refuses "btreekv: refused: $name: $why" '' "${words[@]}"
     done
@@ -616,12 +641,15 @@ cmp -s files/new archive && [[ $(stat -c %a files/new) == 640 ]] || fail "-o: an
 "$program" list files/out > listed
 "$program" build --sort listed -o listed && cmp -s listed files/out || fail "-o: lines that are replaced by their archive"
 ln -s out files/link
+cp files/out files/set && "$program" set a b files/set -o files/set && [[ $("$program" get a files/set) == b ]] || fail "-o: an archive that is set"
+rm files/set
 "$program" build many -o files/link && [[ -L files/link ]] && cmp -s files/out archive || fail "-o: a link"
 "$program" build many -o /dev/stdout | cat | cmp -s - archive || fail "-o: a pipe"
 refuses 'btreekv: line 1: not KEY TAB VALUE' 'no entry\n' build -o files/out
 refuses 'btreekv: not built: entry 1 is out of order' 'b\t1\na\t1\n' build --strict -o files/out
 refuses 'btreekv: line 2: out of order' 'b\na\n' update archive -o files/out
 refuses 'btreekv: output failed: absent/out: No such file or directory (os error 2)' '' update archive -o absent/out
+refuses 'btreekv: output failed: absent/out: No such file or directory (os error 2)' '' set a b archive -o absent/out
 refuses 'btreekv: output failed: files: Is a directory (os error 21)' '' build -o files
 if [[ $(id -u) != 0 ]]; then
     chmod 500 files
@@ -651,6 +679,7 @@ same 'btreekv: input is output: both' twin list both
 same 'btreekv: input is output: twin' both check twin
 same 'btreekv: input is output: both' both get b both
 same 'btreekv: input is output: both' both first both
+same 'btreekv: input is output: both' both set b 2 both
 same 'btreekv: input is output: both' both get --keys-from keys both
 same 'btreekv: input is output: both' both get --validate b both
 same 'btreekv: input is output: both' both top 1 both
@@ -661,6 +690,7 @@ same 'btreekv: input is output: both.lines' both.lines build --sort both.lines
 same 'btreekv: input is output: both.lines' both.lines update both both.lines
 same 'btreekv: input is output: both.lines' both.lines get --keys-from both.lines first
 same 'btreekv: input is output' both list < both
+same 'btreekv: input is output' both set b 2 < both
 same 'btreekv: input is output' both.lines build < both.lines
 "$program" list both > /dev/stdout | cmp -s - both.lines || fail "a pipe is taken for an input"
 "$program" update both both.lines -o both >> both 2> said && cmp -s both kept || fail "an input that -o names: $(cat said)"

@@ -221,6 +221,7 @@ fn status(system: &System<'_>) -> Result<u8, Ended> {
     }
     match name {
         "update" => archives::update(system, matches),
+        "set" => archives::set(system, matches),
         "merge" => archives::merge(system, matches),
         "diff" => archives::diff(system, matches),
         "top" => archives::top(system, matches),

@@ -22,6 +22,11 @@ const BUILD_EXAMPLES: &str = "Examples:
   sort -u words | sed 's/$/\\t1/' | btreekv build > words.archive
   btreekv list --escape old | btreekv build --sort --escape -o new";
 
+/// Examples of `set`.
+const SET_EXAMPLES: &str = "Examples:
+  btreekv set fig green -o fruits fruits
+  btreekv set fig green fruits > changed";
+
 /// Examples of `list`.
 const LIST_EXAMPLES: &str = "Examples:
   btreekv list fruits | head
@@ -167,6 +172,17 @@ fn update<'a>(alloc: Global) -> Result<Command<'a>, AllocError> {
         .arg(changes)
 }
 
+/// Returns the words of `set`.
+fn set<'a>(alloc: Global) -> Result<Command<'a>, AllocError> {
+    Command::new(alloc, "set")
+        .about("write an archive with the value of one key, which it may lack")
+        .after_help(SET_EXAMPLES)
+        .arg(output(alloc))?
+        .arg(word(alloc, "KEY"))?
+        .arg(word(alloc, "VALUE"))?
+        .arg(file(alloc))
+}
+
 /// Returns the words of `merge`.
 fn merge<'a>(alloc: Global) -> Result<Command<'a>, AllocError> {
     let others = required(
@@ -307,6 +323,7 @@ fn with_makers<'a>(alloc: Global, command: Command<'a>) -> Result<Command<'a>, A
     command
         .subcommand(build(alloc)?)?
         .subcommand(update(alloc)?)?
+        .subcommand(set(alloc)?)?
         .subcommand(merge(alloc)?)?
         .subcommand(diff(alloc)?)?
         .subcommand(top(alloc)?)
@@ -424,7 +441,7 @@ pub fn command_of(
 /// Returns the file that a command is to write, if it isn't standard output.
 pub fn output_of<'a>(name: &str, matches: &ArgMatches<'a>) -> Option<&'a str> {
     match name {
-        "build" | "update" | "merge" | "top" => matches.get_str("OUTPUT"),
+        "build" | "update" | "set" | "merge" | "top" => matches.get_str("OUTPUT"),
         _ => None,
     }
 }

@@ -17,6 +17,7 @@ pub mod Prefixed
 pub mod Ranging
 pub mod Recorded
 pub mod RoundTrip
+pub mod SetEntries
 pub mod SidecarBytes
 pub mod Sorted
 pub mod SortedChanges
