@@ -169,6 +169,27 @@ ends 2 'btreekv: entry 1: not a JSON object of key and value' '{"key":"\\ud834",
 ends 2 'btreekv: entry 1: not a JSON object of key and value' '{"key":"\xff","value":"b"}\n'               ''  build --ndjson
 ends 2 "error: the argument '--strict' cannot be used with '--ndjson'" '' ''                                    build --strict --ndjson
 
+# JSON objects: one that list writes is read back if its keys increase, and of equal keys the last value counts
+no_object='btreekv: input is no JSON object of strings'
+ends 0 ''                                          '{}'                        "$empty"                      build --json
+ends 0 ''                                          '{"apple":"red","fig":"blue and green","pear":"yellow"}\n' "$three" build --json
+ends 0 ''                                          ' { "b" : "3",\n"\\u0061":\t"2" }\r\n' "$sorted"        build --json
+ends 0 ''                                          '{"b":"1","a":"2","b":"3"}\n' "$sorted"                   build --json
+ends 0 ''                                          '{"b":1,"a":"2","b":"3"}'   "$sorted"                     build --json
+ends 0 ''                                          '{"a\\tb":"c\\nd\\\\e"}'   "$escaped"                   build --json
+ends 0 ''                                          '{"\\ud834\\udd1e":"\xc3\xa4"}' "$(archive_of '\xf0\x9d\x84\x9e\t\xc3\xa4\n')" build --json
+for text in '' '[]' '"a"' 'null' '{"a":1}' '{"a":"b","c":{}}' '{"a":"b"' '{"a":"b"}{}' '{a:"b"}' '{"\\ud834":"b"}' '{"a":"\xff"}'; do
+    ends 2 "$no_object" "$text" '' build --json
+done
+ends 2 "error: the argument '--json' cannot be used with '--strict'" ''        ''                            build --json --strict
+ends 2 "error: the argument '--json' cannot be used with '--ndjson'" ''        ''                            build --json --ndjson
+ends 2 "error: the argument '--json' cannot be used with '--escape'" ''        ''                            build --json --sort --escape
+printf '%s' '{"b":"1","a":"2","b":"3"}' > object
+printf '[]' > array
+ends 0 ''                                          ''                          "$sorted"                     build --json object
+ends 2 "$no_object: array"                         ''                          ''                            build --json array
+ends 2 'btreekv: input failed: absent: No such file or directory (os error 2)' '' ''                           build --json absent
+
 # typed files and others: the tree is the same, and a header of another type or version is refused
 untyped=$(archive_of 'a\t2\nb\t3\n' --untyped)
 [[ $sorted == "$(printf '%b' "$header" | od -An -v -t x1 | tr -d '\n' | sed 's/ /\\x/g')$untyped" ]] || fail "a typed file isn't the header and the archive"
@@ -177,6 +198,7 @@ ends 0 ''                                          'a\t2\nb\t3\n'              "
 ends 0 ''                                          'a\t2\nb\t3\n'              "$untyped"                    build --untyped --strict
 ends 0 ''                                          'b\t3\na\t2\n'              "$untyped"                    build --untyped --sort
 ends 0 ''                                          '{"key":"b","value":"3"}\n{"key":"a","value":"2"}\n' "$untyped" build --untyped --ndjson
+ends 0 ''                                          '{"b":"3","a":"2"}'         "$untyped"                    build --untyped --json
 ends 0 ''                                          "$untyped"                  'a\t2\nb\t3\n'              list
 ends 0 ''                                          "$untyped"                  'ok 2 entries\n'              check --strict
 ends 0 ''                                          "$untyped"                  '3\n'                         get b
@@ -325,6 +347,7 @@ done
 "$program" list --json archive > object
 python3 -c 'import json; print(*(f"{k}\t{v}" for k, v in json.load(open("object")).items()), sep="\n")' | cmp -s - many || fail "20000 lines: another object"
 shuf --random-source=many many | "$program" build --sort | cmp -s - archive || fail "20000 lines: sorted otherwise"
+"$program" build --json object | cmp -s - archive || fail "20000 lines: another archive of the object"
 "$program" list --ndjson archive | "$program" build --ndjson | cmp -s - archive || fail "20000 lines: another archive of JSON lines"
 
 # A file with an error that the look-up doesn't meet, and that it meets
@@ -650,6 +673,7 @@ refuses 'btreekv: not built: entry 1 is out of order' 'b\t1\na\t1\n' build --str
 refuses 'btreekv: line 2: out of order' 'b\na\n' update archive -o files/out
 refuses 'btreekv: output failed: absent/out: No such file or directory (os error 2)' '' update archive -o absent/out
 refuses 'btreekv: output failed: absent/out: No such file or directory (os error 2)' '' set a b archive -o absent/out
+refuses "$no_object" '[]' build --json -o files/out
 refuses 'btreekv: output failed: files: Is a directory (os error 21)' '' build -o files
 if [[ $(id -u) != 0 ]]; then
     chmod 500 files

@@ -76,7 +76,7 @@ fn build_named<R: Reopen>(
     output: Option<File>,
 ) -> Result<u8, Ended> {
     match (build_lines(system, command, input, output), command) {
-        (Ok(status), Command::BuildFrom(_, _)) => Ok(status),
+        (Ok(status), Command::BuildFrom(_, _) | Command::BuildJson(_)) => Ok(status),
         (Ok(status), _) => {
             system.warn_of_returns(names.input, input);
             Ok(status)
@@ -84,6 +84,7 @@ fn build_named<R: Reopen>(
         (Err(ProgramFault::Line(number)), Command::BuildFrom(form, _)) => {
             Err(system.bad_record(names.input, number, *form))
         }
+        (Err(ProgramFault::Line(_)), Command::BuildJson(_)) => Err(system.no_object(names.input)),
         (Err(fault), _) => Err(system.fail_at(names, input, &fault)),
     }
 }

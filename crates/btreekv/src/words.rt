@@ -131,6 +131,11 @@ fn build<'a>(alloc: Global) -> Result<Command<'a>, AllocError> {
         "ndjson",
         "read a JSON object a line, with key and value; sorted as by --sort",
     );
+    let json = flag(
+        alloc,
+        "json",
+        "read one JSON object, whose members are strings; sorted as by --sort",
+    );
     let untyped = flag(
         alloc,
         "untyped",
@@ -149,6 +154,12 @@ fn build<'a>(alloc: Global) -> Result<Command<'a>, AllocError> {
                 .conflicts_with("strict")?
                 .conflicts_with("escape")?
                 .conflicts_with("null")?,
+        )?
+        .arg(
+            json.conflicts_with("strict")?
+                .conflicts_with("escape")?
+                .conflicts_with("null")?
+                .conflicts_with("ndjson")?,
         )?
         .arg(output(alloc))?
         .arg(file(alloc))
@@ -395,6 +406,8 @@ fn build_command(matches: &ArgMatches<'_>) -> command::Command {
         command::Command::BuildFrom(Records::Null, heading)
     } else if matches.get_flag("ndjson") {
         command::Command::BuildFrom(Records::Json, heading)
+    } else if matches.get_flag("json") {
+        command::Command::BuildJson(heading)
     } else if matches.get_flag("sort") {
         command::Command::BuildSorted(heading)
     } else {

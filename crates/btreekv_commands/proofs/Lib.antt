@@ -12,6 +12,9 @@ pub mod Listed
 pub mod LookedUp
 pub mod Merges
 pub mod NodeSizes
+pub mod ObjectsBuilt
+pub mod ObjectsRead
+pub mod ObjectsWritten
 pub mod Ordering
 pub mod Prefixed
 pub mod Ranging

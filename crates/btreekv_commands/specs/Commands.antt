@@ -21,13 +21,14 @@ use Rattle.btreekv_commands.specs.Figures.{archive_figures, figures}
 use Rattle.btreekv_commands.specs.Forms.{entry_line, text_in, value_line}
 use Rattle.btreekv_commands.specs.declared.forms.Form.{Form}
 use Rattle.btreekv_commands.specs.Json.{json_object}
+use Rattle.btreekv_commands.specs.JsonObjects.{IsJsonObject}
 use Rattle.btreekv_commands.specs.Lines.{Entry, AreLines, IsBadLine}
 use Rattle.btreekv_commands.specs.Opening.{texts, texts_name, IsInput, KeysIncrease, CountsStrict, RefusesArchive, RefusesStrictArchive}
 use Rattle.btreekv_commands.specs.Prefixes.{HasPrefix}
 use Rattle.btreekv_commands.specs.Records.{AreRecords, IsBadRecord}
 use Rattle.btreekv_commands.specs.declared.records.Records.{Records}
 use Rattle.btreekv_commands.specs.declared.command.Command.{Command}
-use Rattle.btreekv_commands.specs.declared.command.Command.TheVariants.{Build, BuildFrom, BuildStrict, BuildSorted, List as ListEntries}
+use Rattle.btreekv_commands.specs.declared.command.Command.TheVariants.{Build, BuildFrom, BuildJson, BuildStrict, BuildSorted, List as ListEntries}
 use Rattle.btreekv_commands.specs.declared.command.Command.TheVariants.{Check, CheckStrict, Explain, First, Get, ListJson, Prefix, Range, Stat}
 
 -- the line of an archive of so many entries
@@ -64,6 +65,8 @@ Outputs (BuildSorted heading) input text status =
 Outputs (BuildFrom form heading) input text status =
     (status ≡ 0) × ((entries : List Entry) × AreRecords form input entries
     × IsBuiltMap heading text (last_values entries) × KeysIncrease (last_values entries))
+Outputs (BuildJson heading) input text status =
+    (status ≡ 0) × ((entries : List Entry) × IsJsonObject input entries × IsBuiltMap heading text entries × KeysIncrease entries)
 Outputs (ListEntries form) input text status = (status ≡ 0) × ((entries : List Entry) × IsInput input entries × (text ≡ text_in form entries))
 Outputs ListJson input text status =
     (status ≡ 0) × ((entries : List Entry) × IsInput input entries × (text ≡ json_object entries ++ 10 ∷ []))
@@ -101,6 +104,14 @@ FailsToBuildFrom form heading input (NotBuilt fault) =
 FailsToBuildFrom form heading input Memory = Unit {0}
 FailsToBuildFrom form heading input _ = ⊥
 
+-- why an archive isn't built of a JSON object: the input is none, which is the first record; or why its entries have no archive; or there
+-- is no memory
+abbrev pub FailsToBuildJson : Heading → List ℕ → ProgramFault → Type 0
+FailsToBuildJson heading input (Line n) = (n ≡ 1) × ((entries : List Entry) → ¬ IsJsonObject input entries)
+FailsToBuildJson heading input (NotBuilt fault) = (entries : List Entry) × IsJsonObject input entries × IsUnbuiltMap heading entries fault
+FailsToBuildJson heading input Memory = Unit {0}
+FailsToBuildJson heading input _ = ⊥
+
 -- why an archive isn't read: another header comes first, or the first error of bytes that are none; or there is no memory
 abbrev pub FailsToRead : (List ℕ → Refusal → Type 0) → List ℕ → ProgramFault → Type 0
 FailsToRead Refuses input (Refused refusal) = Refuses input refusal
@@ -114,6 +125,7 @@ Fails (Build heading) input fault = FailsToBuild (IsUnbuilt heading) input fault
 Fails (BuildStrict heading) input fault = FailsToBuild (IsUnbuiltInOrder heading) input fault
 Fails (BuildSorted heading) input fault = FailsToBuild (λ entries. IsUnbuiltMap heading (last_values entries)) input fault
 Fails (BuildFrom form heading) input fault = FailsToBuildFrom form heading input fault
+Fails (BuildJson heading) input fault = FailsToBuildJson heading input fault
 Fails CheckStrict input fault = FailsToRead RefusesStrictArchive input fault
 Fails _ input fault = FailsToRead RefusesArchive input fault
 

@@ -15,6 +15,8 @@ pub enum Command {
     BuildSorted(Heading),
     /// Archive the entries of the input's records in increasing order of their keys. Of equal keys the last value counts.
     BuildFrom(Records, Heading),
+    /// Archive the members of the input's JSON object in increasing order of their keys. Of equal keys the last value counts.
+    BuildJson(Heading),
     /// Write the entries of the input's archive.
     List(Form),
     /// Write the entries of the input's archive as a JSON object.

@@ -1,13 +1,14 @@
 //! The commands over a reader and a writer.
 ghost use Rattle.std.specs.Prelude.{◌≡◌, IfOk, IfErr, string_bytes};
 ghost use Rattle.btreekv_commands.specs.Commands.{Does, Fails, FailsToBuild, FailsToRead, Outputs, total};
-ghost use Rattle.btreekv_commands.specs.declared.command.Command.TheVariants.{Build, BuildFrom, BuildStrict, BuildSorted, List as ListEntries};
+ghost use Rattle.btreekv_commands.specs.declared.command.Command.TheVariants.{Build, BuildFrom, BuildJson, BuildStrict, BuildSorted, List as ListEntries};
 ghost use Rattle.btreekv_commands.specs.declared.command.Command.TheVariants.{Check, CheckStrict, Explain, First, Get, ListJson, Prefix, Range, Stat};
 
 use crate::command::Command;
 use crate::entries::{check_order, count_lines};
 use crate::figures::figures_of;
 use crate::forms::{Form, push_entry, push_value};
+use crate::json_objects::parse_object;
 use crate::json_text::push_object;
 use crate::lines::parse_lines;
 use crate::listing::write_entries;
@@ -236,6 +237,17 @@ fn build_from(
     building::sorted_archive(alloc, heading, entries)
 }
 
+/// Returns the archive of the members of a JSON object in increasing order of their keys.
+fn build_json(alloc: Global, heading: Heading, text: &[u8]) -> Result<Vec<u8>, ProgramFault>
+    ensures ok { IfOk result (λ bytes. Outputs (BuildJson heading) text.now bytes.items 0) }
+    ensures err { IfErr result (Fails (BuildJson heading) text.now) }
+{
+    let Some(entries) = parse_object(alloc, text)? else {
+        return Err(ProgramFault::Line(1));
+    };
+    building::sorted_archive(alloc, heading, entries)
+}
+
 /// Returns what a command writes of an input, and its status.
 fn output_of(alloc: Global, command: &Command, input: &[u8]) -> Result<(Vec<u8>, u8), ProgramFault>
     ensures ok { IfOk result (λ r. Outputs command.now input.now r.0.items r.1) }
@@ -246,6 +258,7 @@ fn output_of(alloc: Global, command: &Command, input: &[u8]) -> Result<(Vec<u8>,
         Command::BuildStrict(heading) => Ok((build_strict(alloc, *heading, input)?, 0)),
         Command::BuildSorted(heading) => Ok((build_sorted(alloc, *heading, input)?, 0)),
         Command::BuildFrom(form, heading) => { Ok((build_from(alloc, *form, *heading, input)?, 0)) }
+        Command::BuildJson(heading) => Ok((build_json(alloc, *heading, input)?, 0)),
         Command::List(form) => Ok((list(alloc, input, *form)?, 0)),
         Command::ListJson => Ok((list_json(alloc, input)?, 0)),
         Command::Check => Ok((check(alloc, input)?.into_bytes(), 0)),
