@@ -97,6 +97,11 @@ ends 0 ''                                          "$fruit"                    '
 ends 0 ''                                          "$fruit"                    ''                            prefix abcd
 ends 0 ''                                          "$fruit"                    ''                            prefix c
 ends 0 ''                                          "$long"                     '\xc3\xa4\t\xf0\x9d\x84\x9e\n' prefix ä
+ends 0 ''                                          "$three"                    'apple\tred\n'                first
+ends 0 ''                                          "$unordered"                'b\t1\n'                    first
+ends 0 ''                                          "$long"                     '\xc3\xa4\t\xf0\x9d\x84\x9e\n' first
+ends 1 ''                                          "$empty"                    ''                            first
+ends 1 ''                                          "$empty"                    ''                            first --ndjson
 ends 0 ''                                          "$empty"                    "$(figures 0 0 0 0 0 0 0 0 0 0 8 32 40)" stat
 ends 0 ''                                          "$three"                    "$(figures 3 1 1 0 1 60 0 88 12 23 8 33 164)" stat
 ends 0 ''                                          "$empty"                    '{}\n'                        list --json
@@ -109,6 +114,7 @@ ends 0 ''                                          "$empty"                    "
 ends 2 'btreekv: refused: position 0 is out of range' ''                       ''                            explain
 ends 2 'btreekv: refused: position 0 is out of range' ''                       ''                            list
 ends 2 'btreekv: refused: position 0 is out of range' 'abc'                    ''                            get a
+ends 2 'btreekv: refused: position 0 is out of range' 'abc'                    ''                            first
 ends 2 'btreekv: input failed: absent: No such file or directory (os error 2)' '' ''                     list absent
 ends 2 'btreekv: input failed: .: Is a directory (os error 21)' '' ''                                    check .
 ends 2 "error: 'btreekv' requires a subcommand but one was not provided" ''    ''
@@ -132,6 +138,9 @@ ends 0 ''                                          "$nulled"                   '
 ends 0 ''                                          "$nulled"                   'c\nd\0'                     get --null b
 ends 0 ''                                          "$three"                    '{"key":"fig","value":"blue and green"}\n' range --ndjson b ofen
 ends 0 ''                                          "$three"                    '{"key":"pear","value":"yellow"}\n' prefix --ndjson p
+ends 0 ''                                          "$escaped"                  "$tabs"                       first --escape
+ends 0 ''                                          "$nulled"                   'a\te\0'                     first --null
+ends 0 ''                                          "$three"                    '{"key":"apple","value":"red"}\n' first --ndjson
 ends 0 ''                                          "$empty"                    ''                            list --ndjson
 ends 0 ''                                          'a\tb'                      "$(archive_of 'a\tb\n')"     build --sort --escape
 ends 0 ''                                          'b\t1\0a\t2\0b\t3'         "$sorted"                     build --sort --null
@@ -142,6 +151,7 @@ ends 2 'btreekv: entry 2: not KEY TAB VALUE with escapes' 'a\tb\0c'           ''
 ends 2 'error: the following required arguments were not provided:' ''        ''                            build --escape
 ends 2 "error: the argument '--escape' cannot be used with '--null'" ''       ''                            list --escape --null
 ends 2 "error: the argument '--json' cannot be used with '--ndjson'" ''       ''                            list --json --ndjson
+ends 2 "error: the argument '--escape' cannot be used with '--null'" ''       ''                            first --escape --null
 
 # JSON lines: those of list are read back, and others with two members that are strings
 ends 0 ''                                          ''                          "$empty"                      build --ndjson
@@ -244,6 +254,27 @@ for _ in range(60):
 E
 python3 tables.py "$program" 2> said || fail "$(cat said)"
 
+# JSON objects: one that list writes is read back if its keys increase, and of equal keys the last value counts
+no_object='btreekv: input is no JSON object of strings'
+ends 0 ''                                          '{}'                        "$empty"                      build --json
+ends 0 ''                                          '{"apple":"red","fig":"blue and green","pear":"yellow"}\n' "$three" build --json
+ends 0 ''                                          ' { "b" : "3",\n"\\u0061":\t"2" }\r\n' "$sorted"        build --json
+ends 0 ''                                          '{"b":"1","a":"2","b":"3"}\n' "$sorted"                   build --json
+ends 0 ''                                          '{"b":1,"a":"2","b":"3"}'   "$sorted"                     build --json
+ends 0 ''                                          '{"a\\tb":"c\\nd\\\\e"}'   "$escaped"                   build --json
+ends 0 ''                                          '{"\\ud834\\udd1e":"\xc3\xa4"}' "$(archive_of '\xf0\x9d\x84\x9e\t\xc3\xa4\n')" build --json
+for text in '' '[]' '"a"' 'null' '{"a":1}' '{"a":"b","c":{}}' '{"a":"b"' '{"a":"b"}{}' '{a:"b"}' '{"\\ud834":"b"}' '{"a":"\xff"}'; do
+    ends 2 "$no_object" "$text" '' build --json
+done
+ends 2 "error: the argument '--json' cannot be used with '--strict'" ''        ''                            build --json --strict
+ends 2 "error: the argument '--json' cannot be used with '--ndjson'" ''        ''                            build --json --ndjson
+ends 2 "error: the argument '--json' cannot be used with '--escape'" ''        ''                            build --json --sort --escape
+printf '%s' '{"b":"1","a":"2","b":"3"}' > object
+printf '[]' > array
+ends 0 ''                                          ''                          "$sorted"                     build --json object
+ends 2 "$no_object: array"                         ''                          ''                            build --json array
+ends 2 'btreekv: input failed: absent: No such file or directory (os error 2)' '' ''                           build --json absent
+
 # typed files and others: the tree is the same, and a header of another type or version is refused
 untyped=$(archive_of 'a\t2\nb\t3\n' --untyped)
 [[ $sorted == "$(printf '%b' "$header" | od -An -v -t x1 | tr -d '\n' | sed 's/ /\\x/g')$untyped" ]] || fail "a typed file isn't the header and the archive"
@@ -254,12 +285,13 @@ ends 0 ''                                          'b\t3\na\t2\n'              "
 ends 0 ''                                          '{"key":"b","value":"3"}\n{"key":"a","value":"2"}\n' "$untyped" build --untyped --ndjson
 ends 0 ''                                          'k,v\nb,3\na,2\n'           "$untyped"                    build --untyped --csv
 ends 0 ''                                          "$untyped"                  'key\tvalue\na\t2\nb\t3\n'    list --tsv
+ends 0 ''                                          '{"b":"3","a":"2"}'         "$untyped"                    build --untyped --json
 ends 0 ''                                          "$untyped"                  'a\t2\nb\t3\n'              list
 ends 0 ''                                          "$untyped"                  'ok 2 entries\n'              check --strict
 ends 0 ''                                          "$untyped"                  '3\n'                         get b
 foreign='rkyvbt\x01\x00\x10\x00\x00\x00[u32 -> u32 / 5]\x00\x00\x00\x00'$untyped
 later='rkyvbt\x02\x00'$untyped
-for words in list 'list --json' 'list --csv' check 'check --strict' stat explain 'get a' 'range a b' 'prefix a'; do
+for words in list 'list --json' 'list --csv' check 'check --strict' stat explain first 'get a' 'range a b' 'prefix a' 'set a b'; do
     read -ra words <<< "$words"
     ends 2 'btreekv: refused: the bytes are of type [u32 -> u32 / 5], not [text -> text / 5]' "$foreign" '' "${words[@]}"
     ends 2 'btreekv: refused: the type header has version 2, not 1' "$later" '' "${words[@]}"
@@ -271,7 +303,7 @@ ends 0 ''                                          'a\tb\r\nc\td\n'            "
 
 # the version, and help with examples
 ends 0 ''                                          ''                          'btreekv 0.1.0\n'             --version
-for command in '' build list get; do
+for command in '' build set list first get; do
     "$program" $command --help > written 2> said && grep -q '^Examples:$' written && [[ ! -s said ]] || fail "help of '$command': $(cat said)"
 done
 
@@ -295,14 +327,23 @@ ends 0 '' '' 'apple\tred\nfig\tblue and green\n' range apple fig archive
 ends 0 '' '' 'fig\tblue and green\n' prefix f archive
 ends 0 '' '' '{"key":"pear","value":"yellow"}\n' prefix --ndjson p archive
 ends 0 '' '' '' range z a archive
+ends 0 '' '' 'apple\tred\n' first archive
+ends 0 '' '' '{"key":"apple","value":"red"}\n' first --ndjson archive
+ends 0 'btreekv: 192 of 164 bytes read' '' 'apple\tred\n' first --stats archive
+ends 0 'btreekv: 164 of 164 bytes read' '' 'apple\tred\n' first --stats --validate archive
+ends 0 'btreekv: 164 of 164 bytes read' "$three" 'apple\tred\n' first --stats
 ends 0 'btreekv: 164 of 164 bytes read' '' 'fig\tblue and green\n' range --stats --validate b ofen archive
 ends 0 'btreekv: 164 of 164 bytes read' "$three" 'fig\tblue and green\n' prefix --stats f
+ends 2 'btreekv: refused: short: position 0 is out of range' '' '' first short
 ends 2 'btreekv: refused: short: position 0 is out of range' '' '' range a z short
 ends 2 'btreekv: refused: short: position 0 is out of range' '' '' prefix a short
+ends 2 'btreekv: input failed: absent: No such file or directory (os error 2)' '' '' first absent
+ends 2 'btreekv: input failed: .: Is a directory (os error 21)' '' '' first .
 ends 2 'btreekv: input failed: absent: No such file or directory (os error 2)' '' '' range a z absent
 ends 2 'btreekv: input failed: .: Is a directory (os error 21)' '' '' prefix a .
 truncate -s 4294967296 huge
 ends 2 'btreekv: refused: huge: buffer is longer than 4294967295 bytes' '' '' get pear huge
+ends 2 'btreekv: refused: huge: buffer is longer than 4294967295 bytes' '' '' first huge
 ends 2 'btreekv: refused: huge: buffer is longer than 4294967295 bytes' '' '' prefix pear huge
 rm huge
 
@@ -331,6 +372,9 @@ alike() {
 }
 printf '%b' "$unordered" > unordered
 printf '%b' "$empty" > none
+ends 0 '' '' 'b\t1\n' first unordered
+ends 1 'btreekv: 8 of 40 bytes read' '' '' first --stats none
+ends 1 'btreekv: 40 of 40 bytes read' '' '' first --stats --validate none
 for key in '' a b c; do
     alike "$key" unordered
     alike --json "$key" none
@@ -351,6 +395,8 @@ shuf --random-source=many many > mixed
 cut -f 1 mixed | "$program" get --keys-from - archive | cmp -s - mixed || fail "20000 lines: other lines of all keys"
 [[ $("$program" range 'key 019999' z archive | wc -l) == 2 ]] || fail "20000 lines: another range"
 [[ $("$program" prefix 'key 0123' archive | wc -l) == 100 ]] || fail "20000 lines: another prefix"
+[[ $("$program" first archive) == $'key 000001\tvalue of key 000001' ]] || fail "20000 lines: another first entry"
+"$program" first wide | cmp -s - <("$program" list wide | head -n 1) || fail "long texts: another first entry"
 "$program" explain archive > explained || fail "20000 lines: not explained"
 # The figures are those of the lines of explain.
 cat > counted.py <<'E'
@@ -388,6 +434,7 @@ done
 "$program" list --json archive > object
 python3 -c 'import json; print(*(f"{k}\t{v}" for k, v in json.load(open("object")).items()), sep="\n")' | cmp -s - many || fail "20000 lines: another object"
 shuf --random-source=many many | "$program" build --sort | cmp -s - archive || fail "20000 lines: sorted otherwise"
+"$program" build --json object | cmp -s - archive || fail "20000 lines: another archive of the object"
 "$program" list --ndjson archive | "$program" build --ndjson | cmp -s - archive || fail "20000 lines: another archive of JSON lines"
 "$program" list --csv archive | "$program" build --csv | cmp -s - archive || fail "20000 lines: another archive of CSV"
 "$program" list --tsv archive | "$program" build --tsv | cmp -s - archive || fail "20000 lines: another archive of TSV"
@@ -402,6 +449,15 @@ ends 0 '' '' 'key 012345\tvalue of key 012345\nkey 012346\tvalue of key 012346\n
 ends 2 'btreekv: refused: damaged: entry at position 184 is bad' '' '' range --validate 'key 012345' 'key 012346' damaged
 ends 2 'btreekv: refused: damaged: entry at position 184 is bad' '' '' range 'key 000001' 'key 012346' damaged
 ends 2 'btreekv: refused: damaged: entry at position 184 is bad' '' '' prefix 'key 00000' damaged
+ends 2 'btreekv: refused: damaged: entry at position 184 is bad' '' '' first damaged
+python3 -c '
+held = open("archive", "rb").read()
+at = held.rindex(b"value of key 020000")
+open("damaged", "wb").write(held[:at] + b"\xff" + held[at + 1 :])
+'
+ends 0 '' '' 'key 000001\tvalue of key 000001\n' first damaged
+"$program" first --validate damaged > written 2> said && fail "a damaged value: not refused"
+[[ $(cat said) == 'btreekv: refused: damaged: entry at position '*' is bad' && ! -s written ]] || fail "a damaged value: $(cat said)"
 
 # Any bytes are looked up in, or refused. Where all are valid the values are alike, and so are the lines of a range and of a prefix if the
 # keys increase.
@@ -419,16 +475,16 @@ for _ in range(300):
     open("damaged", "wb").write(held)
     key = f"key {chance.randrange(217):06}"
     is_strict = subprocess.run([program, "check", "--strict", "damaged"], capture_output=True).returncode == 0
-    for command, *words in (["get", key], ["range", key, "key 0001"], ["prefix", key[:-1]]):
+    for command, *words in (["get", key], ["range", key, "key 0001"], ["prefix", key[:-1]], ["first"]):
         parts, whole = (subprocess.run([program, command, *flags, *words, "damaged"], capture_output=True) for flags in ([], ["--validate"]))
         kinds.add((command, parts.returncode, whole.returncode))
         is_line = parts.stderr.startswith(b"btreekv: refused: damaged: ") and parts.stderr.count(b"\n") == 1
         is_refused = parts.returncode == 2 and not parts.stdout and is_line
         if not is_refused and (parts.returncode not in (0, 1) or parts.stderr):
             sys.exit(f"damaged: {command}: status {parts.returncode}: {parts.stderr}")
-        if whole.returncode != 2 and (is_strict or command == "get") and (parts.returncode, parts.stdout) != (whole.returncode, whole.stdout):
+        if whole.returncode != 2 and (is_strict or command in ("get", "first")) and (parts.returncode, parts.stdout) != (whole.returncode, whole.stdout):
             sys.exit(f"damaged: {command} {words}: {parts.stdout} and {whole.stdout}")
-for command in ("get", "range", "prefix"):
+for command in ("get", "range", "prefix", "first"):
     if not {(command, 0, 0), (command, 0, 2), (command, 2, 2)} <= kinds:
         sys.exit(f"damaged: {command}: only {kinds}")
 E
@@ -458,6 +514,9 @@ resident build --strict <(cat million) 2>> said | cmp -s - large || fail "a mill
 [[ $(resident get --stats 1500000 large 2> said) == 'value of 1500000' ]] || fail "a million lines: another value: $(cat said)"
 read -r _ count of size words < said
 [[ $of == of && $size == "$(stat -c %s large)" && $words == 'bytes read' && $count -lt 4096 ]] || fail "a million lines: a look-up: $(cat said)"
+[[ $(resident first --stats large 2> said) == $'1000000\tvalue of 1000000' ]] || fail "a million lines: another first entry: $(cat said)"
+read -r _ count of size words < said
+[[ $of == of && $words == 'bytes read' && $count -lt 4096 ]] || fail "a million lines: the first entry: $(cat said)"
 cmp -s <(resident range --stats 1500000 1500099 large 2> said) <(sed -n '500001,500100p' million) || fail "a million lines: another range: $(cat said)"
 read -r _ count of size words < said
 [[ $of == of && $words == 'bytes read' && $count -lt 32768 ]] || fail "a million lines: a range: $(cat said)"
@@ -546,6 +605,25 @@ printf '\n' | "$program" update old | "$program" list | cmp -s - <(printf 'a\t1\
 printf 'a\t1\nb\t3\nc\t4\n' | "$program" build > new
 "$program" diff old new | cmp -s - <(printf '\nb\t3\nc\t4\n') || fail "diff: other lines"
 
+# A case of an entry that is set, as an update by its line sets it: the lines of the archive with escapes, the key and the value.
+sets() {
+    printf '%b' "$1" | "$program" build --strict > old
+    printf '%s\t%s\n' "$2" "$3" | "$program" update old > expected
+    "$program" set "${@:2}" old > written 2> said || fail "set ${*:2}: $(cat said)"
+    cmp -s written expected && [[ ! -s said ]] || fail "set ${*:2}: another archive"
+    "$program" set "${@:2}" < old | cmp -s - expected || fail "set ${*:2}: another archive of standard input"
+}
+sets '' a 1
+for key in fig banana a zoo '' -k; do
+    sets "$fruits" "$key" blue
+    sets "$fruits" "$key" ''
+    sets "$fruits" "$key" --value
+done
+[[ $("$program" set $'a\tb' $'c\nd\\e' none | od -An -v -t x1 | tr -d '\n' | sed 's/ /\\x/g') == "$escaped" ]] || fail "set: another tab or line feed"
+"$program" set 'key 012345' other archive -o changed || fail "20000 lines: not set"
+"$program" list changed | cmp -s - <(sed 's/^\(key 012345\t\).*/\1other/' many) || fail "20000 lines: set otherwise"
+printf '\tv\na\t1\nb\t2\n' | "$program" build > old
+
 # A case of an error: the message, standard input with escapes, and the words. Nothing is written.
 refuses() {
     local got=0
@@ -566,12 +644,16 @@ printf 'b\xff\n' > lines
 refuses 'btreekv: line 1 of lines: byte 2 is not UTF-8' '' update old lines
 refuses 'btreekv: refused: unsorted: entry 1 is out of order' '' update unsorted
 refuses 'btreekv: refused: short: position 0 is out of range' '' update short
+refuses 'btreekv: refused: unsorted: entry 1 is out of order' '' set a b unsorted
+refuses 'btreekv: refused: short: position 0 is out of range' '' set a b short
+refuses 'btreekv: refused: position 0 is out of range' 'abc' set a b
+refuses 'error: the following required arguments were not provided:' '' set a
 refuses 'btreekv: refused: unsorted: entry 1 is out of order' '' diff old unsorted
 refuses 'btreekv: refused: unsorted: entry 1 is out of order' '' diff unsorted short
 refuses 'btreekv: refused: unsorted: entry 1 is out of order' '' merge old new unsorted short
 refuses 'btreekv: refused: short: position 0 is out of range' '' merge short unsorted
 refuses 'btreekv: refused: unsorted: entry 1 is out of order' '' merge old unsorted
-for words in 'merge old absent' 'update absent' 'update old absent' 'diff absent old'; do
+for words in 'merge old absent' 'update absent' 'update old absent' 'set a b absent' 'diff absent old'; do
     read -ra words <<< "$words"
     refuses 'btreekv: input failed: absent: No such file or directory (os error 2)' '' "${words[@]}"
 done
@@ -585,10 +667,12 @@ printf '%b' "$later" > later
 printf 'zebra\tblack\n' > changes
 cat old.lines changes | "$program" build --sort --untyped > expected
 "$program" update bare changes | cmp -s - expected || fail "update of an untyped file: another one"
+"$program" set zebra black bare | cmp -s - expected || fail "set of an untyped file: another one"
 "$program" build changes > more
 "$program" merge bare more | cmp -s - expected || fail "merge of an untyped file: another one"
 cat old.lines changes | "$program" build --sort > expected
 "$program" update typed changes | cmp -s - expected || fail "update of a typed file: another one"
+"$program" set zebra black typed | cmp -s - expected || fail "set of a typed file: another one"
 "$program" build --untyped changes > more
 "$program" merge typed more | cmp -s - expected || fail "merge of a typed file: another one"
 "$program" diff bare typed | cmp -s - /dev/null || fail "diff of a typed file: other lines"
@@ -596,7 +680,7 @@ for name in foreign later; do
     why='the type header has version 2, not 1'
     [[ $name == later ]] || why='the bytes are of type [u32 -> u32 / 5], not [text -> text / 5]'
     for words in "get a $name" "get --validate a $name" "get --keys-from keys $name" "update $name changes" "merge $name typed" "merge typed $name" \
-        "diff $name typed" "diff typed $name" "top 1 $name"; do
+        "diff $name typed" "diff typed $name" "top 1 $name" "first $name" "first --validate $name" "set a b $name"; do
         read -ra words <<< "$words"
         refuses "btreekv: refused: $name: $why" '' "${words[@]}"
     done
@@ -669,12 +753,16 @@ cmp -s files/new archive && [[ $(stat -c %a files/new) == 640 ]] || fail "-o: an
 "$program" list files/out > listed
 "$program" build --sort listed -o listed && cmp -s listed files/out || fail "-o: lines that are replaced by their archive"
 ln -s out files/link
+cp files/out files/set && "$program" set a b files/set -o files/set && [[ $("$program" get a files/set) == b ]] || fail "-o: an archive that is set"
+rm files/set
 "$program" build many -o files/link && [[ -L files/link ]] && cmp -s files/out archive || fail "-o: a link"
 "$program" build many -o /dev/stdout | cat | cmp -s - archive || fail "-o: a pipe"
 refuses 'btreekv: line 1: not KEY TAB VALUE' 'no entry\n' build -o files/out
 refuses 'btreekv: not built: entry 1 is out of order' 'b\t1\na\t1\n' build --strict -o files/out
 refuses 'btreekv: line 2: out of order' 'b\na\n' update archive -o files/out
 refuses 'btreekv: output failed: absent/out: No such file or directory (os error 2)' '' update archive -o absent/out
+refuses 'btreekv: output failed: absent/out: No such file or directory (os error 2)' '' set a b archive -o absent/out
+refuses "$no_object" '[]' build --json -o files/out
 refuses 'btreekv: output failed: files: Is a directory (os error 21)' '' build -o files
 if [[ $(id -u) != 0 ]]; then
     chmod 500 files
@@ -703,6 +791,8 @@ same 'btreekv: input is output: both' both list both
 same 'btreekv: input is output: both' twin list both
 same 'btreekv: input is output: twin' both check twin
 same 'btreekv: input is output: both' both get b both
+same 'btreekv: input is output: both' both first both
+same 'btreekv: input is output: both' both set b 2 both
 same 'btreekv: input is output: both' both get --keys-from keys both
 same 'btreekv: input is output: both' both get --validate b both
 same 'btreekv: input is output: both' both top 1 both
@@ -713,6 +803,7 @@ same 'btreekv: input is output: both.lines' both.lines build --sort both.lines
 same 'btreekv: input is output: both.lines' both.lines update both both.lines
 same 'btreekv: input is output: both.lines' both.lines get --keys-from both.lines first
 same 'btreekv: input is output' both list < both
+same 'btreekv: input is output' both set b 2 < both
 same 'btreekv: input is output' both.lines build < both.lines
 "$program" list both > /dev/stdout | cmp -s - both.lines || fail "a pipe is taken for an input"
 "$program" update both both.lines -o both >> both 2> said && cmp -s both kept || fail "an input that -o names: $(cat said)"

@@ -1,4 +1,4 @@
-//! Commands that hold whole files in memory: updates, merges, differences and sidecars.
+//! Commands that hold whole files in memory: updates, entries that are set, merges, differences and sidecars.
 
 use crate::output::Output;
 use crate::progress::Progress;
@@ -109,6 +109,19 @@ pub fn update(system: &System<'_>, matches: &ArgMatches<'_>) -> Result<u8, Ended
     match updating::update(system.alloc(), sorts, &archive, &changes) {
         Ok(bytes) => write(system, words::output_of("update", matches), &bytes),
         Err(fault) => { Err(fail_update(system, name, changes_name, &changes, fault)) }
+    }
+}
+
+/// Runs `set`, and returns the exit status.
+pub fn set(system: &System<'_>, matches: &ArgMatches<'_>) -> Result<u8, Ended> {
+    let name = matches.get_str("FILE");
+    let key = matches.get_str("KEY").unwrap_or("");
+    let value = matches.get_str("VALUE").unwrap_or("");
+    let archive = read(system, name)?;
+    match (updating::set(system.alloc(), &archive, key, value), name) {
+        (Ok(bytes), _) => write(system, words::output_of("set", matches), &bytes),
+        (Err(fault), Some(name)) => Err(fail(system, &[name], fault)),
+        (Err(fault), None) => Err(fail(system, &[], fault)),
     }
 }
 

@@ -76,7 +76,10 @@ fn build_named<R: Reopen>(
     output: Option<File>,
 ) -> Result<u8, Ended> {
     match (build_lines(system, command, input, output), command) {
-        (Ok(status), Command::BuildFrom(_, _) | Command::BuildTable(_, _)) => Ok(status),
+        (
+            Ok(status),
+            Command::BuildFrom(_, _) | Command::BuildJson(_) | Command::BuildTable(_, _),
+        ) => { Ok(status) }
         (Ok(status), _) => {
             system.warn_of_returns(names.input, input);
             Ok(status)
@@ -87,6 +90,7 @@ fn build_named<R: Reopen>(
         (Err(ProgramFault::Line(number)), Command::BuildTable(_, _)) => {
             Err(system.bad_row(names.input, number))
         }
+        (Err(ProgramFault::Line(_)), Command::BuildJson(_)) => Err(system.no_object(names.input)),
         (Err(fault), _) => Err(system.fail_at(names, input, &fault)),
     }
 }
@@ -224,11 +228,12 @@ fn status(system: &System<'_>) -> Result<u8, Ended> {
     }
     match name {
         "update" => archives::update(system, matches),
+        "set" => archives::set(system, matches),
         "merge" => archives::merge(system, matches),
         "diff" => archives::diff(system, matches),
         "top" => archives::top(system, matches),
         "get" => lookups::get(system, matches),
-        "range" | "prefix" => ranges::run(system, name, matches),
+        "first" | "range" | "prefix" => ranges::run(system, name, matches),
         _ => one_file(system, name, matches),
     }
 }

@@ -1,4 +1,4 @@
-//! Ranges of keys, and keys that begin with a text. A regular file isn't read whole.
+//! The first entry, ranges of keys, and keys that begin with a text. A regular file isn't read whole.
 
 use crate::lookups::{cached, in_all, is_regular, write_stats};
 use crate::system::{Ended, Names, System};
@@ -40,7 +40,24 @@ fn lines_of<S: ReadAt + Drop>(
     ranged::range_in(alloc, map, &mut room, &low, &high, form)
 }
 
-/// Writes the lines of a range in a regular file, of which only the range is read and validated.
+/// Returns what a command writes of the archive that is all of a source, its status, and the archive.
+fn text_of<S: ReadAt + Drop>(
+    system: &System<'_>,
+    name: &str,
+    matches: &ArgMatches<'_>,
+    map: UnverifiedSource<S, Texts>,
+) -> Result<(Vec<u8>, u8, UnverifiedSource<S, Texts>), ProgramFault> {
+    let alloc = system.alloc();
+    let form = words::form_of(matches);
+    if name == "first" {
+        let mut room = sourced::first_room(alloc)?;
+        return ranged::first_in(alloc, map, &mut room, form);
+    }
+    let (text, map) = lines_of(system, name, matches, map, form)?;
+    Ok((text, 0, map))
+}
+
+/// Writes the first entry or the lines of a range in a regular file, of which only these and the ways to them are read and validated.
 fn in_parts(
     system: &System<'_>,
     name: &str,
@@ -52,14 +69,14 @@ fn in_parts(
         return Err(ProgramFault::InputFailed);
     };
     let map = sourced::open(source)?;
-    let (text, map) = lines_of(system, name, matches, map, words::form_of(matches))?;
+    let (text, status, map) = text_of(system, name, matches, map)?;
     write_all(&mut system.stdout(), &text)?;
     let read = sourced::BUDGET.saturating_sub(map.budget_left());
     write_stats(system, matches, read, size);
-    Ok(0)
+    Ok(status)
 }
 
-/// Writes the lines of a range in a file.
+/// Writes the first entry or the lines of a range in a file.
 fn in_file(
     system: &System<'_>,
     name: &str,
@@ -73,7 +90,7 @@ fn in_file(
     }
 }
 
-/// Runs `range` or `prefix`, and returns the exit status.
+/// Runs `first`, `range` or `prefix`, and returns the exit status.
 pub fn run(system: &System<'_>, name: &str, matches: &ArgMatches<'_>) -> Result<u8, Ended> {
     let path = matches.get_str("FILE");
     let done = match path {

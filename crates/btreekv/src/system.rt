@@ -261,6 +261,14 @@ impl<'a> System<'a> {
         Ended { status: FAILED }
     }
 
+    /// Writes the line of an input that is no JSON object, or has a member that is no string.
+    pub fn no_object(&self, name: Option<&str>) -> Ended {
+        let rt = self.rt;
+        let name = Named(": ", name);
+        let _ = eprintln!(rt; "btreekv: input is no JSON object of strings{name}");
+        Ended { status: FAILED }
+    }
+
     /// Writes a warning if each line of an input ends with a carriage return.
     pub fn warn_of_returns<R: Reopen>(&self, name: Option<&str>, lines: &R) {
         let rt = self.rt;

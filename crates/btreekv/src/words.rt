@@ -24,12 +24,22 @@ const BUILD_EXAMPLES: &str = "Examples:
   btreekv list --escape old | btreekv build --sort --escape -o new
   btreekv build --csv -o prices prices.csv";
 
+/// Examples of `set`.
+const SET_EXAMPLES: &str = "Examples:
+  btreekv set fig green -o fruits fruits
+  btreekv set fig green fruits > changed";
+
 /// Examples of `list`.
 const LIST_EXAMPLES: &str = "Examples:
   btreekv list fruits | head
   btreekv list --ndjson fruits | jq -r .value
   btreekv list --null fruits | sort -z
   btreekv list --csv fruits > fruits.csv";
+
+/// Examples of `first`.
+const FIRST_EXAMPLES: &str = "Examples:
+  btreekv first fruits
+  btreekv first --ndjson fruits";
 
 /// Examples of `get`.
 const GET_EXAMPLES: &str = "Examples:
@@ -145,6 +155,11 @@ fn build<'a>(alloc: Global) -> Result<Command<'a>, AllocError> {
         "ndjson",
         "read a JSON object a line, with key and value; sorted as by --sort",
     );
+    let json = flag(
+        alloc,
+        "json",
+        "read one JSON object, whose members are strings; sorted as by --sort",
+    );
     let untyped = flag(
         alloc,
         "untyped",
@@ -164,6 +179,14 @@ fn build<'a>(alloc: Global) -> Result<Command<'a>, AllocError> {
                 .conflicts_with("strict")?
                 .conflicts_with("escape")?
                 .conflicts_with("null")?,
+        )?
+        .arg(
+            json.conflicts_with("strict")?
+                .conflicts_with("escape")?
+                .conflicts_with("null")?
+                .conflicts_with("ndjson")?
+                .conflicts_with("csv")?
+                .conflicts_with("tsv")?,
         )?;
     with_tables(alloc, command, tables, "strict")?
         .arg(output(alloc))?
@@ -186,6 +209,17 @@ fn update<'a>(alloc: Global) -> Result<Command<'a>, AllocError> {
         .arg(output(alloc))?
         .arg(required(alloc, "ARCHIVE", "the archive to change"))?
         .arg(changes)
+}
+
+/// Returns the words of `set`.
+fn set<'a>(alloc: Global) -> Result<Command<'a>, AllocError> {
+    Command::new(alloc, "set")
+        .about("write an archive with the value of one key, which it may lack")
+        .after_help(SET_EXAMPLES)
+        .arg(output(alloc))?
+        .arg(word(alloc, "KEY"))?
+        .arg(word(alloc, "VALUE"))?
+        .arg(file(alloc))
 }
 
 /// Returns the words of `merge`.
@@ -272,6 +306,14 @@ fn with_reading<'a>(alloc: Global, command: Command<'a>) -> Result<Command<'a>, 
         ))
 }
 
+/// Returns the words of `first`.
+fn first<'a>(alloc: Global) -> Result<Command<'a>, AllocError> {
+    let command = Command::new(alloc, "first")
+        .about("write the line of the first entry, which has the least key if the keys increase")
+        .after_help(FIRST_EXAMPLES);
+    with_reading(alloc, with_json_lines(alloc, with_forms(alloc, command)?)?)?.arg(file(alloc))
+}
+
 /// Returns the words of `get`.
 fn get<'a>(alloc: Global) -> Result<Command<'a>, AllocError> {
     let keys = Arg::new(alloc, "keys-from")
@@ -322,6 +364,7 @@ fn with_makers<'a>(alloc: Global, command: Command<'a>) -> Result<Command<'a>, A
     command
         .subcommand(build(alloc)?)?
         .subcommand(update(alloc)?)?
+        .subcommand(set(alloc)?)?
         .subcommand(merge(alloc)?)?
         .subcommand(diff(alloc)?)?
         .subcommand(top(alloc)?)
@@ -334,6 +377,7 @@ fn with_readers<'a>(alloc: Global, command: Command<'a>) -> Result<Command<'a>, 
         .subcommand(check(alloc)?)?
         .subcommand(stat(alloc)?)?
         .subcommand(explain(alloc)?)?
+        .subcommand(first(alloc)?)?
         .subcommand(get(alloc)?)?
         .subcommand(range(alloc)?)?
         .subcommand(prefix(alloc)?)
@@ -405,6 +449,8 @@ fn build_command(matches: &ArgMatches<'_>) -> command::Command {
         command::Command::BuildFrom(Records::Null, heading)
     } else if matches.get_flag("ndjson") {
         command::Command::BuildFrom(Records::Json, heading)
+    } else if matches.get_flag("json") {
+        command::Command::BuildJson(heading)
     } else if matches.get_flag("sort") {
         command::Command::BuildSorted(heading)
     } else {
@@ -429,6 +475,7 @@ pub fn command_of(
         }
         "stat" => Ok(command::Command::Stat),
         "explain" => Ok(command::Command::Explain),
+        "first" => Ok(command::Command::First(form)),
         "get" => {
             let key = owned(alloc, matches, "KEY")?;
             Ok(command::Command::Get(key, form))
@@ -453,7 +500,7 @@ pub fn command_of(
 /// Returns the file that a command is to write, if it isn't standard output.
 pub fn output_of<'a>(name: &str, matches: &ArgMatches<'a>) -> Option<&'a str> {
     match name {
-        "build" | "update" | "merge" | "top" => matches.get_str("OUTPUT"),
+        "build" | "update" | "set" | "merge" | "top" => matches.get_str("OUTPUT"),
         _ => None,
     }
 }

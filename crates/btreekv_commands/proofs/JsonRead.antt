@@ -88,7 +88,7 @@ all_same : (s : List ℕ) → flat_map escape_byte s ≡ flat_map escaped s
 all_same [] = refl
 all_same (x ∷ xs) = ap (λ z. z ++ flat_map escape_byte xs) (same_escape x (byte x)) ∙ ap (λ z. escaped x ++ z) (all_same xs)
 
-quoted_same : (s : List ℕ) → quoted s ≡ json_string s
+pub quoted_same : (s : List ℕ) → quoted s ≡ json_string s
 quoted_same s = ap (λ z. 34 ∷ (z ++ 34 ∷ [])) (all_same s)
 
 -- No escape has a line feed.

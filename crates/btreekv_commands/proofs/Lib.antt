@@ -12,11 +12,15 @@ pub mod Listed
 pub mod LookedUp
 pub mod Merges
 pub mod NodeSizes
+pub mod ObjectsBuilt
+pub mod ObjectsRead
+pub mod ObjectsWritten
 pub mod Ordering
 pub mod Prefixed
 pub mod Ranging
 pub mod Recorded
 pub mod RoundTrip
+pub mod SetEntries
 pub mod SidecarBytes
 pub mod Sorted
 pub mod SortedChanges

@@ -8,6 +8,7 @@ use Rattle.std.specs.Ordering.{nat_cmp}
 use Rattle.std.specs.Prelude.{String, string_bytes}
 use Rattle.std.specs.declared.ops.Bound.TheVariants.{Included, Unbounded}
 use Rattle.rkyv_btree_format.specs.OwnBytes.{own_at}
+use Rattle.rkyv_btree_format.specs.Read.{read_map}
 use Rattle.rkyv_btree_portable.specs.Text.{text_kind}
 use Rattle.rkyv_btree_source.specs.Reading.{IfRead, IsTooSmall}
 use Rattle.rkyv_btree_source.specs.SourceRange.{AreBetween}
@@ -18,11 +19,11 @@ use Rattle.rkyv_btree_unverified.specs.EntriesFrom.{entries_between, until}
 use Rattle.rkyv_btree_view.specs.Map.{IsMap}
 use Rattle.rkyv_btree_walk.specs.Bounds.{IsRun, entries_within}
 use Rattle.btreekv_commands.proofs.Prefixed.{sought_all, sought_begin}
-use Rattle.btreekv_commands.specs.Commands.{Outputs}
+use Rattle.btreekv_commands.specs.Commands.{FirstEntry, Outputs}
 use Rattle.btreekv_commands.specs.Forms.{entry_line, text_in}
 use Rattle.btreekv_commands.specs.Lines.{Entry}
 use Rattle.btreekv_commands.specs.Opening.{IsInput, KeysIncrease, texts}
-use Rattle.btreekv_commands.specs.Ranged.{PushesNext, sought, sought_in, text_compared_at}
+use Rattle.btreekv_commands.specs.Ranged.{PushesNext, WritesFirst, sought, sought_in, text_compared_at}
 use Rattle.btreekv_commands.specs.Sourced.{IsReadFailure, lookup_fault}
 use Rattle.btreekv_commands.specs.declared.command.Command.TheVariants.{Prefix, Range}
 use Rattle.btreekv_commands.specs.declared.forms.Form.{Form}
@@ -56,6 +57,19 @@ writes_on prefix form old new before after start all is h =
 pub writes_all : (prefix : List ℕ) (form : Form) (old new : List Entry) (before after start : List ℕ) (all : List Entry) → before ++ text_in form (sought prefix old) ≡ start ++ text_in form all
     → PushesNext prefix form old new before after false → after ≡ start ++ text_in form all
 writes_all prefix form old new before after start all is h = h.1 ∙ (sym (append-nil before) ∙ (ap (λ es. before ++ text_in form es) (sym h.0) ∙ is))
+
+module _ (form : Form) (all rest : List Entry) (before text : List ℕ) (found : Bool) (empty : before ≡ []) where
+  -- the first of all entries is written
+  pub wrote_first : found ≡ true → PushesNext [] form all rest before text found → FirstEntry form all text 0
+  wrote_first is h =
+      let first : PushesNext [] form all rest [] text true = rw (empty, is) at h in
+      subst (λ es. FirstEntry form es text 0) (sym (sym (sought_all all) ∙ first.1)) (first.2, refl)
+
+  -- or there is none
+  pub wrote_none : found ≡ false → PushesNext [] form all rest before text found → FirstEntry form all text 1
+  wrote_none is h =
+      let none : PushesNext [] form all rest [] text false = rw (empty, is) at h in
+      subst (λ es. FirstEntry form es text 1) (sym (sym (sought_all all) ∙ none.0)) (none.1, refl)
 
 -- the entries before the first that passes a test are a run of a list where all of them are
 run_front : (test : Entry → Bool) (range all : List Entry) → IsRun range all → IsRun (until test range) all
@@ -121,3 +135,12 @@ module _ (bytes : List ℕ) (at : ℕ) (place : at ≡ own_at texts bytes) (form
           wrote,
         ),
       )
+
+-- what is written of the first entry is what the command writes that reads all of the file
+pub writes_first : (bytes : List ℕ) (at : ℕ) → at ≡ own_at texts bytes → (form : Form) (text : List ℕ) (status : ℕ) (all : List Entry)
+    → all ≡ read_map text_kind text_kind 5 bytes at → ((m : List Entry) → IsMap text_kind text_kind 5 bytes at m → read_map text_kind text_kind 5 bytes at ≡ m)
+    → FirstEntry form all text status → WritesFirst bytes form text status
+writes_first bytes at place form text status all whole reads wrote = record {
+  archived = λ entries is. (entries, is, subst (λ es. FirstEntry form es text status) (whole ∙ reads entries (is_map bytes at place form text entries is)) wrote);
+  reached = subst (λ es. FirstEntry form es text status) (whole ∙ ap (read_map text_kind text_kind 5 bytes) place) wrote;
+}

@@ -19,8 +19,10 @@ use Rattle.btreearc_lines.specs.declared.heading.Heading.{Heading}
 use Rattle.btreekv_commands.specs.Building.{last_values, IsBuilt, IsBuiltMap, IsUnbuilt, IsUnbuiltInOrder, IsUnbuiltMap}
 use Rattle.btreekv_commands.specs.CsvRecords.{AreTableEntries, IsBadRow, table_text}
 use Rattle.btreekv_commands.specs.Figures.{archive_figures, figures}
-use Rattle.btreekv_commands.specs.Forms.{text_in, value_line}
+use Rattle.btreekv_commands.specs.Forms.{entry_line, text_in, value_line}
+use Rattle.btreekv_commands.specs.declared.forms.Form.{Form}
 use Rattle.btreekv_commands.specs.Json.{json_object}
+use Rattle.btreekv_commands.specs.JsonObjects.{IsJsonObject}
 use Rattle.btreekv_commands.specs.Lines.{Entry, AreLines, IsBadLine}
 use Rattle.btreekv_commands.specs.Opening.{texts, texts_name, IsInput, KeysIncrease, CountsStrict, RefusesArchive, RefusesStrictArchive}
 use Rattle.btreekv_commands.specs.Prefixes.{HasPrefix}
@@ -28,8 +30,8 @@ use Rattle.btreekv_commands.specs.Records.{AreRecords, IsBadRecord}
 use Rattle.btreekv_commands.specs.declared.csv_records.Table.{Table}
 use Rattle.btreekv_commands.specs.declared.records.Records.{Records}
 use Rattle.btreekv_commands.specs.declared.command.Command.{Command}
-use Rattle.btreekv_commands.specs.declared.command.Command.TheVariants.{Build, BuildFrom, BuildStrict, BuildSorted, BuildTable, List as ListEntries, ListTable}
-use Rattle.btreekv_commands.specs.declared.command.Command.TheVariants.{Check, CheckStrict, Explain, Get, ListJson, Prefix, Range, Stat}
+use Rattle.btreekv_commands.specs.declared.command.Command.TheVariants.{Build, BuildFrom, BuildJson, BuildStrict, BuildSorted, BuildTable, List as ListEntries, ListTable}
+use Rattle.btreekv_commands.specs.declared.command.Command.TheVariants.{Check, CheckStrict, Explain, First, Get, ListJson, Prefix, Range, Stat}
 
 -- the line of an archive of so many entries
 abbrev pub total : ℕ → List ℕ
@@ -43,6 +45,11 @@ found_in_archive b key = found_at text_kind text_kind 5 b (own_at texts b) (slic
 abbrev pub FoundValue : (List ℕ → List ℕ) → Option Entry → List ℕ → ℕ → Type 0
 FoundValue written None text status = (text ≡ []) × (status ≡ 1)
 FoundValue written (Some e) text status = (text ≡ written e.1) × (status ≡ 0)
+
+-- the first entry of a list, as it is written, with status 0; or nothing, with status 1
+abbrev pub FirstEntry : Form → List Entry → List ℕ → ℕ → Type 0
+FirstEntry form [] text status = (text ≡ []) × (status ≡ 1)
+FirstEntry form (e ∷ es) text status = (text ≡ entry_line form e) × (status ≡ 0)
 
 -- these entries of a list are a run of it, and those from the key `low` to the key `high`
 pub record IsBetween (low high : List ℕ) (entries within : List Entry) : Type 0 where
@@ -63,6 +70,8 @@ Outputs (BuildFrom form heading) input text status =
 Outputs (BuildTable table heading) input text status =
     (status ≡ 0) × ((entries : List Entry) × AreTableEntries table input entries
     × IsBuiltMap heading text (last_values entries) × KeysIncrease (last_values entries))
+Outputs (BuildJson heading) input text status =
+    (status ≡ 0) × ((entries : List Entry) × IsJsonObject input entries × IsBuiltMap heading text entries × KeysIncrease entries)
 Outputs (ListEntries form) input text status = (status ≡ 0) × ((entries : List Entry) × IsInput input entries × (text ≡ text_in form entries))
 Outputs ListJson input text status =
     (status ≡ 0) × ((entries : List Entry) × IsInput input entries × (text ≡ json_object entries ++ 10 ∷ []))
@@ -73,6 +82,7 @@ Outputs Stat input text status =
     (status ≡ 0) × ((entries : List Entry) × (is : IsInput input entries)
     × (text ≡ figures (length entries) (archive_figures input entries is.1) (length input)))
 Outputs Explain input text status = (status ≡ 0) × ((entries : List Entry) × IsInput input entries)
+Outputs (First form) input text status = (entries : List Entry) × IsInput input entries × FirstEntry form entries text status
 Outputs (Get key form) input text status =
     ((entries : List Entry) × IsInput input entries)
     × FoundValue (value_line form) (found_in_archive input (string_bytes key)) text status
@@ -110,6 +120,14 @@ FailsToBuildTable table heading input InputFailed = Unit {0}
 FailsToBuildTable table heading input Memory = Unit {0}
 FailsToBuildTable table heading input _ = ⊥
 
+-- why an archive isn't built of a JSON object: the input is none, which is the first record; or why its entries have no archive; or there
+-- is no memory
+abbrev pub FailsToBuildJson : Heading → List ℕ → ProgramFault → Type 0
+FailsToBuildJson heading input (Line n) = (n ≡ 1) × ((entries : List Entry) → ¬ IsJsonObject input entries)
+FailsToBuildJson heading input (NotBuilt fault) = (entries : List Entry) × IsJsonObject input entries × IsUnbuiltMap heading entries fault
+FailsToBuildJson heading input Memory = Unit {0}
+FailsToBuildJson heading input _ = ⊥
+
 -- why an archive isn't read: another header comes first, or the first error of bytes that are none; or there is no memory
 abbrev pub FailsToRead : (List ℕ → Refusal → Type 0) → List ℕ → ProgramFault → Type 0
 FailsToRead Refuses input (Refused refusal) = Refuses input refusal
@@ -124,6 +142,7 @@ Fails (BuildStrict heading) input fault = FailsToBuild (IsUnbuiltInOrder heading
 Fails (BuildSorted heading) input fault = FailsToBuild (λ entries. IsUnbuiltMap heading (last_values entries)) input fault
 Fails (BuildFrom form heading) input fault = FailsToBuildFrom form heading input fault
 Fails (BuildTable table heading) input fault = FailsToBuildTable table heading input fault
+Fails (BuildJson heading) input fault = FailsToBuildJson heading input fault
 Fails CheckStrict input fault = FailsToRead RefusesStrictArchive input fault
 Fails _ input fault = FailsToRead RefusesArchive input fault
 

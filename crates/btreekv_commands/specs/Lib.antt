@@ -7,6 +7,7 @@ pub mod Figures
 pub mod Files
 pub mod Forms
 pub mod Json
+pub mod JsonObjects
 pub mod JsonRecords
 pub mod Lines
 pub mod Nodes

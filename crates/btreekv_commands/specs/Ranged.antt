@@ -6,18 +6,20 @@ use Rattle.std.specs.Ordering.{nat_cmp}
 use Rattle.std.specs.Prelude.{◌≡◌, ℕ, ◌++◌, Bool, true, false, List, [], ◌∷◌, String, not}
 use Rattle.std.specs.declared.cmp.Ordering.{Ordering}
 use Rattle.std.specs.declared.ops.Bound.{Bound}
+use Rattle.rkyv_btree_format.specs.OwnBytes.{own_at}
+use Rattle.rkyv_btree_format.specs.Read.{read_map}
 use Rattle.rkyv_btree_portable.specs.Refusing.{RefusesWhole}
 use Rattle.rkyv_btree_portable.specs.Text.{text_kind}
 use Rattle.rkyv_btree_strict.specs.Prefix.{begins_with}
 use Rattle.rkyv_btree_unverified.specs.EntriesFrom.{entries_between, until}
 use Rattle.rkyv_btree_unverified.specs.Walks.{Fails}
 use Rattle.btreearc_lines.specs.declared.fault.ProgramFault.{ProgramFault}
-use Rattle.btreekv_commands.specs.Commands.{Outputs}
+use Rattle.btreekv_commands.specs.Commands.{FirstEntry, Outputs}
 use Rattle.btreekv_commands.specs.Forms.{entry_line}
 use Rattle.btreekv_commands.specs.Lines.{Entry}
-use Rattle.btreekv_commands.specs.Opening.{IsInput}
+use Rattle.btreekv_commands.specs.Opening.{IsInput, texts}
 use Rattle.btreekv_commands.specs.Sourced.{IsLookupFault}
-use Rattle.btreekv_commands.specs.declared.command.Command.TheVariants.{Prefix, Range}
+use Rattle.btreekv_commands.specs.declared.command.Command.TheVariants.{First, Prefix, Range}
 use Rattle.btreekv_commands.specs.declared.forms.Form.{Form}
 
 -- of entries those up to the first whose key doesn't begin with a prefix
@@ -41,6 +43,13 @@ text_compared_at text buffer at = slice_cmp nat_cmp text.now (text_kind.read buf
 -- past the high bound, or the first whose key begins with another text
 abbrev pub sought_in : List ℕ → ℕ → (low high : Bound (Bor (List ℕ))) → (prefix : List ℕ) → List Entry
 sought_in bytes at low high prefix = sought prefix (entries_between text_kind text_kind 5 text_compared_at bytes low high at)
+
+-- what is written of the first entry, in a source of these bytes, and with which status
+pub record WritesFirst (bytes : List ℕ) (form : Form) (text : List ℕ) (status : ℕ) : Type 0 where
+  -- of a file that the program opens it is what the command writes that reads all of it
+  pub archived : (entries : List Entry) → IsInput bytes entries → Outputs (First form) bytes text status
+  -- of all bytes it is the first entry to which the pointers lead
+  pub reached : FirstEntry form (read_map text_kind text_kind 5 bytes (own_at texts bytes)) text status
 
 -- what is written of the keys from one to another, in a source of these bytes
 pub record WritesRange (bytes : List ℕ) (low high : String Global) (form : Form) (text : List ℕ) : Type 0 where

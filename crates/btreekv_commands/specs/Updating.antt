@@ -1,8 +1,10 @@
 -- What an update, a merge and a difference of archives are, and why there is none.
-use Rattle.std.specs.Prelude.{◌≡◌, ◌⊎◌, ℕ, ◌+◌, Bool, false, List, [], ◌∷◌, ◌++◌, length}
+use Rattle.std.specs.Prelude.{◌≡◌, ◌≢◌, ◌⊎◌, ℕ, ◌+◌, Bool, false, List, [], ◌∷◌, ◌++◌, Option, Some, length}
+use Rattle.std.specs.BTreeMap.{is_at}
 use Rattle.std.specs.Borrow.{Bor}
 use Rattle.std.specs.Cmp.Lexicographic.{slice_cmp}
 use Rattle.std.specs.List.{AllByRecursion, fold}
+use Rattle.std.specs.Map.{lookup}
 use Rattle.std.specs.Ordering.{nat_cmp}
 use Rattle.std.specs.declared.alloc.AllocError.{AllocError}
 use Rattle.rkyv_btree_writer.specs.Archiving.{Archival}
@@ -15,6 +17,7 @@ use Rattle.rkyv_btree_writer.specs.Writing.{Writing}
 use Rattle.rkyv_btree_update.specs.Differences.{IsDifference}
 use Rattle.rkyv_btree_update.specs.Updated.{all_put, updated}
 use Rattle.rkyv_btree_update.specs.Written.{FailsToWrite}
+use Rattle.rkyv_btree_update.specs.declared.change.Change.TheVariants.{Put}
 use Rattle.btreekv_commands.specs.Changing.{AreChanges, ChangesIncrease, IsBadChange, TextChange, changes_text, counted}
 use Rattle.btreekv_commands.specs.Lines.{Entry}
 use Rattle.btreearc_lines.specs.Headings.{IsHeaded, IsMisheaded, IsUnbegun, begun}
@@ -109,6 +112,36 @@ FailsUpdate is_sorted archive input (NotBuilt fault) =
     (entries : List Entry) × (changes : List TextChange) × (heading : Heading) × IsHeaded texts_name archive heading
     × IsStrictArchive archive entries × AreChanges input changes × IsUnwritten heading (changed_entries entries (counted is_sorted changes)) fault
 FailsUpdate is_sorted archive input Memory = Unit {0}
+
+-- Single entries
+
+-- entries with one put
+abbrev pub with_entry : List Entry → (key value : List ℕ) → List Entry
+with_entry entries key value = changed_entries entries ((key, Put value) ∷ [])
+
+-- the value that a key has in a list, if it is there
+abbrev pub value_of : List Entry → List ℕ → Option (List ℕ)
+value_of entries key = lookup (is_at (slice_cmp nat_cmp key)) entries
+
+-- a text is the archive of another archive's entries with one put; it begins with a header if the other does
+pub record IsSet (archive key value text : List ℕ) : Type 0 where
+  pub entries : List Entry
+  pub heading : Heading
+  pub headed : IsHeaded texts_name archive heading
+  pub old : IsStrictArchive archive entries
+  pub new : IsStrictFile heading text (with_entry entries key value)
+  -- the key has the value
+  pub has : value_of (with_entry entries key value) key ≡ Some value
+  -- each other key has what it had
+  pub keeps : (other : List ℕ) → other ≢ key → value_of (with_entry entries key value) other ≡ value_of entries other
+
+-- why an entry isn't put: the archive's first error, or why the entries with it aren't archived
+abbrev pub FailsSet : (archive key value : List ℕ) → UpdateFault → Type 0
+FailsSet archive key value (Archive which refusal) = IsFirstRefused (archive ∷ []) which refusal
+FailsSet archive key value (NotBuilt fault) =
+    (entries : List Entry) × (heading : Heading) × IsHeaded texts_name archive heading × IsStrictArchive archive entries
+    × IsUnwritten heading (with_entry entries key value) fault
+FailsSet archive key value _ = ⊥
 
 -- Merges
 

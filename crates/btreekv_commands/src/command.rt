@@ -18,6 +18,8 @@ pub enum Command {
     BuildFrom(Records, Heading),
     /// Archive the entries of the input's table in increasing order of their keys. Of equal keys the last value counts.
     BuildTable(Table, Heading),
+    /// Archive the members of the input's JSON object in increasing order of their keys. Of equal keys the last value counts.
+    BuildJson(Heading),
     /// Write the entries of the input's archive.
     List(Form),
     /// Write the entries of the input's archive as a JSON object.
@@ -32,6 +34,8 @@ pub enum Command {
     Stat,
     /// Write the bytes of the input's archive with their meaning.
     Explain,
+    /// Write the first entry.
+    First(Form),
     /// Write the value of this key.
     Get(String, Form),
     /// Write the entries of the keys from the first to the second, both included.

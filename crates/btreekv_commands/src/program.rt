@@ -1,14 +1,15 @@
 //! The commands over a reader and a writer.
 ghost use Rattle.std.specs.Prelude.{◌≡◌, IfOk, IfErr, string_bytes};
 ghost use Rattle.btreekv_commands.specs.Commands.{Does, Fails, FailsToBuild, FailsToRead, Outputs, total};
-ghost use Rattle.btreekv_commands.specs.declared.command.Command.TheVariants.{Build, BuildFrom, BuildStrict, BuildSorted, BuildTable, List as ListEntries, ListTable};
-ghost use Rattle.btreekv_commands.specs.declared.command.Command.TheVariants.{Check, CheckStrict, Explain, Get, ListJson, Prefix, Range, Stat};
+ghost use Rattle.btreekv_commands.specs.declared.command.Command.TheVariants.{Build, BuildFrom, BuildJson, BuildStrict, BuildSorted, BuildTable, List as ListEntries, ListTable};
+ghost use Rattle.btreekv_commands.specs.declared.command.Command.TheVariants.{Check, CheckStrict, Explain, First, Get, ListJson, Prefix, Range, Stat};
 
 use crate::command::Command;
 use crate::csv_records::{Table, parse_table, table_of};
 use crate::entries::{check_order, count_lines};
 use crate::figures::figures_of;
-use crate::forms::{Form, push_value};
+use crate::forms::{Form, push_entry, push_value};
+use crate::json_objects::parse_object;
 use crate::json_text::push_object;
 use crate::lines::parse_lines;
 use crate::listing::write_entries;
@@ -111,6 +112,22 @@ fn explain(alloc: Global, archive: &[u8]) -> Result<String, ProgramFault>
 {
     let map = open(archive)?;
     explaining::explain(alloc, archive, map.pos)
+}
+
+/// Returns the first entry as it is written, or nothing and the status 1.
+fn first(alloc: Global, archive: &[u8], form: Form) -> Result<(Vec<u8>, u8), ProgramFault>
+    ensures ok { IfOk result (λ r. Outputs (First form) archive.now r.0.items r.1) }
+    ensures err { IfErr result (Fails (First form) archive.now) }
+{
+    let map = open(archive)?;
+    let mut text = Vec::new(alloc);
+    match map.first() {
+        None => Ok((text, 1)),
+        Some((key, value)) => match push_entry(&mut text, form, key.as_str(), value.as_str()) {
+            Ok(()) => Ok((text, 0)),
+            Err(_) => Err(ProgramFault::Memory),
+        },
+    }
 }
 
 /// Returns a key's value as it is written, or nothing and the status 1.
@@ -245,6 +262,17 @@ fn build_table(
     building::sorted_archive(alloc, heading, entries)
 }
 
+/// Returns the archive of the members of a JSON object in increasing order of their keys.
+fn build_json(alloc: Global, heading: Heading, text: &[u8]) -> Result<Vec<u8>, ProgramFault>
+    ensures ok { IfOk result (λ bytes. Outputs (BuildJson heading) text.now bytes.items 0) }
+    ensures err { IfErr result (Fails (BuildJson heading) text.now) }
+{
+    let Some(entries) = parse_object(alloc, text)? else {
+        return Err(ProgramFault::Line(1));
+    };
+    building::sorted_archive(alloc, heading, entries)
+}
+
 /// Returns what a command writes of an input, and its status.
 fn output_of(alloc: Global, command: &Command, input: &[u8]) -> Result<(Vec<u8>, u8), ProgramFault>
     ensures ok { IfOk result (λ r. Outputs command.now input.now r.0.items r.1) }
@@ -258,6 +286,7 @@ fn output_of(alloc: Global, command: &Command, input: &[u8]) -> Result<(Vec<u8>,
         Command::BuildTable(table, heading) => {
             Ok((build_table(alloc, *table, *heading, input)?, 0))
         }
+        Command::BuildJson(heading) => Ok((build_json(alloc, *heading, input)?, 0)),
         Command::List(form) => Ok((list(alloc, input, *form)?, 0)),
         Command::ListJson => Ok((list_json(alloc, input)?, 0)),
         Command::ListTable(table) => Ok((list_table(alloc, input, *table)?, 0)),
@@ -265,6 +294,7 @@ fn output_of(alloc: Global, command: &Command, input: &[u8]) -> Result<(Vec<u8>,
         Command::CheckStrict => Ok((check_strict(alloc, input)?.into_bytes(), 0)),
         Command::Stat => Ok((stat(alloc, input)?.into_bytes(), 0)),
         Command::Explain => Ok((explain(alloc, input)?.into_bytes(), 0)),
+        Command::First(form) => first(alloc, input, *form),
         Command::Get(key, form) => get(alloc, input, key, *form),
         Command::Range(low, high, form) => Ok((range(alloc, input, low, high, *form)?, 0)),
         Command::Prefix(text, form) => Ok((prefix(alloc, input, text, *form)?, 0)),

@@ -7,7 +7,7 @@ ghost use Rattle.rkyv_btree_portable.specs.Text.{text_kind};
 ghost use Rattle.rkyv_btree_unverified.specs.EntriesFrom.{entries_between};
 ghost use Rattle.btreekv_commands.specs.Forms.{text_in};
 ghost use Rattle.btreekv_commands.specs.Opening.{texts};
-ghost use Rattle.btreekv_commands.specs.Ranged.{IsRangeFault, PushesNext, WritesPrefix, WritesRange, sought_in, text_compared_at};
+ghost use Rattle.btreekv_commands.specs.Ranged.{IsRangeFault, PushesNext, WritesFirst, WritesPrefix, WritesRange, sought_in, text_compared_at};
 ghost use Rattle.btreekv_commands.specs.Sourced.{IsReadFailure};
 
 use crate::forms::{Form, push_entry};
@@ -116,6 +116,33 @@ pub fn push_sought<'k, S: ReadAt + Drop>(
             Ok(false) => return Ok(entries.into_source()),
             Err(fault) => return Err(fault),
         }
+    }
+}
+
+/// Returns the first entry as it is written, the exit status, and the archive. Nothing is written if there is none: the status is 1
+/// then, and else 0. The archive is all of a source, of which the way to that entry is read. What is read goes into `room`, which is
+/// lengthened if need be.
+///
+/// # Errors
+///
+/// As of `push_sought`.
+pub fn first_in<S: ReadAt + Drop>(
+    alloc: Global,
+    map: UnverifiedSource<S, Texts>,
+    room: &mut Vec<u8>,
+    form: Form,
+) -> Result<(Vec<u8>, u8, UnverifiedSource<S, Texts>), ProgramFault>
+    ensures ok { (b : List ℕ) → AreOf (S.known map.reader.source) b → map.pos ≡ own_at texts b →
+        IfOk result (λ r. WritesFirst b form r.0.items r.1) }
+    ensures err { (b : List ℕ) → AreOf (S.known map.reader.source) b →
+        IfErr result (IsRangeFault b map.pos) }
+{
+    let mut entries = map.range_of((Bound::Unbounded, Bound::Unbounded));
+    let mut text = Vec::new(alloc);
+    match push_next(&mut entries, room, "", form, &mut text) {
+        Ok(true) => Ok((text, 0, entries.into_source())),
+        Ok(false) => Ok((text, 1, entries.into_source())),
+        Err(fault) => Err(fault),
     }
 }
 

@@ -4,7 +4,7 @@ ghost use Rattle.rkyv_btree_portable.specs.Text.{text_kind};
 ghost use Rattle.rkyv_btree_update.specs.Updated.{changes_meant};
 ghost use Rattle.rkyv_btree_view.specs.View.{entries_of};
 ghost use Rattle.btreekv_commands.specs.Changing.{ChangesIncrease};
-ghost use Rattle.btreekv_commands.specs.Updating.{FailsChanges, FailsUpdate, IsStrictFile, IsUpdate, change_fault, changed_entries};
+ghost use Rattle.btreekv_commands.specs.Updating.{FailsChanges, FailsSet, FailsUpdate, IsSet, IsStrictFile, IsUpdate, change_fault, changed_entries};
 
 use crate::changes::read_changes;
 use crate::opening::{Texts, open_increasing};
@@ -98,4 +98,26 @@ pub fn update<'a>(
         Err(fault) => return Err(fault),
     };
     changed(alloc, heading, map, changes.as_slice())
+}
+
+/// Returns the file of an archive's entries with one put: the key has the value, and each other key what it had. It has a header if the old
+/// file has one.
+///
+/// # Errors
+///
+/// `Archive` with the error of a file that isn't an archive whose keys increase, and `NotBuilt` if the entries can't be archived.
+pub fn set<'a>(
+    alloc: Global,
+    archive: &'a [u8],
+    key: &'a str,
+    value: &'a str,
+) -> Result<Vec<u8>, UpdateFault>
+    ensures ok { IfOk result (λ bytes. IsSet archive.now key.now value.now bytes.items) }
+    ensures err { IfErr result (FailsSet archive.now key.now value.now) }
+{
+    let (heading, map) = match open_increasing(archive) {
+        Ok(opened) => opened,
+        Err(fault) => return Err(UpdateFault::Archive(0, fault)),
+    };
+    changed(alloc, heading, map, &[(key, Change::Put(value))])
 }
