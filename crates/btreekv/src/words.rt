@@ -112,10 +112,9 @@ fn with_json_lines<'a>(alloc: Global, command: Command<'a>) -> Result<Command<'a
     command.arg(lines.conflicts_with("escape")?.conflicts_with("null")?)
 }
 
-/// Returns the flag of a table, which goes with no other form, nor with this flag.
-fn alone<'a>(table: Arg<'a>, other: &'a str) -> Result<Arg<'a>, AllocError> {
-    table
-        .conflicts_with("escape")?
+/// Returns a flag that goes with no form of lines, nor with this other flag.
+fn alone<'a>(form: Arg<'a>, other: &'a str) -> Result<Arg<'a>, AllocError> {
+    form.conflicts_with("escape")?
         .conflicts_with("null")?
         .conflicts_with("ndjson")?
         .conflicts_with(other)
@@ -131,6 +130,27 @@ fn with_tables<'a>(
     let csv = flag(alloc, "csv", help).conflicts_with("tsv")?;
     let tsv = flag(alloc, "tsv", "the same with tabs in place of commas");
     command.arg(alone(csv, other)?)?.arg(alone(tsv, other)?)
+}
+
+/// Adds the flags of the JSON that `build` reads.
+fn with_json_input<'a>(alloc: Global, command: Command<'a>) -> Result<Command<'a>, AllocError> {
+    let ndjson = flag(
+        alloc,
+        "ndjson",
+        "read a JSON object a line, with key and value; sorted as by --sort",
+    );
+    let json = flag(
+        alloc,
+        "json",
+        "read one JSON object, whose members are strings; sorted as by --sort",
+    );
+    let ndjson = ndjson
+        .conflicts_with("strict")?
+        .conflicts_with("escape")?
+        .conflicts_with("null")?;
+    let json = alone(json, "strict")?;
+    let json = json.conflicts_with("csv")?.conflicts_with("tsv")?;
+    command.arg(ndjson)?.arg(json)
 }
 
 /// Returns the words of `build`.
@@ -150,16 +170,6 @@ fn build<'a>(alloc: Global) -> Result<Command<'a>, AllocError> {
         "null",
         "a zero byte ends an entry, in place of a line feed; with --sort",
     );
-    let ndjson = flag(
-        alloc,
-        "ndjson",
-        "read a JSON object a line, with key and value; sorted as by --sort",
-    );
-    let json = flag(
-        alloc,
-        "json",
-        "read one JSON object, whose members are strings; sorted as by --sort",
-    );
     let untyped = flag(
         alloc,
         "untyped",
@@ -173,21 +183,8 @@ fn build<'a>(alloc: Global) -> Result<Command<'a>, AllocError> {
         .arg(flag(alloc, "strict", "fail unless the keys increase"))?
         .arg(untyped)?
         .arg(escape.requires_arg("sort")?.conflicts_with("null")?)?
-        .arg(null.requires_arg("sort")?)?
-        .arg(
-            ndjson
-                .conflicts_with("strict")?
-                .conflicts_with("escape")?
-                .conflicts_with("null")?,
-        )?
-        .arg(
-            json.conflicts_with("strict")?
-                .conflicts_with("escape")?
-                .conflicts_with("null")?
-                .conflicts_with("ndjson")?
-                .conflicts_with("csv")?
-                .conflicts_with("tsv")?,
-        )?;
+        .arg(null.requires_arg("sort")?)?;
+    let command = with_json_input(alloc, command)?;
     with_tables(alloc, command, tables, "strict")?
         .arg(output(alloc))?
         .arg(file(alloc))
