@@ -212,11 +212,10 @@ ends 2 'btreekv: refused: position 0 is out of range' 'abc'                    '
 ends 2 "error: the argument '--csv' cannot be used with '--tsv'" ''            ''                            list --csv --tsv
 ends 2 "error: the argument '--csv' cannot be used with '--tsv'" ''            ''                            build --csv --tsv
 ends 2 "error: the argument '--csv' cannot be used with '--strict'" ''         ''                            build --csv --strict
-for word in ndjson escape null; do
+for word in ndjson json escape null; do
     ends 2 "error: the argument '--csv' cannot be used with '--$word'" '' ''   build --sort --csv "--$word"
     ends 2 "error: the argument '--tsv' cannot be used with '--$word'" '' ''   list --tsv "--$word"
 done
-ends 2 "error: the argument '--tsv' cannot be used with '--json'" ''           ''                            list --tsv --json
 printf 'k,v\na\n' > rows.csv
 ends 2 'btreekv: record 2 of rows.csv: not two fields of UTF-8' '' ''          build --csv rows.csv
 ends 2 'btreekv: input failed: .: Is a directory (os error 21)' '' ''          build --csv .
