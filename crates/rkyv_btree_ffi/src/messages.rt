@@ -1,5 +1,5 @@
 //! Texts of codes.
-ghost use Rattle.std.specs.Prelude.{◌≡◌, ◌≤◌, length, take, min};
+ghost use Rattle.std.specs.Prelude.{◌≡◌, ◌+◌, ◌<◌, ◌≤◌, drop, length, slice_index, take, min};
 ghost use Rattle.rkyv_btree_ffi.specs.Messages.{message_of};
 
 /// Returns the text of a code.
@@ -42,6 +42,8 @@ pub(crate) fn put_text(text: &str, out: &mut [u8]) -> usize
     ensures len { result ≡ length text.now }
     ensures text { take (min result (length out.old)) out.new
         ≡ take (min result (length out.old)) text.now }
+    ensures ends { result < length out.old → slice_index out.new result ≡ 0 }
+    ensures kept { drop (result + 1) out.new ≡ drop (result + 1) out.old }
 {
     let text = text.as_bytes();
     let room = text.len().min(out.len());
@@ -58,6 +60,8 @@ pub extern "C" fn rkyv_btree_strerror(code: u32, out: &mut [u8]) -> usize
     ensures len { result ≡ length (message_of code) }
     ensures text { take (min result (length out.old)) out.new
         ≡ take (min result (length out.old)) (message_of code) }
+    ensures ends { result < length out.old → slice_index out.new result ≡ 0 }
+    ensures kept { drop (result + 1) out.new ≡ drop (result + 1) out.old }
 {
     put_text(message(code), out)
 }

@@ -1,5 +1,5 @@
 //! Headers of typed files: they are written before an archive, and tested.
-ghost use Rattle.std.specs.Prelude.{◌≡◌, ◌↔◌, ◌≤◌, ◌<◌, ◌%◌, ℕ, IfErr, IfSome, IsOk, None, length, min, take};
+ghost use Rattle.std.specs.Prelude.{◌≡◌, ◌↔◌, ◌≤◌, ◌<◌, ◌%◌, ◌+◌, ℕ, IfErr, IfSome, IsOk, None, drop, length, min, slice_index, take};
 ghost use Rattle.std.specs.Option.{option_map};
 ghost use Rattle.rkyv_btree_typed.specs.TypeHeader.{HasHeader, HasOtherVersion, IsUnheaded, header};
 ghost use Rattle.rkyv_btree_typed.specs.declared.header.HeaderFault.TheVariants.{NoHeader};
@@ -166,6 +166,9 @@ pub extern "C" fn rkyv_btree_type_name(map_type: u32, out: &mut [u8]) -> usize
     ensures len { IfType map_type (λ t. result ≡ length (type_name t)) }
     ensures name { IfType map_type (λ t. take (min result (length out.old)) out.new
         ≡ take (min result (length out.old)) (type_name t)) }
+    ensures ends { IfType map_type (λ t. result < length out.old
+        → slice_index out.new result ≡ 0) }
+    ensures kept { IfType map_type (λ t. drop (result + 1) out.new ≡ drop (result + 1) out.old) }
     ensures no_type { type_of map_type ≡ None → (result ≡ 0) × (out.new ≡ out.old) }
 {
     match name_at(map_type) {
