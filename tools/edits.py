@@ -41,7 +41,7 @@ import shutil
 import sys
 import tempfile
 
-from kit import KIT_ID, RT
+from kit import LOGIC, RT
 from record import LOCK, Keys, read_lock, sample_of, write_lock
 
 ROOT = pathlib.Path(__file__).resolve().parent.parent
@@ -327,7 +327,7 @@ def record(edits, keys, lock, after_ci):
     for edit, why, of_twin in try_each(edits, after_ci):
         lock.pop(edit.full_name, None)
         # (a file that has changed meanwhile may be another than the one that was tried)
-        if is_refused(edit, why, of_twin) and Keys(KIT_ID).of([edit]) == {edit: keys[edit]}:
+        if is_refused(edit, why, of_twin) and Keys(LOGIC).of([edit]) == {edit: keys[edit]}:
             lock[edit.full_name] = keys[edit]
             refused += 1
         write_lock(lock)
@@ -368,7 +368,7 @@ def main():
     if lost:
         sys.exit(f"an old text isn't there once: {', '.join(lost)}")
     every = [it for it in of_all if it.crate.name in (given.crates or crates) and re.search(given.only, it.name)]
-    keys, lock = Keys(KIT_ID).of(every), read_lock()
+    keys, lock = Keys(LOGIC).of(every), read_lock()
     untried = [it for it in every if given.all or lock.get(it.full_name) != keys[it]]
     if given.gate:
         refused, others = gate(every, names, keys, lock, given.after_ci)

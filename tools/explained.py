@@ -1,5 +1,6 @@
 #!/usr/bin/env python3
-"""Prints the lines that `btreekv explain` must print of an archive of texts on standard input.
+"""Prints the lines that `btreekv explain` must print of an archive of texts on standard input, or with the argument KEY those of
+`btreekv explain --key KEY`.
 
 It reads the archive as docs/FORMAT.md defines it: it collects all parts in any order, sorts them by position, and calls what is between them
 unused. The archive must be valid, and no two of its parts may share bytes.
@@ -72,6 +73,38 @@ def lines_of(archive):
         done = pos + length
 
 
+def text_in(archive, slot):
+    start, length = target(archive, slot), number(archive, slot + 4)
+    return archive[start:start + length]
+
+
+def escaped(text):
+    return text.decode().replace("\\", "\\\\").replace("\t", "\\t").replace("\n", "\\n")
+
+
+def way_of(archive, key):
+    """Yields the lines of the lookup of a key: the keys of each node before it, and the next one."""
+    pos, margin = len(archive) - 8, " " * 10
+    node = target(archive, pos) if number(archive, pos + 4) else None
+    while node is not None:
+        is_leaf = archive[node] == 0
+        count = number(archive, node + AFTER) if is_leaf else ENTRIES
+        yield f"{node:08x}  {'leaf' if is_leaf else 'inner node'} of {count} entries"
+        keys = [text_in(archive, node + NODE_HEAD + SLOT * index) for index in range(count)]
+        index = next((index for index, held in enumerate(keys) if held >= key), count)
+        for at, held in enumerate(keys[:index + 1]):
+            how = "less" if at < index else "equal" if held == key else "greater"
+            yield f"{margin}key {at} is {how}: {escaped(held)}"
+        if index < count and keys[index] == key:
+            yield f"{margin}its value: {escaped(text_in(archive, node + VALUES + SLOT * index))}"
+            return
+        child = node + AFTER + 4 * index
+        node = None if is_leaf or number(archive, child) == 1 else target(archive, child)
+        yield f"{margin}the key isn't there" if node is None else f"{margin}child {index} is at {node:08x}"
+
+
 if __name__ == "__main__":
-    for line in lines_of(sys.stdin.buffer.read()):
+    archive = sys.stdin.buffer.read()
+    lines = way_of(archive, sys.argv[1].encode()) if len(sys.argv) > 1 else lines_of(archive)
+    for line in lines:
         print(line)

@@ -18,5 +18,5 @@ def load_rt():
 
 
 RT = load_rt()
-# what names this kit, and no other
-KIT_ID = pathlib.Path(RT.KIT, "KIT-ID").read_text()
+# what names the logic of this kit: kits of one logic give the same verdict on an edit
+LOGIC = pathlib.Path(RT.KIT, "KIT-ID").read_text().partition("logic")[2].strip()

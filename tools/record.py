@@ -1,6 +1,6 @@
 """The record of refused wrong bodies, wrong.lock: a line an edit, with its name and a key.
 
-A key is a checksum of what the verdict on an edit depends on: the kit, the edit, the files of its crate, and of the crates below what
+A key is a checksum of what the verdict on an edit depends on: the kit's logic, the edit, the files of its crate, and of the crates below what
 interface.py finds there. A line is valid if its key is that of the tree. It says that the prover refused the edit once, with that key.
 """
 import hashlib
@@ -25,8 +25,8 @@ def digest(*parts):
 class Keys:
     """The keys of the edits of a repository. What a crate shows to those above it is read once."""
 
-    def __init__(self, kit, root=ROOT):
-        self.kit, self.crates, self.shown = kit, pathlib.Path(root, "crates"), {}
+    def __init__(self, logic, root=ROOT):
+        self.logic, self.crates, self.shown = logic, pathlib.Path(root, "crates"), {}
 
     def below(self, name):
         """Returns the checksum of what crates above see of the crate with this name."""
@@ -39,7 +39,7 @@ class Keys:
         folder = self.crates / crate.name
         files = sorted(it for part in ("src", "specs", "proofs") for it in (folder / part).rglob("*") if it.is_file())
         own = [text for it in files for text in (it.relative_to(folder), it.read_text())]
-        return digest(RULES, self.kit, crate.name, *own, *[text for it in crate.below() for text in (it.name, self.below(it.name))])
+        return digest(RULES, self.logic, crate.name, *own, *[text for it in crate.below() for text in (it.name, self.below(it.name))])
 
     def of(self, edits):
         """Returns the key of each edit."""

@@ -8,7 +8,7 @@ import tempfile
 
 import edits
 import interface
-from kit import KIT_ID, RT
+from kit import LOGIC, RT
 from record import ROOT, Keys
 
 # an edit of the first of these crates depends on what is seen of the second, which is below it
@@ -93,20 +93,20 @@ def main():
     with tempfile.TemporaryDirectory() as work:
         for name in crates:
             shutil.copytree(ROOT / "crates" / name, f"{work}/crates/{name}", ignore=shutil.ignore_patterns("out"))
-        recorded = Keys(KIT_ID, work).of([edit])[edit]
+        recorded = Keys(LOGIC, work).of([edit])[edit]
         for change, name, is_invalid in CASES:
             file, changed = change(f"{work}/crates/{name}")
             kept = file.read_text()
             file.write_text(changed)
-            key = Keys(KIT_ID, work).of([edit])[edit]
+            key = Keys(LOGIC, work).of([edit])[edit]
             file.write_text(kept)
             what = change.__name__.replace("_", " ")
             expect(f"that {what} of {name} {'makes' if is_invalid else 'leaves'} the line of an edit of {CRATE} {'in' * is_invalid}valid",
                    changed != kept and (key != recorded) == is_invalid)
-        expect("that the same tree has the same key", Keys(KIT_ID, work).of([edit])[edit] == recorded)
-        expect("that another kit makes the line invalid", Keys("another", work).of([edit])[edit] != recorded)
+        expect("that the same tree has the same key", Keys(LOGIC, work).of([edit])[edit] == recorded)
+        expect("that another logic makes the line invalid", Keys("another", work).of([edit])[edit] != recorded)
         edit.text += "\n"
-        expect("that a changed edit makes its line invalid", Keys(KIT_ID, work).of([edit])[edit] != recorded)
+        expect("that a changed edit makes its line invalid", Keys(LOGIC, work).of([edit])[edit] != recorded)
     print(f"{passed} passed, {failed} failed")
     return 1 if failed else 0
 

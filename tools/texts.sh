@@ -102,6 +102,11 @@ ends 0 ''                                          "$unordered"                '
 ends 0 ''                                          "$long"                     '\xc3\xa4\t\xf0\x9d\x84\x9e\n' first
 ends 1 ''                                          "$empty"                    ''                            first
 ends 1 ''                                          "$empty"                    ''                            first --ndjson
+ends 0 ''                                          "$three"                    'pear\tyellow\n'              last
+ends 0 ''                                          "$unordered"                'b\t3\n'                    last
+ends 0 ''                                          "$long"                     '\xc3\xa4\t\xf0\x9d\x84\x9e\n' last
+ends 1 ''                                          "$empty"                    ''                            last
+ends 1 ''                                          "$empty"                    ''                            last --null
 ends 0 ''                                          "$empty"                    "$(figures 0 0 0 0 0 0 0 0 0 0 8 32 40)" stat
 ends 0 ''                                          "$three"                    "$(figures 3 1 1 0 1 60 0 88 12 23 8 33 164)" stat
 ends 0 ''                                          "$empty"                    '{}\n'                        list --json
@@ -115,6 +120,7 @@ ends 2 'btreekv: refused: position 0 is out of range' ''                       '
 ends 2 'btreekv: refused: position 0 is out of range' ''                       ''                            list
 ends 2 'btreekv: refused: position 0 is out of range' 'abc'                    ''                            get a
 ends 2 'btreekv: refused: position 0 is out of range' 'abc'                    ''                            first
+ends 2 'btreekv: refused: position 0 is out of range' 'abc'                    ''                            last
 ends 2 'btreekv: input failed: absent: No such file or directory (os error 2)' '' ''                     list absent
 ends 2 'btreekv: input failed: .: Is a directory (os error 21)' '' ''                                    check .
 ends 2 "error: 'btreekv' requires a subcommand but one was not provided" ''    ''
@@ -141,6 +147,9 @@ ends 0 ''                                          "$three"                    '
 ends 0 ''                                          "$escaped"                  "$tabs"                       first --escape
 ends 0 ''                                          "$nulled"                   'a\te\0'                     first --null
 ends 0 ''                                          "$three"                    '{"key":"apple","value":"red"}\n' first --ndjson
+ends 0 ''                                          "$escaped"                  "$tabs"                       last --escape
+ends 0 ''                                          "$nulled"                   'b\tc\nd\0'                  last --null
+ends 0 ''                                          "$three"                    '{"key":"pear","value":"yellow"}\n' last --ndjson
 ends 0 ''                                          "$empty"                    ''                            list --ndjson
 ends 0 ''                                          'a\tb'                      "$(archive_of 'a\tb\n')"     build --sort --escape
 ends 0 ''                                          'b\t1\0a\t2\0b\t3'         "$sorted"                     build --sort --null
@@ -152,6 +161,7 @@ ends 2 'error: the following required arguments were not provided:' ''        ''
 ends 2 "error: the argument '--escape' cannot be used with '--null'" ''       ''                            list --escape --null
 ends 2 "error: the argument '--json' cannot be used with '--ndjson'" ''       ''                            list --json --ndjson
 ends 2 "error: the argument '--escape' cannot be used with '--null'" ''       ''                            first --escape --null
+ends 2 "error: the argument '--escape' cannot be used with '--null'" ''       ''                            last --escape --null
 
 # JSON lines: those of list are read back, and others with two members that are strings
 ends 0 ''                                          ''                          "$empty"                      build --ndjson
@@ -290,7 +300,7 @@ ends 0 ''                                          "$untyped"                  '
 ends 0 ''                                          "$untyped"                  '3\n'                         get b
 foreign='rkyvbt\x01\x00\x10\x00\x00\x00[u32 -> u32 / 5]\x00\x00\x00\x00'$untyped
 later='rkyvbt\x02\x00'$untyped
-for words in list 'list --json' 'list --csv' check 'check --strict' stat explain first 'get a' 'range a b' 'prefix a' 'set a b'; do
+for words in list 'list --json' 'list --csv' check 'check --strict' stat explain first last 'get a' 'range a b' 'prefix a' 'set a b'; do
     read -ra words <<< "$words"
     ends 2 'btreekv: refused: the bytes are of type [u32 -> u32 / 5], not [text -> text / 5]' "$foreign" '' "${words[@]}"
     ends 2 'btreekv: refused: the type header has version 2, not 1' "$later" '' "${words[@]}"
@@ -302,7 +312,7 @@ ends 0 ''                                          'a\tb\r\nc\td\n'            "
 
 # the version, and help with examples
 ends 0 ''                                          ''                          'btreekv 0.1.0\n'             --version
-for command in '' build set list first get; do
+for command in '' build set list first last get; do
     "$program" $command --help > written 2> said && grep -q '^Examples:$' written && [[ ! -s said ]] || fail "help of '$command': $(cat said)"
 done
 
@@ -322,6 +332,11 @@ ends 2 'btreekv: input failed: .: Is a directory (os error 21)' '' '' get --vali
 printf 'abc' > short
 ends 2 'btreekv: refused: short: position 0 is out of range' '' '' get pear short
 ends 2 'btreekv: refused: short: position 0 is out of range' '' '' check short
+ends 0 '' '' '00000044  leaf of 3 entries\n          key 0 is less: apple\n          key 1 is equal: fig\n          its value: blue and green\n' explain --key fig archive
+ends 1 '' '' "00000044  leaf of 3 entries\n          key 0 is less: apple\n          key 1 is greater: fig\n          the key isn't there\n" explain --key banana archive
+ends 1 '' "$empty" '' explain --key a
+ends 0 '' "$escaped" '00000028  leaf of 1 entries\n          key 0 is equal: a\\tb\n          its value: c\\nd\\\\e\n' explain --key $'a\tb'
+ends 2 'btreekv: refused: short: position 0 is out of range' '' '' explain --key pear short
 ends 0 '' '' 'apple\tred\nfig\tblue and green\n' range apple fig archive
 ends 0 '' '' 'fig\tblue and green\n' prefix f archive
 ends 0 '' '' '{"key":"pear","value":"yellow"}\n' prefix --ndjson p archive
@@ -331,18 +346,27 @@ ends 0 '' '' '{"key":"apple","value":"red"}\n' first --ndjson archive
 ends 0 'btreekv: 192 of 164 bytes read' '' 'apple\tred\n' first --stats archive
 ends 0 'btreekv: 164 of 164 bytes read' '' 'apple\tred\n' first --stats --validate archive
 ends 0 'btreekv: 164 of 164 bytes read' "$three" 'apple\tred\n' first --stats
+ends 0 '' '' 'pear\tyellow\n' last archive
+ends 0 '' '' '{"key":"pear","value":"yellow"}\n' last --ndjson archive
+ends 0 'btreekv: 194 of 164 bytes read' '' 'pear\tyellow\n' last --stats archive
+ends 0 'btreekv: 164 of 164 bytes read' '' 'pear\tyellow\n' last --stats --validate archive
+ends 0 'btreekv: 164 of 164 bytes read' "$three" 'pear\tyellow\n' last --stats
 ends 0 'btreekv: 164 of 164 bytes read' '' 'fig\tblue and green\n' range --stats --validate b ofen archive
 ends 0 'btreekv: 164 of 164 bytes read' "$three" 'fig\tblue and green\n' prefix --stats f
 ends 2 'btreekv: refused: short: position 0 is out of range' '' '' first short
+ends 2 'btreekv: refused: short: position 0 is out of range' '' '' last short
 ends 2 'btreekv: refused: short: position 0 is out of range' '' '' range a z short
 ends 2 'btreekv: refused: short: position 0 is out of range' '' '' prefix a short
 ends 2 'btreekv: input failed: absent: No such file or directory (os error 2)' '' '' first absent
 ends 2 'btreekv: input failed: .: Is a directory (os error 21)' '' '' first .
+ends 2 'btreekv: input failed: absent: No such file or directory (os error 2)' '' '' last absent
+ends 2 'btreekv: input failed: .: Is a directory (os error 21)' '' '' last .
 ends 2 'btreekv: input failed: absent: No such file or directory (os error 2)' '' '' range a z absent
 ends 2 'btreekv: input failed: .: Is a directory (os error 21)' '' '' prefix a .
 truncate -s 4294967296 huge
 ends 2 'btreekv: refused: huge: buffer is longer than 4294967295 bytes' '' '' get pear huge
 ends 2 'btreekv: refused: huge: buffer is longer than 4294967295 bytes' '' '' first huge
+ends 2 'btreekv: refused: huge: buffer is longer than 4294967295 bytes' '' '' last huge
 ends 2 'btreekv: refused: huge: buffer is longer than 4294967295 bytes' '' '' prefix pear huge
 rm huge
 
@@ -360,6 +384,20 @@ ends 2 'btreekv: input failed: absent: No such file or directory (os error 2)' '
 ends 2 'btreekv: input failed: absent: No such file or directory (os error 2)' '' '' get --keys-from keys absent
 ends 2 "error: the argument '--keys-from <KEYS>' cannot be used with '[FILE]'" '' '' get --keys-from keys pear archive
 ends 2 "error: the argument '--json' cannot be used with '--keys-from <KEYS>'" '' '' get --json --keys-from keys archive
+# so are three words or more, of which the last is the file
+ends 1 '' '' "$found" get pear '' banana fig pear archive
+ends 0 '' '' 'fig\tblue and green\napple\tred\n' get fig apple archive
+ends 0 '' '' 'fig\tblue and green\napple\tred\n' get --validate fig apple archive
+ends 1 '' '' '' get banana cherry archive
+ends 0 'btreekv: 236 of 164 bytes read' '' 'fig\tblue and green\nfig\tblue and green\n' get --stats fig fig archive
+ends 0 'btreekv: 232 of 164 bytes read' '' 'fig\tblue and green\npear\tyellow\n' get --stats --validate fig pear archive
+ends 1 '' "$three" 'pear\tyellow\n' get pear fi /dev/stdin
+ends 1 '' '' 'pear\tyellow\n' get -- -k pear archive
+ends 2 'btreekv: refused: short: position 0 is out of range' '' '' get fig pear short
+ends 2 'btreekv: input failed: absent: No such file or directory (os error 2)' '' '' get fig pear absent
+ends 2 "error: the argument '--json' cannot be used with '[MORE]...'" '' '' get --json fig pear archive
+ends 2 "error: the argument '--escape' cannot be used with '[MORE]...'" '' '' get --escape fig pear archive
+ends 2 "error: the argument '--null' cannot be used with '[MORE]...'" '' '' get --null fig pear archive
 
 # A look-up in a file, which isn't read whole, ends as one in standard input, which is: the words of get before the file, and the file.
 alike() {
@@ -372,6 +410,9 @@ alike() {
 printf '%b' "$unordered" > unordered
 printf '%b' "$empty" > none
 ends 0 '' '' 'b\t1\n' first unordered
+ends 0 '' '' 'b\t3\n' last unordered
+ends 1 'btreekv: 8 of 40 bytes read' '' '' last --stats none
+ends 1 'btreekv: 40 of 40 bytes read' '' '' last --stats --validate none
 ends 1 'btreekv: 8 of 40 bytes read' '' '' first --stats none
 ends 1 'btreekv: 40 of 40 bytes read' '' '' first --stats --validate none
 for key in '' a b c; do
@@ -395,7 +436,11 @@ cut -f 1 mixed | "$program" get --keys-from - archive | cmp -s - mixed || fail "
 [[ $("$program" range 'key 019999' z archive | wc -l) == 2 ]] || fail "20000 lines: another range"
 [[ $("$program" prefix 'key 0123' archive | wc -l) == 100 ]] || fail "20000 lines: another prefix"
 [[ $("$program" first archive) == $'key 000001\tvalue of key 000001' ]] || fail "20000 lines: another first entry"
+[[ $("$program" last archive) == $'key 020000\tvalue of key 020000' ]] || fail "20000 lines: another last entry"
+head -n 500 mixed | cut -f 1 | tr '\n' '\0' | xargs -0 sh -c '"$0" get "$@" archive' "$program" | cmp -s - <(head -n 500 mixed) || fail "20000 lines: other lines of 500 words"
 "$program" first wide | cmp -s - <("$program" list wide | head -n 1) || fail "long texts: another first entry"
+python3 -c 'print("b\tw\n" + "z" * 70000 + "\t" + "v" * 300000)' | "$program" build > wide_last
+"$program" last wide_last | cmp -s - <("$program" list wide_last | tail -n 1) || fail "long texts: another last entry"
 "$program" explain archive > explained || fail "20000 lines: not explained"
 # The figures are those of the lines of explain.
 cat > counted.py <<'E'
@@ -426,6 +471,10 @@ awk '/^(entries|levels|least|fill|inner nodes|leaves)/ { next } /^bytes/ { all =
     || fail "20000 lines: the bytes are no sum"
 [[ $(sed -n 's/^least levels //p' written) == 6 ]] || fail "20000 lines: other least levels"
 "$tools/explained.py" < archive | cmp -s - explained || fail "20000 lines: explained otherwise"
+# The way of a lookup, as it is known from the lines of explain.
+while read -r key; do
+    { "$program" explain --key "$key" archive || (($? == 1)); } | cmp -s - <("$tools/explained.py" "$key" < archive) || fail "20000 lines: another way to $key"
+done < <(shuf -n 20 --random-source=many many | cut -f 1; printf '%s\n' 'key' 'key 000001' 'key 010000+' 'key 020000' 'z')
 for count in 0 1 5 6 7 17 35 36 41 215; do
     head -n "$count" many | "$program" build > few
     "$program" explain few | cmp -s - <("$tools/explained.py" < few) || fail "$count lines: explained otherwise"
@@ -449,6 +498,8 @@ ends 2 'btreekv: refused: damaged: entry at position 184 is bad' '' '' range --v
 ends 2 'btreekv: refused: damaged: entry at position 184 is bad' '' '' range 'key 000001' 'key 012346' damaged
 ends 2 'btreekv: refused: damaged: entry at position 184 is bad' '' '' prefix 'key 00000' damaged
 ends 2 'btreekv: refused: damaged: entry at position 184 is bad' '' '' first damaged
+ends 0 '' '' 'key 020000\tvalue of key 020000\n' last damaged
+ends 2 'btreekv: refused: damaged: entry at position 184 is bad' '' '' last --validate damaged
 python3 -c '
 held = open("archive", "rb").read()
 at = held.rindex(b"value of key 020000")
@@ -457,6 +508,8 @@ open("damaged", "wb").write(held[:at] + b"\xff" + held[at + 1 :])
 ends 0 '' '' 'key 000001\tvalue of key 000001\n' first damaged
 "$program" first --validate damaged > written 2> said && fail "a damaged value: not refused"
 [[ $(cat said) == 'btreekv: refused: damaged: entry at position '*' is bad' && ! -s written ]] || fail "a damaged value: $(cat said)"
+"$program" last damaged > written 2> said && fail "a damaged last value: not refused"
+[[ $(cat said) == 'btreekv: refused: damaged: entry at position '*' is bad' && ! -s written ]] || fail "a damaged last value: $(cat said)"
 
 # Any bytes are looked up in, or refused. Where all are valid the values are alike, and so are the lines of a range and of a prefix if the
 # keys increase.
@@ -474,16 +527,16 @@ for _ in range(300):
     open("damaged", "wb").write(held)
     key = f"key {chance.randrange(217):06}"
     is_strict = subprocess.run([program, "check", "--strict", "damaged"], capture_output=True).returncode == 0
-    for command, *words in (["get", key], ["range", key, "key 0001"], ["prefix", key[:-1]], ["first"]):
+    for command, *words in (["get", key], ["range", key, "key 0001"], ["prefix", key[:-1]], ["first"], ["last"]):
         parts, whole = (subprocess.run([program, command, *flags, *words, "damaged"], capture_output=True) for flags in ([], ["--validate"]))
         kinds.add((command, parts.returncode, whole.returncode))
         is_line = parts.stderr.startswith(b"btreekv: refused: damaged: ") and parts.stderr.count(b"\n") == 1
         is_refused = parts.returncode == 2 and not parts.stdout and is_line
         if not is_refused and (parts.returncode not in (0, 1) or parts.stderr):
             sys.exit(f"damaged: {command}: status {parts.returncode}: {parts.stderr}")
-        if whole.returncode != 2 and (is_strict or command in ("get", "first")) and (parts.returncode, parts.stdout) != (whole.returncode, whole.stdout):
+        if whole.returncode != 2 and (is_strict or command in ("get", "first", "last")) and (parts.returncode, parts.stdout) != (whole.returncode, whole.stdout):
             sys.exit(f"damaged: {command} {words}: {parts.stdout} and {whole.stdout}")
-for command in ("get", "range", "prefix", "first"):
+for command in ("get", "range", "prefix", "first", "last"):
     if not {(command, 0, 0), (command, 0, 2), (command, 2, 2)} <= kinds:
         sys.exit(f"damaged: {command}: only {kinds}")
 E
@@ -508,7 +561,12 @@ cat million | resident build 2>> said | cmp -s - large || fail "a million lines 
 resident build < million 2>> said | cmp -s - large || fail "a million lines as standard input: another archive"
 resident build --strict <(cat million) 2>> said | cmp -s - large || fail "a million lines of a pipe by name: another archive"
 "$program" build --sort million | cmp -s - large || fail "a million lines: another archive than of the sorted ones"
-"$program" list large | cmp -s - million || fail "a million lines: listed otherwise"
+# What list and check hold is the file, and at most 8 megabytes more.
+held=$(($(stat -c %s large) / 1024 + 8192))
+python3 resident.py $held "$program" list large 2>> said | cmp -s - million || fail "a million lines: listed otherwise"
+python3 resident.py $held "$program" list --json large 2>> said | tail -c 32 | grep -q '^.*,"1999999":"value of 1999999"}$' ||
+    fail "a million lines: another JSON object"
+[[ $(python3 resident.py $held "$program" check --strict large 2>> said) == 'ok 1000000 entries' ]] || fail "a million lines: not checked"
 [[ ! -s said ]] || fail "a million lines: on standard error: $(cat said)"
 [[ $(resident get --stats 1500000 large 2> said) == 'value of 1500000' ]] || fail "a million lines: another value: $(cat said)"
 read -r _ count of size words < said
@@ -516,6 +574,9 @@ read -r _ count of size words < said
 [[ $(resident first --stats large 2> said) == $'1000000\tvalue of 1000000' ]] || fail "a million lines: another first entry: $(cat said)"
 read -r _ count of size words < said
 [[ $of == of && $words == 'bytes read' && $count -lt 4096 ]] || fail "a million lines: the first entry: $(cat said)"
+[[ $(resident last --stats large 2> said) == $'1999999\tvalue of 1999999' ]] || fail "a million lines: another last entry: $(cat said)"
+read -r _ count of size words < said
+[[ $of == of && $words == 'bytes read' && $count -lt 4096 ]] || fail "a million lines: the last entry: $(cat said)"
 cmp -s <(resident range --stats 1500000 1500099 large 2> said) <(sed -n '500001,500100p' million) || fail "a million lines: another range: $(cat said)"
 read -r _ count of size words < said
 [[ $of == of && $words == 'bytes read' && $count -lt 32768 ]] || fail "a million lines: a range: $(cat said)"
@@ -539,6 +600,11 @@ unbuilt 'btreekv: input failed: absent: No such file or directory (os error 2)' 
 unbuilt 'btreekv: input failed: .: Is a directory (os error 21)' .
 TMPDIR=$work/absent unbuilt 'btreekv: input failed' < bad
 [[ -z $(ls spool) ]] || fail "a temporary file is left: $(ls spool)"
+
+# without the memory for an archive, and with a word that isn't UTF-8
+(ulimit -v 32768 && exec "$program" list large) > written 2> said && fail "list without memory: status 0"
+[[ $(cat said) == 'btreekv: out of memory' && ! -s written ]] || fail "list without memory: $(cat said)"
+ends 2 'btreekv: arguments failed' '' '' get $'\xff'
 
 # Updates, merges and differences. What is expected is computed in Python, by a dict, and built from its lines. The tree is the smallest,
 # so archives of one list have the same bytes.
@@ -679,7 +745,7 @@ for name in foreign later; do
     why='the type header has version 2, not 1'
     [[ $name == later ]] || why='the bytes are of type [u32 -> u32 / 5], not [text -> text / 5]'
     for words in "get a $name" "get --validate a $name" "get --keys-from keys $name" "update $name changes" "merge $name typed" "merge typed $name" \
-        "diff $name typed" "diff typed $name" "top 1 $name" "first $name" "first --validate $name" "set a b $name"; do
+        "diff $name typed" "diff typed $name" "top 1 $name" "first $name" "first --validate $name" "last $name" "get a b $name" "set a b $name"; do
         read -ra words <<< "$words"
         refuses "btreekv: refused: $name: $why" '' "${words[@]}"
     done
@@ -791,6 +857,8 @@ same 'btreekv: input is output: both' twin list both
 same 'btreekv: input is output: twin' both check twin
 same 'btreekv: input is output: both' both get b both
 same 'btreekv: input is output: both' both first both
+same 'btreekv: input is output: both' both last both
+same 'btreekv: input is output: both' both get a b both
 same 'btreekv: input is output: both' both set b 2 both
 same 'btreekv: input is output: both' both get --keys-from keys both
 same 'btreekv: input is output: both' both get --validate b both

@@ -50,13 +50,13 @@ fn fail_update(
 }
 
 /// Reads a file, or standard input.
-fn read(system: &System<'_>, path: Option<&str>) -> Result<Vec<u8>, Ended> {
+pub(crate) fn read(system: &System<'_>, path: Option<&str>) -> Result<Vec<u8>, Ended> {
     let alloc = system.alloc();
     let read = match path {
         None => read_all(alloc, &mut Progress::new(system, system.stdin()?)),
         Some(path) => {
             let file = system.open(path)?;
-            read_all(alloc, &mut Progress::new(system, file))
+            read_all(alloc, &mut Progress::of_file(system, file))
         }
     };
     match read {

@@ -40,7 +40,7 @@ impl<'s, 'a> Reopen for Lines<'s, 'a> {
         let file = if self.is_read.replace(true) {
             Progress::silent(self.system, file)
         } else {
-            Progress::new(self.system, file)
+            Progress::of_file(self.system, file)
         };
         buffered(self.system.alloc(), file)
     }

@@ -18,6 +18,7 @@ use std::fs::{File, metadata};
 use std::io;
 use std::io::{BufRead, Read};
 use std::os::unix::fs::FileExt;
+use std::slice::Iter;
 use std::str::from_utf8;
 
 /// The number of blocks that the look-up of one key keeps, of 4 kilobytes each.
@@ -126,15 +127,20 @@ fn get_in_parts(
     Ok(status)
 }
 
+/// Keys, one after the other.
+trait Keys {
+    /// Reads the next key, which has this number, into a buffer, and returns whether there is one.
+    fn read(&mut self, system: &System<'_>, number: u64, key: &mut Vec<u8>) -> Result<bool, Ended>;
+}
+
 /// The lines of keys, with the name of their file.
 #[derive(Drop)]
-struct Keys<'n, R> {
+struct KeyLines<'n, R> {
     input: R,
     name: Option<&'n str>,
 }
 
-impl<'n, R: BufRead> Keys<'n, R> {
-    /// Reads the next key into a buffer, and returns whether there is one.
+impl<'n, R: BufRead> Keys for KeyLines<'n, R> {
     fn read(&mut self, system: &System<'_>, number: u64, key: &mut Vec<u8>) -> Result<bool, Ended> {
         match read_line(&mut self.input, key) {
             Ok(false) => return Ok(false),
@@ -148,12 +154,45 @@ impl<'n, R: BufRead> Keys<'n, R> {
     }
 }
 
+/// Keys that are words of the command line.
+#[derive(Drop)]
+struct KeyWords<'w> {
+    words: Iter<'w, &'w str>,
+}
+
+impl<'w> Keys for KeyWords<'w> {
+    fn read(
+        &mut self,
+        system: &System<'_>,
+        _number: u64,
+        key: &mut Vec<u8>,
+    ) -> Result<bool, Ended> {
+        let Some(word) = self.words.next() else {
+            return Ok(false);
+        };
+        key.clear();
+        match key.extend_from_slice(word.as_bytes()) {
+            Ok(()) => Ok(true),
+            Err(_) => Err(system.fail(Names::of_input(None), &ProgramFault::Memory)),
+        }
+    }
+}
+
+/// Where the keys of a call are.
+#[derive(Clone, Copy)]
+enum KeyList<'w> {
+    /// In the file of this name, or in standard input if it is `-`.
+    From(&'w str),
+    /// Among the words of the command line.
+    Words(&'w [&'w str]),
+}
+
 /// Looks up keys in an archive that is all of a source, and writes the line of each that is found. Returns the exit status.
-fn write_keys<S: ReadAt, R: BufRead + Drop>(
+fn write_keys<S: ReadAt, T: Keys + Drop>(
     system: &System<'_>,
     names: Names<'_>,
     map: &mut UnverifiedSource<S, Texts>,
-    mut keys: Keys<'_, R>,
+    mut keys: T,
 ) -> Result<u8, Ended> {
     let alloc = system.alloc();
     let mut room = match sourced::first_room(alloc) {
@@ -191,19 +230,20 @@ fn write_keys_of<S: ReadAt, R: Read + Drop>(
     name: Option<&str>,
 ) -> Result<u8, Ended> {
     match buffered(system.alloc(), Progress::silent(system, input)) {
-        Ok(input) => write_keys(system, names, map, Keys { input, name }),
+        Ok(input) => write_keys(system, names, map, KeyLines { input, name }),
         Err(fault) => Err(system.fail(names, &fault)),
     }
 }
 
-/// Looks up the keys of a file, or of standard input, in an archive that is all of a source.
+/// Looks up keys in an archive that is all of a source, and has this name.
 fn get_keys_in<S: ReadAt + Drop>(
     system: &System<'_>,
     matches: &ArgMatches<'_>,
+    path: &str,
     mut source: S,
-    keys: &str,
+    keys: KeyList<'_>,
 ) -> Result<u8, Ended> {
-    let names = Names::of_input(matches.get_str("KEY"));
+    let names = Names::of_input(Some(path));
     let Ok(size) = source.size() else {
         return Err(system.fail(names, &ProgramFault::InputFailed));
     };
@@ -211,19 +251,27 @@ fn get_keys_in<S: ReadAt + Drop>(
         Ok(map) => map,
         Err(fault) => return Err(system.fail(names, &fault)),
     };
-    let status = if keys == "-" {
-        write_keys_of(system, names, &mut map, system.stdin()?, None)?
-    } else {
-        let file = system.open(keys)?;
-        write_keys_of(system, names, &mut map, file, Some(keys))?
+    let status = match keys {
+        KeyList::From("-") => write_keys_of(system, names, &mut map, system.stdin()?, None)?,
+        KeyList::From(keys) => {
+            let file = system.open(keys)?;
+            write_keys_of(system, names, &mut map, file, Some(keys))?
+        }
+        KeyList::Words(words) => {
+            let words = words.iter();
+            write_keys(system, names, &mut map, KeyWords { words })?
+        }
     };
     let read = sourced::BUDGET.saturating_sub(map.budget_left());
     write_stats(system, matches, read, size);
     Ok(status)
 }
 
-/// Returns whether a file of keys is so long that it takes less time to read all of a regular file than what the look-ups need of it.
-fn are_many(system: &System<'_>, file: &File, keys: &str) -> bool {
+/// Returns whether there are so many keys that it takes less time to read all of a regular file than what the look-ups need of it.
+fn are_many(system: &System<'_>, file: &File, keys: KeyList<'_>) -> bool {
+    let KeyList::From(keys) = keys else {
+        return false;
+    };
     let (Ok(archive), Ok(keys)) = (file.metadata(), metadata(system.rt, keys)) else {
         return false;
     };
@@ -238,29 +286,50 @@ fn read_archive(
     file: File,
 ) -> Result<Vec<u8>, ProgramFault> {
     let is_validated = !is_regular(&file) || matches.get_flag("validate");
-    let bytes = read_all(system.alloc(), &mut Progress::new(system, file))?;
+    let bytes = read_all(system.alloc(), &mut Progress::of_file(system, file))?;
     if is_validated {
         opening::open(&bytes)?;
     }
     Ok(bytes)
 }
 
-/// Looks up the keys of a file, or of standard input.
-fn get_keys(system: &System<'_>, matches: &ArgMatches<'_>, keys: &str) -> Result<u8, Ended> {
-    // The words have no key then, so the first of them is the file.
-    let path = matches.get_str("KEY").unwrap_or("");
+/// Looks up keys in the archive of this name.
+fn get_keys(
+    system: &System<'_>,
+    matches: &ArgMatches<'_>,
+    path: &str,
+    keys: KeyList<'_>,
+) -> Result<u8, Ended> {
     let file = system.open(path)?;
     let in_parts = is_regular(&file) && !matches.get_flag("validate");
     if in_parts && !are_many(system, &file, keys) {
         return match cached(system, file, MANY_BLOCKS) {
-            Ok(source) => get_keys_in(system, matches, source, keys),
+            Ok(source) => get_keys_in(system, matches, path, source, keys),
             Err(fault) => Err(system.fail(Names::of_input(Some(path)), &fault)),
         };
     }
     match read_archive(system, matches, file) {
-        Ok(bytes) => get_keys_in(system, matches, bytes.as_slice(), keys),
+        Ok(bytes) => get_keys_in(system, matches, path, bytes.as_slice(), keys),
         Err(fault) => Err(system.fail(Names::of_input(Some(path)), &fault)),
     }
+}
+
+/// Looks up the keys that are all of the words but the last, which is the file. `more` are those after the second.
+fn get_words(
+    system: &System<'_>,
+    matches: &ArgMatches<'_>,
+    path: &str,
+    more: &[&str],
+) -> Result<u8, Ended> {
+    let mut keys = Vec::new(system.alloc());
+    let first = [
+        matches.get_str("KEY").unwrap_or(""),
+        matches.get_str("FILE").unwrap_or(""),
+    ];
+    if keys.extend_from_slice(&first).is_err() || keys.extend_from_slice(more).is_err() {
+        return Err(system.fail(Names::of_input(None), &ProgramFault::Memory));
+    }
+    get_keys(system, matches, path, KeyList::Words(&keys))
 }
 
 /// Returns whether a file is a regular one.
@@ -287,7 +356,12 @@ fn get_in_file(
 /// Runs `get`, and returns the exit status.
 pub fn get(system: &System<'_>, matches: &ArgMatches<'_>) -> Result<u8, Ended> {
     if let Some(keys) = matches.get_str("keys-from") {
-        return get_keys(system, matches, keys);
+        // The words have no key then, so the first of them is the file.
+        let path = matches.get_str("KEY").unwrap_or("");
+        return get_keys(system, matches, path, KeyList::From(keys));
+    }
+    if let Some((path, more)) = matches.get_strs("MORE").unwrap_or(&[]).split_last() {
+        return get_words(system, matches, path, more);
     }
     let path = matches.get_str("FILE");
     let done = match path {

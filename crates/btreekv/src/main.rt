@@ -2,7 +2,9 @@
 #![tactic(auto)]
 
 mod archives;
+mod explained;
 mod files;
+mod listed;
 mod lookups;
 mod output;
 mod progress;
@@ -137,7 +139,7 @@ fn read(system: &System<'_>, command: &Command, names: Names<'_>) -> Result<u8, 
         }
         Some(path) => {
             let file = system.open(path)?;
-            run_over(system, command, &mut Progress::new(system, file), None)
+            run_over(system, command, &mut Progress::of_file(system, file), None)
         }
     };
     match done {
@@ -232,8 +234,10 @@ fn status(system: &System<'_>) -> Result<u8, Ended> {
         "merge" => archives::merge(system, matches),
         "diff" => archives::diff(system, matches),
         "top" => archives::top(system, matches),
+        "explain" => explained::run(system, matches),
+        "list" if !words::is_table(matches) => listed::run(system, matches),
         "get" => lookups::get(system, matches),
-        "first" | "range" | "prefix" => ranges::run(system, name, matches),
+        "first" | "last" | "range" | "prefix" => ranges::run(system, name, matches),
         _ => one_file(system, name, matches),
     }
 }

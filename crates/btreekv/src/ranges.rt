@@ -1,4 +1,4 @@
-//! The first entry, ranges of keys, and keys that begin with a text. A regular file isn't read whole.
+//! The first and the last entry, ranges of keys, and keys that begin with a text. A regular file isn't read whole.
 
 use crate::lookups::{cached, in_all, is_regular, write_stats};
 use crate::system::{Ended, Names, System};
@@ -45,19 +45,28 @@ fn text_of<S: ReadAt + Drop>(
     system: &System<'_>,
     name: &str,
     matches: &ArgMatches<'_>,
-    map: UnverifiedSource<S, Texts>,
+    mut map: UnverifiedSource<S, Texts>,
 ) -> Result<(Vec<u8>, u8, UnverifiedSource<S, Texts>), ProgramFault> {
     let alloc = system.alloc();
     let form = words::form_of(matches);
-    if name == "first" {
-        let mut room = sourced::first_room(alloc)?;
-        return ranged::first_in(alloc, map, &mut room, form);
+    match name {
+        "first" => {
+            let mut room = sourced::first_room(alloc)?;
+            ranged::first_in(alloc, map, &mut room, form)
+        }
+        "last" => {
+            let mut room = sourced::first_room(alloc)?;
+            let (text, status) = ranged::last_in(alloc, &mut map, &mut room, form)?;
+            Ok((text, status, map))
+        }
+        _ => {
+            let (text, map) = lines_of(system, name, matches, map, form)?;
+            Ok((text, 0, map))
+        }
     }
-    let (text, map) = lines_of(system, name, matches, map, form)?;
-    Ok((text, 0, map))
 }
 
-/// Writes the first entry or the lines of a range in a regular file, of which only these and the ways to them are read and validated.
+/// Writes an end or the lines of a range in a regular file, of which only these and the ways to them are read and validated.
 fn in_parts(
     system: &System<'_>,
     name: &str,
@@ -76,7 +85,7 @@ fn in_parts(
     Ok(status)
 }
 
-/// Writes the first entry or the lines of a range in a file.
+/// Writes an end or the lines of a range in a file.
 fn in_file(
     system: &System<'_>,
     name: &str,
@@ -90,7 +99,7 @@ fn in_file(
     }
 }
 
-/// Runs `first`, `range` or `prefix`, and returns the exit status.
+/// Runs `first`, `last`, `range` or `prefix`, and returns the exit status.
 pub fn run(system: &System<'_>, name: &str, matches: &ArgMatches<'_>) -> Result<u8, Ended> {
     let path = matches.get_str("FILE");
     let done = match path {

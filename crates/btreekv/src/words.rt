@@ -41,10 +41,16 @@ const FIRST_EXAMPLES: &str = "Examples:
   btreekv first fruits
   btreekv first --ndjson fruits";
 
+/// Examples of `last`.
+const LAST_EXAMPLES: &str = "Examples:
+  btreekv last fruits
+  btreekv last --ndjson fruits";
+
 /// Examples of `get`.
 const GET_EXAMPLES: &str = "Examples:
   btreekv get fig fruits
   btreekv get --json fig fruits
+  btreekv get fig pear apple fruits
   btreekv get --keys-from keys fruits";
 
 /// Returns a flag of a command.
@@ -288,7 +294,17 @@ fn stat<'a>(alloc: Global) -> Result<Command<'a>, AllocError> {
 /// Returns the words of `explain`.
 fn explain<'a>(alloc: Global) -> Result<Command<'a>, AllocError> {
     Command::new(alloc, "explain")
-        .about("write the bytes of an archive with their meaning")
+        .about("write the bytes of an archive with their meaning, or the way of a lookup")
+        .arg(
+            Arg::new(alloc, "key")
+                .long("key")
+                .value_name("KEY")
+                .help(
+                    "write the nodes to which a lookup of this key comes, and the keys it compares",
+                )
+                .allow_hyphen_values(true)
+                .action(ArgAction::Set),
+        )?
         .arg(file(alloc))
 }
 
@@ -311,6 +327,26 @@ fn first<'a>(alloc: Global) -> Result<Command<'a>, AllocError> {
     with_reading(alloc, with_json_lines(alloc, with_forms(alloc, command)?)?)?.arg(file(alloc))
 }
 
+/// Returns the words of `last`.
+fn last<'a>(alloc: Global) -> Result<Command<'a>, AllocError> {
+    let command = Command::new(alloc, "last")
+        .about("write the line of the last entry, which has the greatest key if the keys increase")
+        .after_help(LAST_EXAMPLES);
+    with_reading(alloc, with_json_lines(alloc, with_forms(alloc, command)?)?)?.arg(file(alloc))
+}
+
+/// Returns the words of `get` after its second: all but the last are keys too, and the last is the file.
+fn more<'a>(alloc: Global) -> Result<Arg<'a>, AllocError> {
+    Arg::new(alloc, "MORE")
+        .help("with three words or more, the last is the file to read, and the others are keys")
+        .num_args(1..)
+        .action(ArgAction::Set)
+        .conflicts_with("json")?
+        .conflicts_with("escape")?
+        .conflicts_with("null")?
+        .conflicts_with("keys-from")
+}
+
 /// Returns the words of `get`.
 fn get<'a>(alloc: Global) -> Result<Command<'a>, AllocError> {
     let keys = Arg::new(alloc, "keys-from")
@@ -322,7 +358,7 @@ fn get<'a>(alloc: Global) -> Result<Command<'a>, AllocError> {
         .action(ArgAction::Set);
     let json = flag(alloc, "json", "write a JSON string");
     let command = Command::new(alloc, "get")
-        .about("write the value of a key")
+        .about("write the value of a key, or KEY TAB VALUE of each of several keys")
         .after_help(GET_EXAMPLES);
     with_reading(alloc, with_forms(alloc, command)?)?
         .arg(json.conflicts_with("escape")?.conflicts_with("null")?)?
@@ -332,7 +368,8 @@ fn get<'a>(alloc: Global) -> Result<Command<'a>, AllocError> {
                 .conflicts_with("null")?,
         )?
         .arg(word(alloc, "KEY"))?
-        .arg(file(alloc).conflicts_with("keys-from")?)
+        .arg(file(alloc).conflicts_with("keys-from")?)?
+        .arg(more(alloc)?)
 }
 
 /// Returns the words of `range`.
@@ -375,6 +412,7 @@ fn with_readers<'a>(alloc: Global, command: Command<'a>) -> Result<Command<'a>, 
         .subcommand(stat(alloc)?)?
         .subcommand(explain(alloc)?)?
         .subcommand(first(alloc)?)?
+        .subcommand(last(alloc)?)?
         .subcommand(get(alloc)?)?
         .subcommand(range(alloc)?)?
         .subcommand(prefix(alloc)?)
@@ -433,6 +471,11 @@ fn table_of(matches: &ArgMatches<'_>) -> Option<Table> {
     }
 }
 
+/// Returns whether a command reads or writes a table.
+pub fn is_table(matches: &ArgMatches<'_>) -> bool {
+    table_of(matches).is_some()
+}
+
 /// Returns the command of the words of `build`.
 fn build_command(matches: &ArgMatches<'_>) -> command::Command {
     let heading = heading_of(matches);
@@ -471,8 +514,8 @@ pub fn command_of(
             Ok(command::Command::Check)
         }
         "stat" => Ok(command::Command::Stat),
-        "explain" => Ok(command::Command::Explain),
         "first" => Ok(command::Command::First(form)),
+        "last" => Ok(command::Command::Last(form)),
         "get" => {
             let key = owned(alloc, matches, "KEY")?;
             Ok(command::Command::Get(key, form))
@@ -486,11 +529,8 @@ pub fn command_of(
             let text = owned(alloc, matches, "TEXT")?;
             Ok(command::Command::Prefix(text, form))
         }
-        "list" if matches.get_flag("json") => Ok(command::Command::ListJson),
-        _ => match table_of(matches) {
-            Some(table) => Ok(command::Command::ListTable(table)),
-            None => Ok(command::Command::List(form)),
-        },
+        _ if matches.get_flag("csv") => Ok(command::Command::ListTable(Table::Csv)),
+        _ => Ok(command::Command::ListTable(Table::Tsv)),
     }
 }
 

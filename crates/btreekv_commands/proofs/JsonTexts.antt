@@ -2,7 +2,7 @@
 use Rattle.std.proofs.Common.{◌≡◌, ℕ, List, [], ◌∷◌, ◌++◌, map, refl, sym, ap, ◌∙◌, append_assoc, append-nil}
 use Rattle.std.proofs.lemmas.List.{map_push}
 use Rattle.std.specs.List.{flat_map}
-use Rattle.btreekv_commands.specs.Json.{escaped, json_object, member, members}
+use Rattle.btreekv_commands.specs.Json.{escaped, json_line, member, members}
 use Rattle.btreekv_commands.specs.Lines.{Entry}
 
 flat_push : {X : Type 0} (f : X → List ℕ) (xs : List X) (x : X) → flat_map f (xs ++ x ∷ []) ≡ flat_map f xs ++ f x
@@ -26,18 +26,18 @@ members_more (e ∷ es) x =
     ap (λ (z : List ℕ). member e ++ z) (flat_push (λ e. 44 ∷ member e) es x) ∙ sym (append_assoc (member e) (flat_map (λ e. 44 ∷ member e) es) (44 ∷ member x))
 
 module _ {X : Type 0} (means : X → Entry) (items : List X) (x : X) where
-  pub member_more : (old out before mid new key value : List ℕ) → out ≡ old ++ 123 ∷ members (map means items) → before ≡ separator (map means items) → mid ≡ out ++ before → new ≡ mid ++ member (key, value) → key ≡ (means x).0 → value ≡ (means x).1
-      → new ≡ old ++ 123 ∷ members (map means (items ++ x ∷ []))
-  member_more old out before mid new key value so_far sep mid_is is key_is value_is =
+  -- the members so far, and one more
+  pub member_more : (before line key value : List ℕ) → before ≡ separator (map means items) → line ≡ before ++ member (key, value) → key ≡ (means x).0 → value ≡ (means x).1
+      → members (map means items) ++ line ≡ members (map means (items ++ x ∷ []))
+  member_more before line key value sep is key_is value_is =
       let entry : member (key, value) ≡ member (means x) = ap (λ (k : List ℕ). member (k, value)) key_is ∙ ap (λ (v : List ℕ). member ((means x).0, v)) value_is in
-      is ∙ (ap (λ (z : List ℕ). z ++ member (key, value)) (mid_is ∙ (ap (λ (z : List ℕ). z ++ before) so_far ∙ ap (λ (z : List ℕ). (old ++ 123 ∷ members (map means items)) ++ z) sep))
-      ∙ (append_assoc (old ++ 123 ∷ members (map means items)) (separator (map means items)) (member (key, value))
-      ∙ (append_assoc old (123 ∷ members (map means items)) (separator (map means items) ++ member (key, value))
-      ∙ ap (λ (z : List ℕ). old ++ 123 ∷ z) (ap (λ (z : List ℕ). members (map means items) ++ (separator (map means items) ++ z)) entry ∙ (sym (members_more (map means items) (means x)) ∙ ap members (sym (map_push means items x)))))))
+      ap (λ (z : List ℕ). members (map means items) ++ z) (is ∙ (ap (λ (z : List ℕ). z ++ member (key, value)) sep ∙ ap (λ (z : List ℕ). separator (map means items) ++ z) entry))
+      ∙ (sym (members_more (map means items) (means x)) ∙ ap members (sym (map_push means items x)))
 
   pub separated : (ys : List X) → separator (map means (ys ++ x ∷ [])) ≡ 44 ∷ []
   separated [] = refl
   separated (y ∷ ys) = refl
 
-pub object_end : (old out new : List ℕ) (es : List Entry) → out ≡ old ++ 123 ∷ members es → new ≡ out ++ 125 ∷ [] → new ≡ old ++ json_object es
-object_end old out new es before is = is ∙ (ap (λ (z : List ℕ). z ++ 125 ∷ []) before ∙ append_assoc old (123 ∷ members es) (125 ∷ []))
+-- the brackets around members, and the end of the line
+pub object_line : (es : List Entry) → ((123 ∷ []) ++ members es) ++ (125 ∷ 10 ∷ []) ≡ json_line es
+object_line es = ap (λ (z : List ℕ). 123 ∷ z) (sym (append_assoc (members es) (125 ∷ []) (10 ∷ [])))

@@ -25,6 +25,7 @@ pub mod SidecarBytes
 pub mod Sorted
 pub mod SortedChanges
 pub mod Splitting
+pub mod Streamed
 pub mod TablesOnce
 pub mod TablesParsed
 pub mod TablesRead

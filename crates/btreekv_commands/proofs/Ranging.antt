@@ -4,8 +4,9 @@ use Rattle.std.proofs.lemmas.Bool.{cases_Bool}
 use Rattle.std.specs.Borrow.{Bor}
 use Rattle.std.specs.Cmp.Lexicographic.{slice_cmp}
 use Rattle.std.specs.Global.{Global}
+use Rattle.std.specs.List.{last_or}
 use Rattle.std.specs.Ordering.{nat_cmp}
-use Rattle.std.specs.Prelude.{String, string_bytes}
+use Rattle.std.specs.Prelude.{Option, None, String, string_bytes}
 use Rattle.std.specs.declared.ops.Bound.TheVariants.{Included, Unbounded}
 use Rattle.rkyv_btree_format.specs.OwnBytes.{own_at}
 use Rattle.rkyv_btree_format.specs.Read.{read_map}
@@ -19,11 +20,11 @@ use Rattle.rkyv_btree_unverified.specs.EntriesFrom.{entries_between, until}
 use Rattle.rkyv_btree_view.specs.Map.{IsMap}
 use Rattle.rkyv_btree_walk.specs.Bounds.{IsRun, entries_within}
 use Rattle.btreekv_commands.proofs.Prefixed.{sought_all, sought_begin}
-use Rattle.btreekv_commands.specs.Commands.{FirstEntry, Outputs}
+use Rattle.btreekv_commands.specs.Commands.{FirstEntry, Outputs, WrittenEntry}
 use Rattle.btreekv_commands.specs.Forms.{entry_line, text_in}
 use Rattle.btreekv_commands.specs.Lines.{Entry}
 use Rattle.btreekv_commands.specs.Opening.{IsInput, KeysIncrease, texts}
-use Rattle.btreekv_commands.specs.Ranged.{PushesNext, WritesFirst, sought, sought_in, text_compared_at}
+use Rattle.btreekv_commands.specs.Ranged.{PushesNext, WritesFirst, WritesLast, sought, sought_in, text_compared_at}
 use Rattle.btreekv_commands.specs.Sourced.{IsReadFailure, lookup_fault}
 use Rattle.btreekv_commands.specs.declared.command.Command.TheVariants.{Prefix, Range}
 use Rattle.btreekv_commands.specs.declared.forms.Form.{Form}
@@ -135,6 +136,14 @@ module _ (bytes : List ℕ) (at : ℕ) (place : at ≡ own_at texts bytes) (form
           wrote,
         ),
       )
+
+-- what is written of the last entry is what the command writes that reads all of the file
+pub writes_last : (bytes : List ℕ) (at : ℕ) → at ≡ own_at texts bytes → (form : Form) (text : List ℕ) (status : ℕ) (found : Option Entry) → found ≡ last_or None (read_map text_kind text_kind 5 bytes at)
+    → ((m : List Entry) → IsMap text_kind text_kind 5 bytes at m → found ≡ last_or None m) → WrittenEntry form found text status → WritesLast bytes form text status
+writes_last bytes at place form text status found last on_map wrote = record {
+  archived = λ entries is. (entries, is, subst (λ e. WrittenEntry form e text status) (on_map entries (is_map bytes at place form text entries is)) wrote);
+  reached = subst (λ e. WrittenEntry form e text status) (last ∙ ap (λ p. last_or None (read_map text_kind text_kind 5 bytes p)) place) wrote;
+}
 
 -- what is written of the first entry is what the command writes that reads all of the file
 pub writes_first : (bytes : List ℕ) (at : ℕ) → at ≡ own_at texts bytes → (form : Form) (text : List ℕ) (status : ℕ) (all : List Entry)

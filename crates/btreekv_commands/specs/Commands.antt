@@ -1,6 +1,7 @@
 -- What each command writes of known input, and when it fails.
+use Rattle.std.specs.List.{last_or}
 use Rattle.std.specs.Prelude.{◌≡◌, ℕ, List, [], ◌∷◌, ◌++◌, Option, Some, None, IfSome, Result, Ok, Err}
-use Rattle.std.specs.Prelude.{codes, decimal, length, string_bytes}
+use Rattle.std.specs.Prelude.{codes, decimal, length, slice_get, string_bytes}
 use Rattle.std.specs.Cmp.Lexicographic.{slice_cmp}
 use Rattle.std.specs.Io.KnownBytes.{Appends}
 use Rattle.std.specs.Ordering.{nat_cmp}
@@ -21,7 +22,6 @@ use Rattle.btreekv_commands.specs.CsvRecords.{AreTableEntries, IsBadRow, table_t
 use Rattle.btreekv_commands.specs.Figures.{archive_figures, figures}
 use Rattle.btreekv_commands.specs.Forms.{entry_line, text_in, value_line}
 use Rattle.btreekv_commands.specs.declared.forms.Form.{Form}
-use Rattle.btreekv_commands.specs.Json.{json_object}
 use Rattle.btreekv_commands.specs.JsonObjects.{IsJsonObject}
 use Rattle.btreekv_commands.specs.Lines.{Entry, AreLines, IsBadLine}
 use Rattle.btreekv_commands.specs.Opening.{texts, texts_name, IsInput, KeysIncrease, CountsStrict, RefusesArchive, RefusesStrictArchive}
@@ -30,8 +30,8 @@ use Rattle.btreekv_commands.specs.Records.{AreRecords, IsBadRecord}
 use Rattle.btreekv_commands.specs.declared.csv_records.Table.{Table}
 use Rattle.btreekv_commands.specs.declared.records.Records.{Records}
 use Rattle.btreekv_commands.specs.declared.command.Command.{Command}
-use Rattle.btreekv_commands.specs.declared.command.Command.TheVariants.{Build, BuildFrom, BuildJson, BuildStrict, BuildSorted, BuildTable, List as ListEntries, ListTable}
-use Rattle.btreekv_commands.specs.declared.command.Command.TheVariants.{Check, CheckStrict, Explain, First, Get, ListJson, Prefix, Range, Stat}
+use Rattle.btreekv_commands.specs.declared.command.Command.TheVariants.{Build, BuildFrom, BuildJson, BuildStrict, BuildSorted, BuildTable, ListTable}
+use Rattle.btreekv_commands.specs.declared.command.Command.TheVariants.{Check, CheckStrict, First, Get, Last, Prefix, Range, Stat}
 
 -- the line of an archive of so many entries
 abbrev pub total : ℕ → List ℕ
@@ -46,10 +46,17 @@ abbrev pub FoundValue : (List ℕ → List ℕ) → Option Entry → List ℕ �
 FoundValue written None text status = (text ≡ []) × (status ≡ 1)
 FoundValue written (Some e) text status = (text ≡ written e.1) × (status ≡ 0)
 
--- the first entry of a list, as it is written, with status 0; or nothing, with status 1
+-- an entry, as it is written, with status 0; or nothing, with status 1
+abbrev pub WrittenEntry : Form → Option Entry → List ℕ → ℕ → Type 0
+WrittenEntry form None text status = (text ≡ []) × (status ≡ 1)
+WrittenEntry form (Some e) text status = (text ≡ entry_line form e) × (status ≡ 0)
+
+-- so the first entry of a list, and the last one
 abbrev pub FirstEntry : Form → List Entry → List ℕ → ℕ → Type 0
-FirstEntry form [] text status = (text ≡ []) × (status ≡ 1)
-FirstEntry form (e ∷ es) text status = (text ≡ entry_line form e) × (status ≡ 0)
+FirstEntry form entries text status = WrittenEntry form (slice_get entries 0) text status
+
+abbrev pub LastEntry : Form → List Entry → List ℕ → ℕ → Type 0
+LastEntry form entries text status = WrittenEntry form (last_or None entries) text status
 
 -- these entries of a list are a run of it, and those from the key `low` to the key `high`
 pub record IsBetween (low high : List ℕ) (entries within : List Entry) : Type 0 where
@@ -72,17 +79,14 @@ Outputs (BuildTable table heading) input text status =
     × IsBuiltMap heading text (last_values entries) × KeysIncrease (last_values entries))
 Outputs (BuildJson heading) input text status =
     (status ≡ 0) × ((entries : List Entry) × IsJsonObject input entries × IsBuiltMap heading text entries × KeysIncrease entries)
-Outputs (ListEntries form) input text status = (status ≡ 0) × ((entries : List Entry) × IsInput input entries × (text ≡ text_in form entries))
-Outputs ListJson input text status =
-    (status ≡ 0) × ((entries : List Entry) × IsInput input entries × (text ≡ json_object entries ++ 10 ∷ []))
 Outputs (ListTable table) input text status = (status ≡ 0) × ((entries : List Entry) × IsInput input entries × (text ≡ table_text table entries))
 Outputs Check input text status = (status ≡ 0) × ((entries : List Entry) × IsInput input entries × (text ≡ total (length entries)))
 Outputs CheckStrict input text status = (status ≡ 0) × ((count : ℕ) × CountsStrict input count × (text ≡ total count))
 Outputs Stat input text status =
     (status ≡ 0) × ((entries : List Entry) × (is : IsInput input entries)
     × (text ≡ figures (length entries) (archive_figures input entries is.1) (length input)))
-Outputs Explain input text status = (status ≡ 0) × ((entries : List Entry) × IsInput input entries)
 Outputs (First form) input text status = (entries : List Entry) × IsInput input entries × FirstEntry form entries text status
+Outputs (Last form) input text status = (entries : List Entry) × IsInput input entries × LastEntry form entries text status
 Outputs (Get key form) input text status =
     ((entries : List Entry) × IsInput input entries)
     × FoundValue (value_line form) (found_in_archive input (string_bytes key)) text status

@@ -51,8 +51,3 @@ json_object entries = 123 ∷ (members entries ++ 125 ∷ [])
 -- the same as a line
 abbrev pub json_line : List Entry → List ℕ
 json_line entries = json_object entries ++ 10 ∷ []
-
--- bytes have become longer by the JSON object of all entries that an iterator's items show
-abbrev pub AppendsObject : {S A : Type 0} → (S → Option A → S → Type 0) → (A → Entry) → S → List ℕ → List ℕ → Type 0
-AppendsObject {S} {A} steps shows start old new =
-    (items : List A) × Drains steps start items × (new ≡ old ++ json_object (map shows items))

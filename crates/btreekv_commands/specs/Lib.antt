@@ -3,6 +3,7 @@ pub mod Changing
 pub mod Commands
 pub mod CsvRecords
 pub mod Escapes
+pub mod Explaining
 pub mod Figures
 pub mod Files
 pub mod Forms
@@ -10,6 +11,7 @@ pub mod Json
 pub mod JsonObjects
 pub mod JsonRecords
 pub mod Lines
+pub mod List
 pub mod Nodes
 pub mod Opening
 pub mod Prefixes

@@ -20,10 +20,6 @@ pub enum Command {
     BuildTable(Table, Heading),
     /// Archive the members of the input's JSON object in increasing order of their keys. Of equal keys the last value counts.
     BuildJson(Heading),
-    /// Write the entries of the input's archive.
-    List(Form),
-    /// Write the entries of the input's archive as a JSON object.
-    ListJson,
     /// Write the entries of the input's archive as a table.
     ListTable(Table),
     /// Write how many entries the input's archive has.
@@ -32,10 +28,10 @@ pub enum Command {
     CheckStrict,
     /// Write how large the input's archive is.
     Stat,
-    /// Write the bytes of the input's archive with their meaning.
-    Explain,
     /// Write the first entry.
     First(Form),
+    /// Write the last entry.
+    Last(Form),
     /// Write the value of this key.
     Get(String, Form),
     /// Write the entries of the keys from the first to the second, both included.

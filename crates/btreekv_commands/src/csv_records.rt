@@ -189,7 +189,7 @@ pub fn parse_table(
 }
 
 /// Returns a writer of the records of a table, which has written nothing.
-fn writer_of(alloc: Global, table: Table) -> Writer<Vec<u8>>
+pub fn writer_of(alloc: Global, table: Table) -> Writer<Vec<u8>>
     ensures { HasWritten table result [] }
 {
     WriterBuilder::new()
@@ -202,7 +202,7 @@ fn writer_of(alloc: Global, table: Table) -> Writer<Vec<u8>>
 /// # Errors
 ///
 /// `Memory` if an allocation fails.
-fn write_pair(writer: &mut Writer<Vec<u8>>, key: &str, value: &str) -> Result<(), ProgramFault>
+pub fn write_pair(writer: &mut Writer<Vec<u8>>, key: &str, value: &str) -> Result<(), ProgramFault>
     ensures ok { OnOk result ((table : Table) (text : List ℕ) → HasWritten table writer.old text
         → HasWritten table writer.new (text ++ entry_row table (key.now, value.now))) }
     ensures err { IfErr result (λ fault. fault ≡ ProgramFault.Memory) }

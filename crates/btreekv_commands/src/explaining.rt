@@ -1,18 +1,30 @@
 //! The bytes of an archive, each with its meaning.
-ghost use Rattle.std.specs.Prelude.{◌≡◌, ◌≤◌, IfErr};
+ghost use Rattle.std.specs.Prelude.{◌≡◌, ◌≤◌, IfErr, List, OnOk, ℕ};
+ghost use Rattle.btreekv_commands.specs.Explaining.{FailsToExplain, IsOutputFault};
+ghost use Rattle.btreekv_commands.specs.Lines.{Entry};
+ghost use Rattle.btreekv_commands.specs.Opening.{IsInput};
 
-use crate::opening::Texts;
+use crate::meaning::{Link, Meaning, Part};
+use crate::opening::{Texts, open};
 use btreearc_lines::fault::ProgramFault;
 use btreearc_lines::heading::{Heading, heading_of};
+use btreearc_lines::streams::write_all;
 use rkyv_btree_format::layout::{key_at, len_at, lesser_at, value_at};
 use rkyv_btree_portable::text::ArchivedText;
 use std::alloc::{AllocError, Global};
+use std::io::Write;
 
 /// How many entries an inner node has, and a leaf at most.
-const ENTRIES: usize = 5;
+pub(crate) const ENTRIES: usize = 5;
 
 /// How many bytes a line has at most.
 const ROW: usize = 8;
+
+/// The digits of hexadecimal numbers.
+const DIGITS: [u8; 16] = *b"0123456789abcdef";
+
+/// After so many bytes the lines are written.
+const BLOCK: usize = 65536;
 
 /// Where a header has the length of its name.
 const NAME_LEN_AT: u32 = 8;
@@ -23,16 +35,17 @@ const NAME_AT: u32 = 12;
 /// The pointer to no node.
 const NO_NODE: u32 = 1;
 
-/// The lines so far, and the first position that they don't explain.
+/// An archive, the lines of it that aren't written yet, memory for a meaning, and the first position that no line explains.
 #[derive(Drop)]
 struct Explanation<'a> {
     archive: &'a [u8],
-    text: String,
+    lines: Vec<u8>,
+    meaning: String,
     next: u32,
 }
 
 /// Returns the bytes of a range, or none if they aren't all there.
-fn bytes_at(archive: &[u8], pos: u32, len: u32) -> &[u8] {
+pub(crate) fn bytes_at(archive: &[u8], pos: u32, len: u32) -> &[u8] {
     let start = pos as usize;
     match archive.get(start..start + len as usize) {
         Some(bytes) => bytes,
@@ -41,7 +54,7 @@ fn bytes_at(archive: &[u8], pos: u32, len: u32) -> &[u8] {
 }
 
 /// Returns the number in the four bytes at a position, or 0 if they aren't there.
-fn number_at(archive: &[u8], pos: u32) -> u32 {
+pub(crate) fn number_at(archive: &[u8], pos: u32) -> u32 {
     let bytes = bytes_at(archive, pos, 4);
     if bytes.len() < 4 {
         return 0;
@@ -50,35 +63,89 @@ fn number_at(archive: &[u8], pos: u32) -> u32 {
 }
 
 /// Returns the target of the pointer at a position.
-fn target_at(archive: &[u8], pos: u32) -> u32 {
+pub(crate) fn target_at(archive: &[u8], pos: u32) -> u32 {
     pos.wrapping_add(number_at(archive, pos))
 }
 
 /// Returns whether a node is a leaf, by its first byte.
-fn is_leaf(archive: &[u8], node: u32) -> bool {
+pub(crate) fn is_leaf(archive: &[u8], node: u32) -> bool {
     match bytes_at(archive, node, 1).first() {
         Some(kind) => *kind == 0,
         None => true,
     }
 }
 
-/// Writes a line: a position, up to eight bytes, and their meaning.
-fn write_row(text: &mut String, pos: u32, bytes: &[u8], meaning: &str) -> Result<(), AllocError> {
-    write!(text, "{pos:08x} ")?;
+/// Writes the two digits of a byte at the end.
+fn push_digits(line: &mut Vec<u8>, byte: u8) -> Result<(), AllocError> {
+    let high = DIGITS[usize::from(byte / 16)];
+    let low = DIGITS[usize::from(byte % 16)];
+    line.extend_from_slice(&[high, low])
+}
+
+/// Writes a line at the end: a position, up to eight bytes, and their meaning.
+fn push_row(lines: &mut Vec<u8>, pos: u32, bytes: &[u8], meaning: &str) -> Result<(), AllocError> {
+    for byte in &pos.to_be_bytes() {
+        push_digits(lines, *byte)?;
+    }
+    lines.extend_from_slice(b" ")?;
     for byte in bytes {
-        write!(text, " {byte:02x}")?;
+        lines.extend_from_slice(b" ")?;
+        push_digits(lines, *byte)?;
     }
     for _ in bytes.len()..ROW {
-        text.push_str("   ")?;
+        lines.extend_from_slice(b"   ")?;
     }
-    writeln!(text, "  {meaning}")
+    lines.extend_from_slice(b"  ")?;
+    lines.extend_from_slice(meaning.as_bytes())?;
+    lines.extend_from_slice(b"\n")
+}
+
+/// Writes the lines to the output, and holds none.
+fn flush<W: Write>(out: &mut Explanation<'_>, output: &mut W) -> Result<(), ProgramFault>
+    ensures { IfErr result IsOutputFault }
+{
+    write_all(output, &out.lines)?;
+    out.lines.clear();
+    Ok(())
+}
+
+/// Adds a line. Many lines are written.
+fn write_row<W: Write>(
+    out: &mut Explanation<'_>,
+    output: &mut W,
+    pos: u32,
+    row: &[u8],
+) -> Result<(), ProgramFault>
+    ensures { IfErr result IsOutputFault }
+{
+    if push_row(&mut out.lines, pos, row, out.meaning.as_str()).is_err() {
+        return Err(ProgramFault::Memory);
+    }
+    out.meaning.clear();
+    if out.lines.len() < BLOCK {
+        return Ok(());
+    }
+    flush(out, output)
 }
 
 /// Writes the lines of bytes. The first line has their meaning.
-fn write(out: &mut Explanation<'_>, pos: u32, len: u32, meaning: &str) -> Result<(), AllocError> {
+fn write<W: Write>(
+    out: &mut Explanation<'_>,
+    output: &mut W,
+    pos: u32,
+    len: u32,
+    meaning: Meaning,
+) -> Result<(), ProgramFault>
+    ensures { IfErr result IsOutputFault }
+{
+    out.meaning.clear();
+    if write!(out.meaning, "{meaning}").is_err() {
+        return Err(ProgramFault::Memory);
+    }
     let mut at = pos;
-    for row in bytes_at(out.archive, pos, len).chunks(ROW) {
-        write_row(&mut out.text, at, row, if at == pos { meaning } else { "" })?;
+    let archive = out.archive;
+    for row in bytes_at(archive, pos, len).chunks(ROW) {
+        write_row(out, output, at, row)?;
         at = at.wrapping_add(row.len() as u32);
     }
     out.next = pos.wrapping_add(len);
@@ -86,50 +153,70 @@ fn write(out: &mut Explanation<'_>, pos: u32, len: u32, meaning: &str) -> Result
 }
 
 /// Writes the lines of the bytes before a position that have no meaning.
-fn skip_to(out: &mut Explanation<'_>, pos: u32) -> Result<(), AllocError> {
-    if out.next < pos {
-        let next = out.next;
-        write(out, next, pos - next, "unused")?;
+fn skip_to<W: Write>(
+    out: &mut Explanation<'_>,
+    output: &mut W,
+    pos: u32,
+) -> Result<(), ProgramFault>
+    ensures { IfErr result IsOutputFault }
+{
+    let next = out.next;
+    if next >= pos {
+        return Ok(());
     }
-    Ok(())
+    write(out, output, next, pos - next, Meaning::Unused)
+}
+
+/// Writes the lines of the bytes before a position that have no meaning, and then those of bytes there.
+fn write_at<W: Write>(
+    out: &mut Explanation<'_>,
+    output: &mut W,
+    pos: u32,
+    len: u32,
+    meaning: Meaning,
+) -> Result<(), ProgramFault>
+    ensures { IfErr result IsOutputFault }
+{
+    skip_to(out, output, pos)?;
+    write(out, output, pos, len, meaning)
 }
 
 /// Writes the lines of a text, whose pointer and length are at a position.
-fn write_text(
-    alloc: Global,
+fn write_text<W: Write>(
     out: &mut Explanation<'_>,
+    output: &mut W,
     slot: u32,
-    name: &str,
+    part: Part,
     index: usize,
     node: u32,
-) -> Result<(), AllocError> {
+) -> Result<(), ProgramFault>
+    ensures { IfErr result IsOutputFault }
+{
     let start = target_at(out.archive, slot);
     let len = number_at(out.archive, slot.wrapping_add(4));
-    let meaning = format!(in alloc; "{name} {index} of the node at {node:08x}")?;
-    skip_to(out, start)?;
-    write(out, start, len, meaning.as_str())
+    write_at(out, output, start, len, Meaning::Text(part, index, node))
 }
 
 /// Writes the lines of a text's pointer and length, which are at a position.
-fn write_slot(
-    alloc: Global,
+fn write_slot<W: Write>(
     out: &mut Explanation<'_>,
+    output: &mut W,
     slot: u32,
-    name: &str,
+    part: Part,
     index: usize,
-) -> Result<(), AllocError> {
+) -> Result<(), ProgramFault>
+    ensures { IfErr result IsOutputFault }
+{
     let start = target_at(out.archive, slot);
-    let len = number_at(out.archive, slot.wrapping_add(4));
-    let at = format!(in alloc; "{name} {index}: its bytes are at {start:08x}")?;
-    let long = format!(in alloc; "{name} {index}: it has {len} bytes")?;
-    skip_to(out, slot)?;
-    write(out, slot, 4, at.as_str())?;
-    write(out, slot.wrapping_add(4), 4, long.as_str())
+    let len_slot = slot.wrapping_add(4);
+    let len = number_at(out.archive, len_slot);
+    write_at(out, output, slot, 4, Meaning::TextStart(part, index, start))?;
+    write(out, output, len_slot, 4, Meaning::TextLen(part, index, len))
 }
 
 /// Returns where the key of an entry of a node is, by its pointer and length.
 #[tactic(auto, using(crate::proofs::Fits::texts_fit))]
-fn key_slot(node: u32, index: usize) -> u32
+pub(crate) fn key_slot(node: u32, index: usize) -> u32
     requires { index ≤ 5 }
 {
     node.wrapping_add(key_at::<ArchivedText, ArchivedText, 5>(index))
@@ -137,7 +224,7 @@ fn key_slot(node: u32, index: usize) -> u32
 
 /// Returns where its value is.
 #[tactic(auto, using(crate::proofs::Fits::texts_fit))]
-fn value_slot(node: u32, index: usize) -> u32
+pub(crate) fn value_slot(node: u32, index: usize) -> u32
     requires { index ≤ 5 }
 {
     node.wrapping_add(value_at::<ArchivedText, ArchivedText, 5>(index))
@@ -145,141 +232,177 @@ fn value_slot(node: u32, index: usize) -> u32
 
 /// Returns where the number of entries of a leaf is.
 #[tactic(auto, using(crate::proofs::Fits::texts_fit))]
-fn count_slot(node: u32) -> u32 {
+pub(crate) fn count_slot(node: u32) -> u32 {
     node.wrapping_add(len_at::<ArchivedText, ArchivedText, 5>())
 }
 
 /// Returns where a pointer of an inner node is.
 #[tactic(auto, using(crate::proofs::Fits::texts_fit))]
-fn child_slot(node: u32, index: usize) -> u32
+pub(crate) fn child_slot(node: u32, index: usize) -> u32
     requires { index ≤ 5 }
 {
     node.wrapping_add(lesser_at::<ArchivedText, ArchivedText, 5>(index))
 }
 
 /// Writes the lines of the keys and values of a node, and of the node itself.
-fn write_entries(
-    alloc: Global,
+fn write_entries<W: Write>(
     out: &mut Explanation<'_>,
+    output: &mut W,
     node: u32,
-    kind: &str,
+    kind: Meaning,
     count: usize,
-) -> Result<(), AllocError>
+) -> Result<(), ProgramFault>
     requires { count ≤ 5 }
+    ensures { IfErr result IsOutputFault }
 {
     for index in 0..count {
-        write_text(alloc, out, key_slot(node, index), "key", index, node)?;
-        write_text(alloc, out, value_slot(node, index), "value", index, node)?;
+        write_text(out, output, key_slot(node, index), Part::Key, index, node)?;
+        write_text(
+            out,
+            output,
+            value_slot(node, index),
+            Part::Value,
+            index,
+            node,
+        )?;
     }
-    skip_to(out, node)?;
-    write(out, node, 1, kind)?;
+    write_at(out, output, node, 1, kind)?;
     for index in 0..count {
-        write_slot(alloc, out, key_slot(node, index), "key", index)?;
+        write_slot(out, output, key_slot(node, index), Part::Key, index)?;
     }
     for index in 0..count {
-        write_slot(alloc, out, value_slot(node, index), "value", index)?;
+        write_slot(out, output, value_slot(node, index), Part::Value, index)?;
     }
     Ok(())
 }
 
 /// Writes the lines of a leaf.
-fn write_leaf(alloc: Global, out: &mut Explanation<'_>, node: u32) -> Result<(), AllocError> {
+fn write_leaf<W: Write>(
+    out: &mut Explanation<'_>,
+    output: &mut W,
+    node: u32,
+) -> Result<(), ProgramFault>
+    ensures { IfErr result IsOutputFault }
+{
     let slot = count_slot(node);
-    let count = number_at(out.archive, slot) as usize;
-    write_entries(alloc, out, node, "leaf", count.min(ENTRIES))?;
-    let meaning = format!(in alloc; "{count} entries in the leaf")?;
-    skip_to(out, slot)?;
-    write(out, slot, 4, meaning.as_str())
+    let count = number_at(out.archive, slot);
+    write_entries(
+        out,
+        output,
+        node,
+        Meaning::Leaf,
+        (count as usize).min(ENTRIES),
+    )?;
+    write_at(out, output, slot, 4, Meaning::LeafLen(count))
+}
+
+/// Returns the node to which the pointer at a position leads, if there is one.
+pub(crate) fn node_of(archive: &[u8], slot: u32) -> Option<u32> {
+    if number_at(archive, slot) == NO_NODE {
+        return None;
+    }
+    Some(target_at(archive, slot))
 }
 
 /// Writes the line of a pointer to a node.
-fn write_pointer(
-    alloc: Global,
+fn write_pointer<W: Write>(
     out: &mut Explanation<'_>,
+    output: &mut W,
     slot: u32,
-    name: &str,
-) -> Result<(), AllocError> {
-    let target = target_at(out.archive, slot);
-    let there = format!(in alloc; "{name}: it is at {target:08x}")?;
-    let none = format!(in alloc; "{name}: there is none")?;
-    let is_none = number_at(out.archive, slot) == NO_NODE;
-    skip_to(out, slot)?;
-    write(
-        out,
-        slot,
-        4,
-        if is_none {
-            none.as_str()
-        } else {
-            there.as_str()
-        },
-    )
+    link: Link,
+) -> Result<(), ProgramFault>
+    ensures { IfErr result IsOutputFault }
+{
+    let node = node_of(out.archive, slot);
+    write_at(out, output, slot, 4, Meaning::Pointer(link, node))
 }
 
 /// Writes the lines of an inner node.
-fn write_inner(alloc: Global, out: &mut Explanation<'_>, node: u32) -> Result<(), AllocError> {
-    write_entries(alloc, out, node, "inner node", ENTRIES)?;
+fn write_inner<W: Write>(
+    out: &mut Explanation<'_>,
+    output: &mut W,
+    node: u32,
+) -> Result<(), ProgramFault>
+    ensures { IfErr result IsOutputFault }
+{
+    write_entries(out, output, node, Meaning::InnerNode, ENTRIES)?;
     for index in 0..ENTRIES + 1 {
-        let name = format!(in alloc; "child {index}")?;
-        write_pointer(alloc, out, child_slot(node, index), name.as_str())?;
+        write_pointer(out, output, child_slot(node, index), Link::Child(index))?;
     }
     Ok(())
 }
 
 /// Writes the lines of a node and of all nodes below it, children before parents.
-fn write_tree(alloc: Global, out: &mut Explanation<'_>, node: u32) -> Result<(), AllocError> {
+fn write_tree<W: Write>(
+    out: &mut Explanation<'_>,
+    output: &mut W,
+    node: u32,
+) -> Result<(), ProgramFault>
+    ensures { IfErr result IsOutputFault }
+{
     if is_leaf(out.archive, node) {
-        return write_leaf(alloc, out, node);
+        return write_leaf(out, output, node);
     }
     for index in 0..ENTRIES + 1 {
-        let slot = child_slot(node, index);
-        let child = target_at(out.archive, slot);
-        if number_at(out.archive, slot) != NO_NODE && child < node {
-            write_tree(alloc, out, child)?;
+        let Some(child) = node_of(out.archive, child_slot(node, index)) else {
+            continue;
+        };
+        if child < node {
+            write_tree(out, output, child)?;
         }
     }
-    write_inner(alloc, out, node)
+    write_inner(out, output, node)
 }
 
 /// Writes the lines of the header of a typed file.
-fn write_header(alloc: Global, out: &mut Explanation<'_>) -> Result<(), AllocError> {
+fn write_header<W: Write>(out: &mut Explanation<'_>, output: &mut W) -> Result<(), ProgramFault>
+    ensures { IfErr result IsOutputFault }
+{
     let len = number_at(out.archive, NAME_LEN_AT);
-    let long = format!(in alloc; "the name of the type has {len} bytes")?;
-    write(out, 0, NAME_LEN_AT, "header of a typed file")?;
-    write(out, NAME_LEN_AT, 4, long.as_str())?;
-    write(out, NAME_AT, len, "the name of the type")
+    write(out, output, 0, NAME_LEN_AT, Meaning::Header)?;
+    write(out, output, NAME_LEN_AT, 4, Meaning::NameLen(len))?;
+    write(out, output, NAME_AT, len, Meaning::Name)
 }
 
 /// Writes the lines of an archive whose map is at a position.
-fn write_archive(alloc: Global, out: &mut Explanation<'_>, pos: u32) -> Result<(), AllocError> {
-    let count = number_at(out.archive, pos.wrapping_add(4));
+fn write_archive<W: Write>(
+    out: &mut Explanation<'_>,
+    output: &mut W,
+    pos: u32,
+) -> Result<(), ProgramFault>
+    ensures { IfErr result IsOutputFault }
+{
+    let len_slot = pos.wrapping_add(4);
+    let count = number_at(out.archive, len_slot);
     let root = target_at(out.archive, pos);
     if let Ok(Heading::Typed) = heading_of::<Texts>(out.archive) {
-        write_header(alloc, out)?;
+        write_header(out, output)?;
     }
     if count != 0 {
-        write_tree(alloc, out, root)?;
+        write_tree(out, output, root)?;
     }
-    write_pointer(alloc, out, pos, "root node")?;
-    let meaning = format!(in alloc; "{count} entries in the map")?;
-    write(out, pos.wrapping_add(4), 4, meaning.as_str())
+    write_pointer(out, output, pos, Link::Root)?;
+    write(out, output, len_slot, 4, Meaning::MapLen(count))?;
+    flush(out, output)
 }
 
-/// Returns the lines of an archive whose map is at a position: the position of each part, its bytes, and their meaning.
+/// Writes the lines of an archive: the position of each part, its bytes, and their meaning.
 ///
 /// # Errors
 ///
-/// `Memory` if an allocation fails.
-pub fn explain(alloc: Global, archive: &[u8], pos: u32) -> Result<String, ProgramFault>
-    ensures err { IfErr result (λ fault. fault ≡ ProgramFault.Memory) }
+/// As of `open`, and then nothing is written. `Memory` if an allocation fails, and `OutputFailed` if the writer fails: a part of the
+/// lines may be written then.
+pub fn explain<W: Write>(alloc: Global, archive: &[u8], output: &mut W) -> Result<(), ProgramFault>
+    ensures ok { OnOk result ((entries : List Entry) × IsInput archive.now entries) }
+    ensures err { IfErr result (FailsToExplain archive.now
+        (W.contents output.new ≡ W.contents output.old)) }
 {
+    let map = open(archive)?;
     let mut out = Explanation {
         archive,
-        text: String::new(alloc),
+        lines: Vec::new(alloc),
+        meaning: String::new(alloc),
         next: 0,
     };
-    match write_archive(alloc, &mut out, pos) {
-        Ok(()) => Ok(out.text),
-        Err(_) => Err(ProgramFault::Memory),
-    }
+    write_archive(&mut out, output, map.pos)
 }

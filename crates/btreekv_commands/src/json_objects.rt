@@ -57,7 +57,7 @@ fn entries_of(
 /// # Errors
 ///
 /// `Memory` if an allocation fails.
-pub(crate) fn parse_object(
+pub fn parse_object(
     alloc: Global,
     text: &[u8],
 ) -> Result<Option<Vec<(String, String)>>, ProgramFault>

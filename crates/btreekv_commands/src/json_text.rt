@@ -1,11 +1,7 @@
 //! Texts and entries as JSON.
 ghost use Rattle.std.specs.Prelude.{◌≡◌, ◌++◌, ◌<◌, OnOk};
-ghost use Rattle.std.specs.Iterator.{IsFinite};
-ghost use Rattle.rkyv_btree_view.specs.View.{view_entry};
-ghost use Rattle.btreekv_commands.specs.Json.{AppendsObject, escaped, hex_digit, json_string, member, short_escape};
+ghost use Rattle.btreekv_commands.specs.Json.{escaped, hex_digit, json_string, member, short_escape};
 
-use rkyv_btree_portable::text::ArchivedText;
-use rkyv_btree_view::view::View;
 use std::alloc::AllocError;
 
 /// Returns the hexadecimal digit of a number below 16.
@@ -74,35 +70,10 @@ pub fn push_string(out: &mut Vec<u8>, text: &str) -> Result<(), AllocError>
 /// # Errors
 ///
 /// As of `push_string`.
-fn push_member(out: &mut Vec<u8>, key: &str, value: &str) -> Result<(), AllocError>
+pub fn push_member(out: &mut Vec<u8>, key: &str, value: &str) -> Result<(), AllocError>
     ensures { OnOk result (out.new.items ≡ out.old.items ++ member (key.now, value.now)) }
 {
     push_string(out, key)?;
     out.extend_from_slice(b":")?;
     push_string(out, value)
-}
-
-/// Writes all entries of an iterator as a JSON object at the end, in their order.
-///
-/// # Errors
-///
-/// `AllocError` if an allocation fails. A beginning of the object may be written then.
-pub fn push_object<'a, I: Iterator<Item = (View<'a, ArchivedText>, View<'a, ArchivedText>)>>(
-    out: &mut Vec<u8>,
-    mut entries: I,
-) -> Result<(), AllocError>
-    requires can { I.can_next entries }
-    requires ends { IsFinite (I.remaining entries) }
-    ensures { OnOk result
-        (AppendsObject I.next_gives view_entry entries out.old.items out.new.items) }
-{
-    out.extend_from_slice(b"{")?;
-    let mut separator: &[u8] = b"";
-    while let Some((key, value)) = entries.next() {
-        out.extend_from_slice(separator)?;
-        push_member(out, key.as_str(), value.as_str())?;
-        separator = b",";
-    }
-    out.extend_from_slice(b"}")?;
-    Ok(())
 }

@@ -1,57 +1,27 @@
 //! The commands over a reader and a writer.
 ghost use Rattle.std.specs.Prelude.{◌≡◌, IfOk, IfErr, string_bytes};
 ghost use Rattle.btreekv_commands.specs.Commands.{Does, Fails, FailsToBuild, FailsToRead, Outputs, total};
-ghost use Rattle.btreekv_commands.specs.declared.command.Command.TheVariants.{Build, BuildFrom, BuildJson, BuildStrict, BuildSorted, BuildTable, List as ListEntries, ListTable};
-ghost use Rattle.btreekv_commands.specs.declared.command.Command.TheVariants.{Check, CheckStrict, Explain, First, Get, ListJson, Prefix, Range, Stat};
+ghost use Rattle.btreekv_commands.specs.declared.command.Command.TheVariants.{Build, BuildFrom, BuildJson, BuildStrict, BuildSorted, BuildTable, ListTable};
+ghost use Rattle.btreekv_commands.specs.declared.command.Command.TheVariants.{Check, CheckStrict, First, Get, Last, Prefix, Range, Stat};
 
+use crate::building;
 use crate::command::Command;
 use crate::csv_records::{Table, parse_table, table_of};
 use crate::entries::{check_order, count_lines};
 use crate::figures::figures_of;
-use crate::forms::{Form, push_entry, push_value};
+use crate::forms::{Form, push_value};
 use crate::json_objects::parse_object;
-use crate::json_text::push_object;
 use crate::lines::parse_lines;
-use crate::listing::write_entries;
+use crate::listing::{write_entries, written_entry};
 use crate::opening::{open, strict_count};
 use crate::prefixes::with_prefix;
 use crate::records::{Records, parse_records};
-use crate::{building, explaining};
 use btreearc_lines::fault::ProgramFault;
 use btreearc_lines::heading::Heading;
 use btreearc_lines::streams::{read_all, write_all};
 use std::alloc::Global;
 use std::io::{Read, Write};
 use std::ops::Bound;
-
-/// Returns the entries of an archive as they are written.
-fn list(alloc: Global, archive: &[u8], form: Form) -> Result<Vec<u8>, ProgramFault>
-    ensures ok { IfOk result (λ text. Outputs (ListEntries form) archive.now text.items 0) }
-    ensures err { IfErr result (Fails (ListEntries form) archive.now) }
-{
-    let map = open(archive)?;
-    let mut text = Vec::new(alloc);
-    match write_entries(&mut text, form, map.iter()) {
-        Ok(()) => Ok(text),
-        Err(_) => Err(ProgramFault::Memory),
-    }
-}
-
-/// Returns the line of the JSON object of an archive.
-fn list_json(alloc: Global, archive: &[u8]) -> Result<Vec<u8>, ProgramFault>
-    ensures ok { IfOk result (λ text. Outputs ListJson archive.now text.items 0) }
-    ensures err { IfErr result (Fails ListJson archive.now) }
-{
-    let map = open(archive)?;
-    let mut text = Vec::new(alloc);
-    if push_object(&mut text, map.iter()).is_err() {
-        return Err(ProgramFault::Memory);
-    }
-    match text.push(b'\n') {
-        Ok(()) => Ok(text),
-        Err(_) => Err(ProgramFault::Memory),
-    }
-}
 
 /// Returns the table of the entries of an archive.
 fn list_table(alloc: Global, archive: &[u8], table: Table) -> Result<Vec<u8>, ProgramFault>
@@ -105,29 +75,22 @@ fn stat(alloc: Global, archive: &[u8]) -> Result<String, ProgramFault>
     figures_of(alloc, archive, map.pos, map.len())
 }
 
-/// Returns the lines of the bytes of an archive with their meaning.
-fn explain(alloc: Global, archive: &[u8]) -> Result<String, ProgramFault>
-    ensures ok { IfOk result (λ text. Outputs Explain archive.now (string_bytes text) 0) }
-    ensures err { IfErr result (Fails Explain archive.now) }
-{
-    let map = open(archive)?;
-    explaining::explain(alloc, archive, map.pos)
-}
-
 /// Returns the first entry as it is written, or nothing and the status 1.
 fn first(alloc: Global, archive: &[u8], form: Form) -> Result<(Vec<u8>, u8), ProgramFault>
     ensures ok { IfOk result (λ r. Outputs (First form) archive.now r.0.items r.1) }
     ensures err { IfErr result (Fails (First form) archive.now) }
 {
     let map = open(archive)?;
-    let mut text = Vec::new(alloc);
-    match map.first() {
-        None => Ok((text, 1)),
-        Some((key, value)) => match push_entry(&mut text, form, key.as_str(), value.as_str()) {
-            Ok(()) => Ok((text, 0)),
-            Err(_) => Err(ProgramFault::Memory),
-        },
-    }
+    written_entry(alloc, map.first(), form)
+}
+
+/// Returns the last entry as it is written, or nothing and the status 1.
+fn last(alloc: Global, archive: &[u8], form: Form) -> Result<(Vec<u8>, u8), ProgramFault>
+    ensures ok { IfOk result (λ r. Outputs (Last form) archive.now r.0.items r.1) }
+    ensures err { IfErr result (Fails (Last form) archive.now) }
+{
+    let map = open(archive)?;
+    written_entry(alloc, map.last(), form)
 }
 
 /// Returns a key's value as it is written, or nothing and the status 1.
@@ -287,14 +250,12 @@ fn output_of(alloc: Global, command: &Command, input: &[u8]) -> Result<(Vec<u8>,
             Ok((build_table(alloc, *table, *heading, input)?, 0))
         }
         Command::BuildJson(heading) => Ok((build_json(alloc, *heading, input)?, 0)),
-        Command::List(form) => Ok((list(alloc, input, *form)?, 0)),
-        Command::ListJson => Ok((list_json(alloc, input)?, 0)),
         Command::ListTable(table) => Ok((list_table(alloc, input, *table)?, 0)),
         Command::Check => Ok((check(alloc, input)?.into_bytes(), 0)),
         Command::CheckStrict => Ok((check_strict(alloc, input)?.into_bytes(), 0)),
         Command::Stat => Ok((stat(alloc, input)?.into_bytes(), 0)),
-        Command::Explain => Ok((explain(alloc, input)?.into_bytes(), 0)),
         Command::First(form) => first(alloc, input, *form),
+        Command::Last(form) => last(alloc, input, *form),
         Command::Get(key, form) => get(alloc, input, key, *form),
         Command::Range(low, high, form) => Ok((range(alloc, input, low, high, *form)?, 0)),
         Command::Prefix(text, form) => Ok((prefix(alloc, input, text, *form)?, 0)),

@@ -7,10 +7,11 @@ ghost use Rattle.rkyv_btree_portable.specs.Text.{text_kind};
 ghost use Rattle.rkyv_btree_unverified.specs.EntriesFrom.{entries_between};
 ghost use Rattle.btreekv_commands.specs.Forms.{text_in};
 ghost use Rattle.btreekv_commands.specs.Opening.{texts};
-ghost use Rattle.btreekv_commands.specs.Ranged.{IsRangeFault, PushesNext, WritesFirst, WritesPrefix, WritesRange, sought_in, text_compared_at};
+ghost use Rattle.btreekv_commands.specs.Ranged.{IsLastFault, IsRangeFault, PushesNext, WritesFirst, WritesLast, WritesPrefix, WritesRange, sought_in, text_compared_at};
 ghost use Rattle.btreekv_commands.specs.Sourced.{IsReadFailure};
 
 use crate::forms::{Form, push_entry};
+use crate::listing::written_entry;
 use crate::opening::Texts;
 use crate::sourced::{MOST_ROOM, lengthen, lookup_fault};
 use btreearc_lines::fault::ProgramFault;
@@ -143,6 +144,44 @@ pub fn first_in<S: ReadAt + Drop>(
         Ok(true) => Ok((text, 0, entries.into_source())),
         Ok(false) => Ok((text, 1, entries.into_source())),
         Err(fault) => Err(fault),
+    }
+}
+
+/// Returns the last entry as it is written, and the exit status. Nothing is written if there is none: the status is 1 then, and else 0.
+/// The archive is all of a source, of which the way to that entry is read. What is read goes into `room`, which is lengthened if need
+/// be.
+///
+/// # Errors
+///
+/// `Refused` with the first error in what is read; `InputFailed` if the source fails, or the budget is too small; `Memory` if an
+/// allocation fails, or the entry needs more than 4294967295 bytes.
+#[tactic(auto, using(crate::proofs::Fits::texts_fit))]
+pub fn last_in<S: ReadAt>(
+    alloc: Global,
+    map: &mut UnverifiedSource<S, Texts>,
+    room: &mut Vec<u8>,
+    form: Form,
+) -> Result<(Vec<u8>, u8), ProgramFault>
+    ensures ok { (b : List ℕ) → AreOf (S.known map.old.reader.source) b →
+        map.old.pos ≡ own_at texts b → IfOk result (λ r. WritesLast b form r.0.items r.1) }
+    ensures err { (b : List ℕ) → AreOf (S.known map.old.reader.source) b →
+        IfErr result (IsLastFault b map.old.pos) }
+    ensures failed { IfErr result
+        (IsReadFailure (S.Fails (S.known map.old.reader.source)) (map.old.pos + 8)
+        map.new.reader.left) }
+    ensures source { S.known map.new.reader.source ≡ S.known map.old.reader.source }
+    ensures position { map.new.pos ≡ map.old.pos }
+{
+    'longer: loop {
+        let lent = room.len().min(MOST_ROOM);
+        let needed = match map.last(&mut room.as_mut_slice()[..lent]) {
+            Ok(entry) => return written_entry(alloc, entry, form),
+            Err(SourceFault::NoRoom { needed }) => needed,
+            Err(fault) => return Err(lookup_fault(fault)),
+        };
+        if let Err(fault) = lengthen(room, needed) {
+            return Err(fault);
+        }
     }
 }
 

@@ -31,3 +31,16 @@ pub fn page<F: Read + Seek + Drop>(
     }
     Ok(page)
 }
+
+/// Returns the last name and its price, in a file that isn't read whole.
+pub fn last_price<F: Read + Seek + Drop>(alloc: Global, file: F) -> Result<Option<(String, u64)>> {
+    sizes_fit::<Prices>();
+    let source = SeekSource { file };
+    let mut prices = UnverifiedSource::<SeekSource<F>, Prices>::open(source, BUDGET)?;
+    let mut room = [0u8; 4096];
+    let Some((name, price)) = prices.last(&mut room)? else {
+        return Ok(None);
+    };
+    let name = String::from_str(alloc, name.as_str())?;
+    Ok(Some((name, price.to_native())))
+}

@@ -6,7 +6,7 @@ use crate::editing::{double_all, double_along, raise_price, set_price, set_price
 use crate::many::total_in;
 use crate::merging::merge;
 use crate::nested::{Days, archive_of_inbox, sent_between, sent_on};
-use crate::pages::page;
+use crate::pages::{last_price, page};
 use crate::pairs::{Visits, correct, visits, visits_between, visits_in};
 use crate::reading::{
     Prices, count, first_above, first_longer, last_line, price_in, price_in_strict,
@@ -53,6 +53,10 @@ fn prices_are_paged(rt: HostRuntime) -> Result<(), Fail> {
     let (name, price) = later.first().expect(&rt, "an entry");
     assert_eq!(rt; name.as_str(), "pear");
     assert_eq!(rt; *price, 5);
+    let last = last_price(rt.alloc(), Cursor::new(bytes.as_slice()))?;
+    let (name, price) = last.expect(&rt, "a last entry");
+    assert_eq!(rt; name.as_str(), "pear");
+    assert_eq!(rt; price, 5);
     Ok(())
 }
 

@@ -5,8 +5,8 @@ use std::alloc::{AllocError, Global};
 use std::cmp::OrderedFloat;
 use std::collections::BTreeMap;
 use std::num::{
-    NonZeroI8, NonZeroI16, NonZeroI32, NonZeroI64, NonZeroU8, NonZeroU16, NonZeroU32, NonZeroU64,
-    f32_from_bits_with_nan, f64_from_bits_with_nan,
+    NonZeroI8, NonZeroI16, NonZeroI32, NonZeroI64, NonZeroI128, NonZeroU8, NonZeroU16, NonZeroU32,
+    NonZeroU64, NonZeroU128, f32_from_bits_with_nan, f64_from_bits_with_nan,
 };
 
 /// What is left of the bytes of a case.
@@ -89,6 +89,18 @@ impl Wire for u64 {
     }
 }
 
+impl Wire for u128 {
+    fn take(_alloc: Global, input: &mut Input<'_>) -> anyhow::Result<u128> {
+        Ok(u128::from_le_bytes(input.array::<16>()?))
+    }
+}
+
+impl Wire for i128 {
+    fn take(_alloc: Global, input: &mut Input<'_>) -> anyhow::Result<i128> {
+        Ok(i128::from_le_bytes(input.array::<16>()?))
+    }
+}
+
 /// Each pattern of bits. One of a NaN gives a NaN.
 impl Wire for f32 {
     fn take(_alloc: Global, input: &mut Input<'_>) -> anyhow::Result<f32> {
@@ -155,6 +167,20 @@ impl Wire for NonZeroU64 {
     }
 }
 
+impl Wire for NonZeroU128 {
+    fn take(_alloc: Global, input: &mut Input<'_>) -> anyhow::Result<NonZeroU128> {
+        let number = u128::from_le_bytes(input.array::<16>()?);
+        NonZeroU128::new(number).context(NO_ZERO)
+    }
+}
+
+impl Wire for NonZeroI128 {
+    fn take(_alloc: Global, input: &mut Input<'_>) -> anyhow::Result<NonZeroI128> {
+        let number = i128::from_le_bytes(input.array::<16>()?);
+        NonZeroI128::new(number).context(NO_ZERO)
+    }
+}
+
 impl Wire for NonZeroI8 {
     fn take(_alloc: Global, input: &mut Input<'_>) -> anyhow::Result<NonZeroI8> {
         let number = i8::from_le_bytes(input.array::<1>()?);
@@ -201,6 +227,39 @@ impl Wire for Vec<u8> {
     }
 }
 
+/// A native type of whose values cases have vectors.
+pub trait WireElement: Wire {}
+
+impl WireElement for u32 {}
+
+impl WireElement for String {}
+
+impl<A: Wire, B: Wire> WireElement for (A, B) {}
+
+impl<T: WireElement> Wire for Vec<T> {
+    fn take(alloc: Global, input: &mut Input<'_>) -> anyhow::Result<Vec<T>> {
+        let count = input.number()?;
+        let mut values = Vec::new(alloc);
+        for _ in 0..count {
+            values.push(T::take(alloc, input)?)?;
+        }
+        Ok(values)
+    }
+}
+
+impl<T: Wire, const N: usize> Wire for [T; N] {
+    fn take(alloc: Global, input: &mut Input<'_>) -> anyhow::Result<[T; N]> {
+        let mut values = Vec::new(alloc);
+        for _ in 0..N {
+            values.push(T::take(alloc, input)?)?;
+        }
+        match <[T; N]>::try_from(values) {
+            Ok(array) => Ok(array),
+            Err(_) => bail!("another number of elements"),
+        }
+    }
+}
+
 impl<T: Wire> Wire for Option<T> {
     fn take(alloc: Global, input: &mut Input<'_>) -> anyhow::Result<Option<T>> {
         if bool::take(alloc, input)? {
@@ -225,6 +284,30 @@ impl<A: Wire, B: Wire, C: Wire> Wire for (A, B, C) {
         let second = B::take(alloc, input)?;
         let third = C::take(alloc, input)?;
         Ok((first, second, third))
+    }
+}
+
+impl<A: Wire, B: Wire, C: Wire, D: Wire> Wire for (A, B, C, D) {
+    fn take(alloc: Global, input: &mut Input<'_>) -> anyhow::Result<(A, B, C, D)> {
+        let (first, second, third) = <(A, B, C)>::take(alloc, input)?;
+        let fourth = D::take(alloc, input)?;
+        Ok((first, second, third, fourth))
+    }
+}
+
+impl<A: Wire, B: Wire, C: Wire, D: Wire, E: Wire> Wire for (A, B, C, D, E) {
+    fn take(alloc: Global, input: &mut Input<'_>) -> anyhow::Result<(A, B, C, D, E)> {
+        let (first, second, third, fourth) = <(A, B, C, D)>::take(alloc, input)?;
+        let fifth = E::take(alloc, input)?;
+        Ok((first, second, third, fourth, fifth))
+    }
+}
+
+impl<A: Wire, B: Wire, C: Wire, D: Wire, E: Wire, F: Wire> Wire for (A, B, C, D, E, F) {
+    fn take(alloc: Global, input: &mut Input<'_>) -> anyhow::Result<(A, B, C, D, E, F)> {
+        let (first, second, third, fourth, fifth) = <(A, B, C, D, E)>::take(alloc, input)?;
+        let sixth = F::take(alloc, input)?;
+        Ok((first, second, third, fourth, fifth, sixth))
     }
 }
 

@@ -8,6 +8,7 @@ mod changing;
 mod damage;
 mod input;
 mod lent;
+mod long_tuples;
 mod modes;
 mod opening;
 mod shown;
@@ -16,6 +17,7 @@ mod unverified;
 mod writing;
 
 use crate::changing::changed;
+use crate::long_tuples::of_long_tuples;
 use crate::modes::{Mode, built, native, sealed};
 use anyhow::{Context, bail};
 use rkyv_btree::prelude::*;
@@ -25,7 +27,8 @@ use std::collections::BTreeMap;
 use std::io;
 use std::io::Write;
 use std::num::{
-    NonZeroI8, NonZeroI16, NonZeroI32, NonZeroI64, NonZeroU8, NonZeroU16, NonZeroU32, NonZeroU64,
+    NonZeroI8, NonZeroI16, NonZeroI32, NonZeroI64, NonZeroI128, NonZeroU8, NonZeroU16, NonZeroU32,
+    NonZeroU64, NonZeroU128,
 };
 
 /// Runs a case of a map by the name of its type: here of numbers, `bool`, characters and `()`.
@@ -83,6 +86,29 @@ fn of_non_zeros(
         "nonzeroi32,u8,1" => {
             native::<NonZeroI32, u8, ArchivedNonZeroI32, u8, 1>(alloc, mode, case, out)
         }
+        _ => of_wide(alloc, kind, mode, case, out),
+    }
+}
+
+/// Runs a case of a map of numbers of 128 bits.
+fn of_wide(
+    alloc: Global,
+    kind: &str,
+    mode: Mode,
+    case: &[u8],
+    out: &mut String,
+) -> anyhow::Result<()> {
+    match kind {
+        "u128,u8,3" => sealed::<u128, u8, ArchivedU128, u8, 3>(alloc, mode, case, out),
+        "i128,u128,2" => sealed::<i128, u128, ArchivedI128, ArchivedU128, 2>(
+            alloc, mode, case, out,
+        ),
+        "u32,i128,5" => sealed::<u32, i128, ArchivedU32, ArchivedI128, 5>(alloc, mode, case, out),
+        "nonzero128,nonzeroi128,1" => {
+            sealed::<NonZeroU128, NonZeroI128, ArchivedNonZeroU128, ArchivedNonZeroI128, 1>(
+                alloc, mode, case, out,
+            )
+        }
         _ => of_bytes(alloc, kind, mode, case, out),
     }
 }
@@ -137,6 +163,53 @@ fn of_options(
         }
         "u32,opttext,5" => {
             native::<u32, Option<String>, ArchivedU32, ArchivedOption<ArchivedText>, 5>(
+                alloc, mode, case, out,
+            )
+        }
+        _ => of_vectors(alloc, kind, mode, case, out),
+    }
+}
+
+/// Runs a case of a map with vectors in it.
+fn of_vectors(
+    alloc: Global,
+    kind: &str,
+    mode: Mode,
+    case: &[u8],
+    out: &mut String,
+) -> anyhow::Result<()> {
+    match kind {
+        "u32,vec(u32),5" => native::<u32, Vec<u32>, ArchivedU32, ArchivedVec<ArchivedU32>, 5>(
+            alloc, mode, case, out,
+        ),
+        "u32,vec(text),3" => native::<u32, Vec<String>, ArchivedU32, ArchivedVec<ArchivedText>, 3>(
+            alloc, mode, case, out,
+        ),
+        "u8,vec(pair(u32,text)),2" => {
+            native::<u8, Vec<(u32, String)>, u8, ArchivedVec<Entry<ArchivedU32, ArchivedText>>, 2>(
+                alloc, mode, case, out,
+            )
+        }
+        _ => of_arrays(alloc, kind, mode, case, out),
+    }
+}
+
+/// Runs a case of a map with arrays in it.
+fn of_arrays(
+    alloc: Global,
+    kind: &str,
+    mode: Mode,
+    case: &[u8],
+    out: &mut String,
+) -> anyhow::Result<()> {
+    match kind {
+        "array(u16;3),u32,5" => {
+            native::<[u16; 3], u32, ArchivedArray<ArchivedU16, 3>, ArchivedU32, 5>(
+                alloc, mode, case, out,
+            )
+        }
+        "u32,array(text;2),3" => {
+            native::<u32, [String; 2], ArchivedU32, ArchivedArray<ArchivedText, 2>, 3>(
                 alloc, mode, case, out,
             )
         }
@@ -235,7 +308,7 @@ fn of_others(
             ArchivedBTreeMap<ArchivedU32, ArchivedU32, 5>,
             5,
         >(alloc, mode, case, out),
-        _ => bail!("no such type"),
+        _ => of_long_tuples(alloc, kind, mode, case, out),
     }
 }
 
@@ -306,6 +379,9 @@ fn replay_line(alloc: Global, line: &str, out: &mut String) -> anyhow::Result<()
     }
     if name == "source_range" {
         return sources::range(alloc, kind, &case, out);
+    }
+    if name == "source_last" {
+        return sources::last(kind, &case, out);
     }
     if let Some(change) = changing::Mode::named(name) {
         return of_changes(alloc, kind, change, &case, out);

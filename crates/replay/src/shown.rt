@@ -1,5 +1,6 @@
 //! The text of archived values, and of bytes.
 
+use rkyv_btree::array::element;
 use rkyv_btree::prelude::*;
 use std::alloc::AllocError;
 use std::num::{NonZeroI8, NonZeroU8};
@@ -158,6 +159,34 @@ impl Shown for ArchivedNonZeroI64 {
     }
 }
 
+impl Shown for ArchivedU128 {
+    fn show(view: &View<'_, ArchivedU128>, out: &mut String) -> Result<(), AllocError> {
+        let number = view.to_native();
+        write!(out, "{number}")
+    }
+}
+
+impl Shown for ArchivedI128 {
+    fn show(view: &View<'_, ArchivedI128>, out: &mut String) -> Result<(), AllocError> {
+        let number = view.to_native();
+        write!(out, "{number}")
+    }
+}
+
+impl Shown for ArchivedNonZeroU128 {
+    fn show(view: &View<'_, ArchivedNonZeroU128>, out: &mut String) -> Result<(), AllocError> {
+        let number = view.to_native().get();
+        write!(out, "{number}")
+    }
+}
+
+impl Shown for ArchivedNonZeroI128 {
+    fn show(view: &View<'_, ArchivedNonZeroI128>, out: &mut String) -> Result<(), AllocError> {
+        let number = view.to_native().get();
+        write!(out, "{number}")
+    }
+}
+
 /// A dot.
 impl Shown for () {
     fn show(view: &View<'_, ()>, out: &mut String) -> Result<(), AllocError> {
@@ -195,6 +224,30 @@ impl<T: Shown> Shown for ArchivedOption<T> {
     }
 }
 
+/// Its elements, in brackets.
+impl<T: Shown> Shown for ArchivedVec<T> {
+    fn show(view: &View<'_, ArchivedVec<T>>, out: &mut String) -> Result<(), AllocError> {
+        out.push('[')?;
+        for element in VecIter::new(*view) {
+            out.push(' ')?;
+            T::show(&element, out)?;
+        }
+        out.push(']')
+    }
+}
+
+/// Its elements, in brackets.
+impl<T: Shown, const N: usize> Shown for ArchivedArray<T, N> {
+    fn show(view: &View<'_, ArchivedArray<T, N>>, out: &mut String) -> Result<(), AllocError> {
+        out.push('[')?;
+        for i in 0..N {
+            out.push(' ')?;
+            T::show(&element(view, i), out)?;
+        }
+        out.push(']')
+    }
+}
+
 /// Both parts, in parentheses.
 impl<K: Shown, V: Shown> Shown for Entry<K, V> {
     fn show(view: &View<'_, Entry<K, V>>, out: &mut String) -> Result<(), AllocError> {
@@ -216,6 +269,70 @@ impl<A: Shown, B: Shown, C: Shown> Shown for ArchivedTuple3<A, B, C> {
         B::show(&second, out)?;
         out.push(',')?;
         C::show(&third, out)?;
+        out.push(')')
+    }
+}
+
+/// Its fields, in parentheses.
+impl<A: Shown, B: Shown, C: Shown, D: Shown> Shown for ArchivedTuple4<A, B, C, D> {
+    fn show(
+        view: &View<'_, ArchivedTuple4<A, B, C, D>>,
+        out: &mut String,
+    ) -> Result<(), AllocError> {
+        let (first, second, third, fourth) = view.as_tuple();
+        out.push('(')?;
+        A::show(&first, out)?;
+        out.push(',')?;
+        B::show(&second, out)?;
+        out.push(',')?;
+        C::show(&third, out)?;
+        out.push(',')?;
+        D::show(&fourth, out)?;
+        out.push(')')
+    }
+}
+
+/// Its fields, in parentheses.
+impl<A: Shown, B: Shown, C: Shown, D: Shown, E: Shown> Shown for ArchivedTuple5<A, B, C, D, E> {
+    fn show(
+        view: &View<'_, ArchivedTuple5<A, B, C, D, E>>,
+        out: &mut String,
+    ) -> Result<(), AllocError> {
+        let (first, second, third, fourth, fifth) = view.as_tuple();
+        out.push('(')?;
+        A::show(&first, out)?;
+        out.push(',')?;
+        B::show(&second, out)?;
+        out.push(',')?;
+        C::show(&third, out)?;
+        out.push(',')?;
+        D::show(&fourth, out)?;
+        out.push(',')?;
+        E::show(&fifth, out)?;
+        out.push(')')
+    }
+}
+
+/// Its fields, in parentheses.
+impl<A: Shown, B: Shown, C: Shown, D: Shown, E: Shown, F: Shown> Shown
+    for ArchivedTuple6<A, B, C, D, E, F> {
+    fn show(
+        view: &View<'_, ArchivedTuple6<A, B, C, D, E, F>>,
+        out: &mut String,
+    ) -> Result<(), AllocError> {
+        let (first, second, third, fourth, fifth, sixth) = view.as_tuple();
+        out.push('(')?;
+        A::show(&first, out)?;
+        out.push(',')?;
+        B::show(&second, out)?;
+        out.push(',')?;
+        C::show(&third, out)?;
+        out.push(',')?;
+        D::show(&fourth, out)?;
+        out.push(',')?;
+        E::show(&fifth, out)?;
+        out.push(',')?;
+        F::show(&sixth, out)?;
         out.push(')')
     }
 }

@@ -262,3 +262,37 @@ pub(crate) fn range(
         _ => bail!("no such type of a range in a source"),
     }
 }
+
+/// Appends the last entry of a map in a case's buffer as a source.
+fn show_last<K: Fetch + Shown, V: Fetch + Shown, const E: usize>(
+    case: &[u8],
+    out: &mut String,
+) -> anyhow::Result<()> {
+    ensure!(layout::fits::<K, V, E>(), "the map doesn't fit");
+    let mut input = Input { rest: case };
+    let (pos, lent) = (input.number()?, input.number()?);
+    let mut room = [0u8; 4096];
+    let lent = (lent as usize).min(4096);
+    let mut map = UnverifiedSource::<&[u8], ArchivedBTreeMap<K, V, E>>::new(
+        input.rest,
+        pos,
+        u64::MAX,
+    );
+    match map.last(&mut room[..lent]) {
+        Ok(Some((key, value))) => show_entry(key, value, out)?,
+        Ok(None) => out.push_str(" none")?,
+        Err(SourceFault::NoRoom { needed }) => write!(out, " needs {needed}")?,
+        Err(fault) => write!(out, " refused: {fault}")?,
+    }
+    Ok(())
+}
+
+/// Shows the last entry in a case's buffer as a source, by the name of the map's type.
+pub(crate) fn last(kind: &str, case: &[u8], out: &mut String) -> anyhow::Result<()> {
+    match kind {
+        "u32,u32,2" => show_last::<ArchivedU32, ArchivedU32, 2>(case, out),
+        "u8,u16,3" => show_last::<u8, ArchivedU16, 3>(case, out),
+        "text,i32,5" => show_last::<ArchivedText, ArchivedI32, 5>(case, out),
+        _ => bail!("no such type of a last entry in a source"),
+    }
+}

@@ -4,6 +4,11 @@
 pub use rkyv_btree_base as base;
 pub use rkyv_btree_view::entry_view;
 
+/// Arrays, read in place.
+pub mod array {
+    pub use rkyv_btree_compound::array_view::{ViewArray, element};
+}
+
 /// Comparisons of views by what they read.
 pub mod compare {
     pub use rkyv_btree_view::compare::{ViewEq, ViewHash, ViewOrd};
@@ -57,25 +62,31 @@ pub mod keys {
 /// Laws of maps and of the calls on them. Each function has an empty body: call it to make its clauses known to the prover.
 pub mod laws {
     pub use rkyv_btree_base::laws::{
-        archives_are_accepted, claims_are_apart, each_tree_needs_room, entries_are_determined,
-        entries_compare_key_first, faults_are_exact, left_complete_is_smallest, logarithm,
-        natives_are_determined, options_are_determined, ordered_floats_are_determined,
-        plan_is_recursive, plan_is_the_left_complete_tree, spelled_trees_have_the_shape,
-        std_types_are_determined, texts_are_determined, trees_are_determined,
-        tuples_are_determined, wasteful_trees, worked_trees, written_maps_are_held,
+        archives_are_accepted, arrays_are_determined, claims_are_apart, each_tree_needs_room,
+        entries_are_determined, entries_compare_key_first, faults_are_exact,
+        left_complete_is_smallest, logarithm, natives_are_determined, options_are_determined,
+        ordered_floats_are_determined, plan_is_recursive, plan_is_the_left_complete_tree,
+        spelled_trees_have_the_shape, std_types_are_determined, texts_are_determined,
+        trees_are_determined, tuples_are_determined, tuples4_are_determined,
+        tuples5_are_determined, tuples6_are_determined, vectors_are_determined, wasteful_trees,
+        worked_trees, written_maps_are_held,
     };
     pub use rkyv_btree_convert::native_map::{last_values_count, maps_are_given_by_entries};
     pub use rkyv_btree_convert::round_trip::{
-        maps_are_given_back, natives_are_given_back, pairs_are_given_back, sets_are_given_back,
-        texts_are_given_back, tuples_are_given_back,
+        arrays_are_given_back, byte_strings_are_given_back, maps_are_given_back,
+        natives_are_given_back, non_zeros_are_given_back, options_are_given_back,
+        pairs_are_given_back, sets_are_given_back, texts_are_given_back, tuples_are_given_back,
+        tuples4_are_given_back, tuples5_are_given_back, tuples6_are_given_back,
     };
     pub use rkyv_btree_convert::sizes::sizes_fit;
     pub use rkyv_btree_convert::std_maps::{archives_are_same_as_std, look_ups_find_as_std};
     pub use rkyv_btree_seal::edit_laws::{values_are_apart, writes_put_values};
     pub use rkyv_btree_strict::strict_laws::{
-        floats_are_ordered_alike, natives_are_ordered_alike, neighbours_decide_order,
-        pairs_are_ordered_alike, std_maps_are_increasing, tuples_are_ordered_alike,
-        visits_keep_strict_maps, writes_keep_strict_maps,
+        arrays_are_ordered_alike, byte_strings_are_ordered_alike, floats_are_ordered_alike,
+        natives_are_ordered_alike, neighbours_decide_order, non_zeros_are_ordered_alike,
+        options_are_ordered_alike, pairs_are_ordered_alike, std_maps_are_increasing,
+        tuples_are_ordered_alike, tuples4_are_ordered_alike, tuples5_are_ordered_alike,
+        tuples6_are_ordered_alike, visits_keep_strict_maps, writes_keep_strict_maps,
     };
     pub use rkyv_btree_typed::type_laws::names_are_apart;
     pub use rkyv_btree_unverified::laws::{lookups_are_determined, maps_are_searched};
@@ -155,9 +166,12 @@ pub mod strict {
     pub use rkyv_btree_strict::strict_map::{Strict, StrictView};
 }
 
-/// Tuples of three, read in place.
+/// Tuples of three to six, read in place.
 pub mod tuple {
-    pub use rkyv_btree_compound::tuple_view::ViewTuple3;
+    pub use rkyv_btree_compound::front_view::FrontView;
+    pub use rkyv_btree_compound::tuple_compare::{FrontEq, FrontHash, FrontOrd};
+    pub use rkyv_btree_compound::tuple_view::{ViewTuple3, ViewTuple4, ViewTuple5, ViewTuple6};
+    pub use rkyv_btree_convert::native_front::DeserializeFront;
 }
 
 /// Files that state the type of their map: a header with its name, and then an archive.
@@ -184,6 +198,12 @@ pub mod unverified {
     pub use rkyv_btree_unverified::unverified::Unverified;
 }
 
+/// Vectors, read in place, and iterators over their elements.
+pub mod vector {
+    pub use rkyv_btree_compound::vec_iter::VecIter;
+    pub use rkyv_btree_compound::vector_view::ViewVec;
+}
+
 /// Values in a buffer.
 pub mod view {
     pub use rkyv_btree_view::view::View;
@@ -197,59 +217,106 @@ pub mod whole {
 
 /// What most programs name.
 pub mod prelude {
-    pub use rkyv_btree_base::archive::{Archive, Archived, Native, Serialize};
-    pub use rkyv_btree_base::build::{BuildMap, BuildSet};
+    pub use rkyv_btree_base::archive::Archive;
+    pub use rkyv_btree_base::archive::Archived;
+    pub use rkyv_btree_base::archive::Element;
+    pub use rkyv_btree_base::archive::Native;
+    pub use rkyv_btree_base::archive::Serialize;
+    pub use rkyv_btree_base::array::ArchivedArray;
+    pub use rkyv_btree_base::build::BuildMap;
+    pub use rkyv_btree_base::build::BuildSet;
     pub use rkyv_btree_base::byte_string::ArchivedBytes;
-    pub use rkyv_btree_base::check::{CheckBytes, InPlace, Portable};
+    pub use rkyv_btree_base::check::CheckBytes;
+    pub use rkyv_btree_base::check::InPlace;
+    pub use rkyv_btree_base::check::Portable;
     pub use rkyv_btree_base::fault::Fault;
-    pub use rkyv_btree_base::floats::{ArchivedF32, ArchivedF64};
+    pub use rkyv_btree_base::floats::ArchivedF32;
+    pub use rkyv_btree_base::floats::ArchivedF64;
     pub use rkyv_btree_base::io_writer::IoWriter;
     pub use rkyv_btree_base::map::ArchivedBTreeMap;
-    pub use rkyv_btree_base::non_zeros::{
-        ArchivedNonZeroI16, ArchivedNonZeroI32, ArchivedNonZeroI64, ArchivedNonZeroU16,
-        ArchivedNonZeroU64,
-    };
-    pub use rkyv_btree_base::numbers::{ArchivedU16, ArchivedU32, ArchivedU64};
+    pub use rkyv_btree_base::non_zeros::ArchivedNonZeroI16;
+    pub use rkyv_btree_base::non_zeros::ArchivedNonZeroI32;
+    pub use rkyv_btree_base::non_zeros::ArchivedNonZeroI64;
+    pub use rkyv_btree_base::non_zeros::ArchivedNonZeroU16;
+    pub use rkyv_btree_base::non_zeros::ArchivedNonZeroU64;
+    pub use rkyv_btree_base::numbers::ArchivedU16;
+    pub use rkyv_btree_base::numbers::ArchivedU32;
+    pub use rkyv_btree_base::numbers::ArchivedU64;
     pub use rkyv_btree_base::option::ArchivedOption;
     pub use rkyv_btree_base::place::VecWriter;
     pub use rkyv_btree_base::refusal::Refusal;
-    pub use rkyv_btree_base::scalars::{ArchivedChar, ArchivedNonZeroU32};
+    pub use rkyv_btree_base::scalars::ArchivedChar;
+    pub use rkyv_btree_base::scalars::ArchivedNonZeroU32;
     pub use rkyv_btree_base::set::ArchivedBTreeSet;
-    pub use rkyv_btree_base::signed::{ArchivedI16, ArchivedI32, ArchivedI64};
+    pub use rkyv_btree_base::signed::ArchivedI16;
+    pub use rkyv_btree_base::signed::ArchivedI32;
+    pub use rkyv_btree_base::signed::ArchivedI64;
     pub use rkyv_btree_base::text::ArchivedText;
     pub use rkyv_btree_base::tuple::ArchivedTuple3;
+    pub use rkyv_btree_base::tuple::ArchivedTuple4;
+    pub use rkyv_btree_base::tuple::ArchivedTuple5;
+    pub use rkyv_btree_base::tuple::ArchivedTuple6;
     pub use rkyv_btree_base::util::Entry;
+    pub use rkyv_btree_base::vector::ArchivedVec;
     pub use rkyv_btree_base::whole::to_archive;
+    pub use rkyv_btree_base::wide::ArchivedI128;
+    pub use rkyv_btree_base::wide::ArchivedNonZeroI128;
+    pub use rkyv_btree_base::wide::ArchivedNonZeroU128;
+    pub use rkyv_btree_base::wide::ArchivedU128;
+    pub use rkyv_btree_compound::array_view::ViewArray;
     pub use rkyv_btree_compound::option_view::ViewOption;
     pub use rkyv_btree_compound::tuple_view::ViewTuple3;
-    pub use rkyv_btree_convert::deserialize::{Deserialize, DeserializeFault};
+    pub use rkyv_btree_compound::tuple_view::ViewTuple4;
+    pub use rkyv_btree_compound::tuple_view::ViewTuple5;
+    pub use rkyv_btree_compound::tuple_view::ViewTuple6;
+    pub use rkyv_btree_compound::vec_iter::VecIter;
+    pub use rkyv_btree_compound::vector_view::ViewVec;
+    pub use rkyv_btree_convert::deserialize::Deserialize;
+    pub use rkyv_btree_convert::deserialize::DeserializeFault;
     pub use rkyv_btree_convert::deserialize_native::DeserializeNative;
     pub use rkyv_btree_convert::entry_type::EntryType;
-    pub use rkyv_btree_convert::from_archive::{FromArchiveFault, from_archive, open, open_mut};
+    pub use rkyv_btree_convert::from_archive::FromArchiveFault;
+    pub use rkyv_btree_convert::from_archive::from_archive;
+    pub use rkyv_btree_convert::from_archive::open;
+    pub use rkyv_btree_convert::from_archive::open_mut;
     pub use rkyv_btree_convert::sizes::sizes_fit;
     pub use rkyv_btree_plain::archived_plain::ArchivedPlain;
     pub use rkyv_btree_plain::plain_value::PlainValue;
     pub use rkyv_btree_seal::cursor::IterSeal;
     pub use rkyv_btree_seal::lent_key::LentKey;
-    pub use rkyv_btree_seal::map_seal::{MapSeal, access_mut};
+    pub use rkyv_btree_seal::map_seal::MapSeal;
+    pub use rkyv_btree_seal::map_seal::access_mut;
     pub use rkyv_btree_seal::range_cursor::RangeSeal;
     pub use rkyv_btree_seal::seal::Seal;
-    pub use rkyv_btree_strict::strict::{CheckStrict, access_strict, open_strict, open_strict_mut};
-    pub use rkyv_btree_strict::strict_map::{Strict, StrictView};
+    pub use rkyv_btree_strict::strict::CheckStrict;
+    pub use rkyv_btree_strict::strict::access_strict;
+    pub use rkyv_btree_strict::strict::open_strict;
+    pub use rkyv_btree_strict::strict::open_strict_mut;
+    pub use rkyv_btree_strict::strict_map::Strict;
+    pub use rkyv_btree_strict::strict_map::StrictView;
     pub use rkyv_btree_typed::from_typed::from_typed_archive;
     pub use rkyv_btree_typed::header::type_name_of;
-    pub use rkyv_btree_typed::open_typed::{
-        open_typed, open_typed_mut, open_typed_strict, open_typed_strict_mut, open_typed_unverified,
-    };
-    pub use rkyv_btree_typed::to_typed::{to_typed_archive, write_header};
+    pub use rkyv_btree_typed::open_typed::open_typed;
+    pub use rkyv_btree_typed::open_typed::open_typed_mut;
+    pub use rkyv_btree_typed::open_typed::open_typed_strict;
+    pub use rkyv_btree_typed::open_typed::open_typed_strict_mut;
+    pub use rkyv_btree_typed::open_typed::open_typed_unverified;
+    pub use rkyv_btree_typed::to_typed::to_typed_archive;
+    pub use rkyv_btree_typed::to_typed::write_header;
     pub use rkyv_btree_typed::type_check::TypedRefusal;
-    pub use rkyv_btree_typed::type_name::{StatedName, TypeName};
-    pub use rkyv_btree_unverified::get_many::{UnverifiedKeyLookups, UnverifiedLookups};
+    pub use rkyv_btree_typed::type_name::StatedName;
+    pub use rkyv_btree_typed::type_name::TypeName;
+    pub use rkyv_btree_unverified::get_many::UnverifiedKeyLookups;
+    pub use rkyv_btree_unverified::get_many::UnverifiedLookups;
     pub use rkyv_btree_unverified::unverified::Unverified;
-    pub use rkyv_btree_view::compare::{ViewEq, ViewHash, ViewOrd};
-    pub use rkyv_btree_view::compare_native::{CompareWith, SameAs};
+    pub use rkyv_btree_view::compare::ViewEq;
+    pub use rkyv_btree_view::compare::ViewHash;
+    pub use rkyv_btree_view::compare::ViewOrd;
+    pub use rkyv_btree_view::compare_native::CompareWith;
+    pub use rkyv_btree_view::compare_native::SameAs;
     pub use rkyv_btree_view::map_view::access;
     pub use rkyv_btree_view::native::ToNative;
     pub use rkyv_btree_view::view::View;
-    pub use std::ops::{Bound, ControlFlow};
+    pub use std::ops::Bound;
+    pub use std::ops::ControlFlow;
 }

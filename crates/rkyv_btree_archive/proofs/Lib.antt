@@ -1,4 +1,6 @@
 mod TextsWritten
+pub mod ArraysDetermined
+pub mod ArraysWritten
 pub mod Both
 pub mod JoinedResolved
 pub mod ListArchives
@@ -15,3 +17,6 @@ pub mod Sources
 pub mod InOrder
 pub mod TryBuilding
 pub mod TrySets
+pub mod VectorRows
+pub mod VectorsDetermined
+pub mod VectorsWritten

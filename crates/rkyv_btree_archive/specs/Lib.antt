@@ -1,8 +1,10 @@
+pub mod ArrayArchival
 pub mod EntryArchival
 pub mod ListArchives
 pub mod OptionArchival
 pub mod OrderedArchival
 pub mod TryBuilding
 pub mod TupleArchival
+pub mod VectorArchival
 pub mod laws
 pub mod mirror

@@ -1,4 +1,6 @@
 -- Laws that impls cite: those of archived pairs, tuples and options, and of numbers that are compared as `OrderedFloat`s.
+pub mod ArrayArchived
+pub mod ArrayCauses
 pub mod EntryArchived
 pub mod EntryCauses
 pub mod JoinedArchived
@@ -6,3 +8,5 @@ pub mod JoinedCauses
 pub mod OptionArchived
 pub mod OptionCauses
 pub mod OrderedArchived
+pub mod VectorArchived
+pub mod VectorCauses

@@ -2,13 +2,17 @@
 #![tactic(auto)]
 
 pub mod archive;
+pub mod array;
 pub mod borrow;
 pub mod build;
 pub mod build_map;
 pub mod build_set;
 pub mod byte_string;
+pub mod element;
 mod entries;
 pub mod floats;
+pub mod front_refs;
+pub mod front_serialize;
 pub mod items;
 mod node_bytes;
 pub mod node_writes;
@@ -21,6 +25,8 @@ pub mod to_archive;
 mod tree;
 pub mod try_build;
 pub mod tuple;
-pub mod tuple3;
+pub mod tuples;
 pub mod util;
+pub mod vector;
 pub mod waiting;
+mod wide;

@@ -30,7 +30,7 @@ fn place_bytes(node: &mut [u8], start: usize, bytes: &[u8])
 
 /// Writes a value's own bytes, resolved at `pos`, from `start` on.
 #[inline(always)]
-fn place_value<T: Archive>(
+pub(crate) fn place_value<T: Archive>(
     node: &mut [u8],
     start: usize,
     value: &T,
@@ -51,7 +51,7 @@ fn place_value<T: Archive>(
 }
 
 /// The choice of one half of each entry: the key or the value.
-trait Half<X> {
+pub(crate) trait Half<X> {
     /// The type of that half.
     type Part: Archive;
 
@@ -92,7 +92,7 @@ impl<B, C: Borrow<N>, N: Archive> Half<(B, C)> for Values<N> {
 
 /// Writes the keys of entries, or their values, as `place_halves` does, and takes each resolver from the end of a list.
 #[inline(always)]
-fn place_each<H: Half<X>, X, A: Allocator>(
+pub(crate) fn place_each<H: Half<X>, X, A: Allocator>(
     node: &mut [u8],
     start: usize,
     entries: &[X],

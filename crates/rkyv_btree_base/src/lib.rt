@@ -8,6 +8,12 @@ pub use rkyv_btree_writer::{fault, io_writer};
 /// Values that can be archived.
 pub mod archive {
     pub use rkyv_btree_archive::archive::{Archive, Archived, Native, Serialize};
+    pub use rkyv_btree_archive::element::Element;
+}
+
+/// Archived arrays, as a type of bytes.
+pub mod array {
+    pub use rkyv_btree_compound::array::ArchivedArray;
 }
 
 /// Building maps and sets, and what a serialized one leaves to be written: where its root is.
@@ -58,6 +64,7 @@ pub mod try_build {
 /// prover.
 pub mod laws {
     pub use rkyv_btree_archive::archive::natives_are_determined;
+    pub use rkyv_btree_archive::array::arrays_are_determined;
     pub use rkyv_btree_archive::build::{
         archives_are_accepted, trees_are_determined, written_maps_are_held,
     };
@@ -65,8 +72,12 @@ pub mod laws {
     pub use rkyv_btree_archive::option::options_are_determined;
     pub use rkyv_btree_archive::std_types::std_types_are_determined;
     pub use rkyv_btree_archive::string::texts_are_determined;
-    pub use rkyv_btree_archive::tuple3::tuples_are_determined;
+    pub use rkyv_btree_archive::tuples::{
+        tuples_are_determined, tuples4_are_determined, tuples5_are_determined,
+        tuples6_are_determined,
+    };
     pub use rkyv_btree_archive::util::entries_are_determined;
+    pub use rkyv_btree_archive::vector::vectors_are_determined;
     pub use rkyv_btree_format::competitors::spelled_trees_have_the_shape;
     pub use rkyv_btree_portable::entry::entries_compare_key_first;
     pub use rkyv_btree_shape::shape::{
@@ -102,9 +113,15 @@ pub mod option {
     pub use rkyv_btree_compound::option::ArchivedOption;
 }
 
-/// Archived tuples of three, as a type of bytes. A pair is an `Entry`.
+/// Archived tuples of three to six, as types of bytes. A pair is an `Entry`.
 pub mod tuple {
-    pub use rkyv_btree_compound::tuple::ArchivedTuple3;
+    pub use rkyv_btree_archive::front_refs::{ArchiveFront, FirstRef, NextRef};
+    pub use rkyv_btree_archive::front_serialize::SerializeFront;
+    pub use rkyv_btree_compound::front::{CheckFront, First, Next, TupleFront};
+    pub use rkyv_btree_compound::front_in_place::InPlaceFront;
+    pub use rkyv_btree_compound::tuple::{
+        ArchivedTuple, ArchivedTuple3, ArchivedTuple4, ArchivedTuple5, ArchivedTuple6,
+    };
 }
 
 /// Archived texts, as a type of bytes.
@@ -116,6 +133,19 @@ pub mod text {
 pub mod util {
     pub use rkyv_btree_archive::util::{EntryAdapter, EntryResolver};
     pub use rkyv_btree_portable::entry::{Entry, value_offset};
+}
+
+/// Archived vectors, as a type of bytes.
+pub mod vector {
+    pub use rkyv_btree_compound::vector::ArchivedVec;
+}
+
+/// Archived numbers of 128 bits, as types of bytes.
+pub mod wide {
+    pub use rkyv_btree_compound::wide::{
+        ArchivedI128, ArchivedNonZeroI128, ArchivedNonZeroU128, ArchivedU128, ArchivedWide,
+        non_zero_i128, non_zero_u128,
+    };
 }
 
 /// Whole archives: one value, whose own bytes come last.

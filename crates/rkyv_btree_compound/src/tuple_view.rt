@@ -1,22 +1,15 @@
-//! Views of tuples of three: their fields, and their comparisons.
+//! Views of tuples of three to six: their fields in place.
 ghost use Rattle.std.specs.Prelude.{◌≡◌, ◌+◌, ℕ, List};
-ghost use Rattle.rkyv_btree_compound.specs.TupleNatives.{tuple_compared_at, tuple_same_at};
-ghost use Rattle.rkyv_btree_compound.specs.Tuples.{third_offset};
-ghost use Rattle.rkyv_btree_compound.specs.laws.TupleComparing.{tuples_compare, tuples_equivalence, tuples_respect, tuples_test};
-ghost use Rattle.rkyv_btree_compound.specs.laws.TupleComparing.{tuples_tied, tuples_total};
+ghost use Rattle.rkyv_btree_compound.specs.Tuples.{third_offset, fourth_offset, fifth_offset, sixth_offset};
 ghost use Rattle.rkyv_btree_portable.specs.Entry.{value_offset};
 
-use crate::tuple::{ArchivedTuple3, second_place, third_offset};
+use crate::front_view::fields_of;
+use crate::tuple::{ArchivedTuple3, ArchivedTuple4, ArchivedTuple5, ArchivedTuple6};
 use rkyv_btree_portable::check::Portable;
-use rkyv_btree_view::compare::{ViewEq, ViewHash, ViewOrd};
-use rkyv_btree_view::compare_native::{CompareWith, SameAs};
 use rkyv_btree_view::debug::ViewDebug;
 use rkyv_btree_view::view::View;
 use rkyv_btree_walk::shows::Shows;
-use std::cmp::Ordering;
 use std::fmt;
-use std::hash::Hasher;
-use std::marker::PhantomData;
 
 /// A view of a tuple of three, whose fields are shown in place. `View<'a, ArchivedTuple3<A, B, C>>` is the one.
 pub trait ViewTuple3<'a> {
@@ -75,68 +68,325 @@ impl<'a, A: Portable, B: Portable, C: Portable> ViewTuple3<'a>
     ghost place = { λ view. view.pos };
 
     fn as_tuple(self) -> (View<'a, A>, View<'a, B>, View<'a, C>) {
-        let first = View {
-            buf: self.buf,
-            pos: self.pos,
-            of: PhantomData,
-        };
-        let second = View {
-            buf: self.buf,
-            pos: self.pos + second_place::<A, B, C>().0,
-            of: PhantomData,
-        };
-        let third = View {
-            buf: self.buf,
-            pos: self.pos + third_offset::<A, B, C>(),
-            of: PhantomData,
-        };
-        (first, second, third)
+        let (front, third) = fields_of(self);
+        let (front, second) = front.split();
+        (front.field(), second, third)
     }
 }
 
-impl<A: ViewEq, B: ViewEq, C: ViewEq> ViewEq for ArchivedTuple3<A, B, C> {
-    fn is_same(
-        a: &View<'_, ArchivedTuple3<A, B, C>>,
-        b: &View<'_, ArchivedTuple3<A, B, C>>,
-    ) -> bool {
-        let (a1, a2, a3) = a.as_tuple();
-        let (b1, b2, b3) = b.as_tuple();
-        A::is_same(&a1, &b1) && B::is_same(&a2, &b2) && C::is_same(&a3, &b3)
-    }
+/// A view of a tuple of four, whose fields are shown in place. `View<'a, ArchivedTuple4<A, B, C, D>>` is the one.
+pub trait ViewTuple4<'a> {
+    /// The archived type of the first field.
+    type First: Portable;
 
-    ghost equivalence = { tuples_equivalence A.kind B.kind C.kind
-        A.equivalence B.equivalence C.equivalence };
+    /// The archived type of the second field.
+    type Second: Portable;
+
+    /// The archived type of the third field.
+    type Third: Portable;
+
+    /// The archived type of the fourth field.
+    type Fourth: Portable;
+
+    /// The type of views of the first field.
+    type ShownFirst: Shows<'a, Self::First>;
+
+    /// The type of views of the second field.
+    type ShownSecond: Shows<'a, Self::Second>;
+
+    /// The type of views of the third field.
+    type ShownThird: Shows<'a, Self::Third>;
+
+    /// The type of views of the fourth field.
+    type ShownFourth: Shows<'a, Self::Fourth>;
+
+    /// The buffer with the tuple.
+    ghost bytes: { Self → List ℕ };
+
+    /// The position of the tuple.
+    ghost place: { Self → ℕ };
+
+    /// Returns the views of the fields, each at its place in the tuple's buffer.
+    fn as_tuple(
+        self,
+    ) -> (
+        Self::ShownFirst,
+        Self::ShownSecond,
+        Self::ShownThird,
+        Self::ShownFourth,
+    )
+        ensures first_buffer { Self.ShownFirst.bytes result.0 ≡ bytes self }
+        ensures first_place { Self.ShownFirst.place result.0 ≡ place self }
+        ensures second_buffer { Self.ShownSecond.bytes result.1 ≡ bytes self }
+        ensures second_place { Self.ShownSecond.place result.1
+            ≡ place self + value_offset Self.First.kind Self.Second.kind }
+        ensures third_buffer { Self.ShownThird.bytes result.2 ≡ bytes self }
+        ensures third_place { Self.ShownThird.place result.2
+            ≡ place self + third_offset Self.First.kind Self.Second.kind Self.Third.kind }
+        ensures fourth_buffer { Self.ShownFourth.bytes result.3 ≡ bytes self }
+        ensures fourth_place { Self.ShownFourth.place result.3
+            ≡ place self + fourth_offset Self.First.kind Self.Second.kind Self.Third.kind Self.Fourth.kind };
 }
 
-impl<A: ViewOrd, B: ViewOrd, C: ViewOrd> ViewOrd for ArchivedTuple3<A, B, C> {
-    fn compare(
-        a: &View<'_, ArchivedTuple3<A, B, C>>,
-        b: &View<'_, ArchivedTuple3<A, B, C>>,
-    ) -> Ordering {
-        let (a1, a2, a3) = a.as_tuple();
-        let (b1, b2, b3) = b.as_tuple();
-        A::compare(&a1, &b1)
-            .then(B::compare(&a2, &b2))
-            .then(C::compare(&a3, &b3))
+impl<'a, A: Portable, B: Portable, C: Portable, D: Portable> ViewTuple4<'a>
+    for View<'a, ArchivedTuple4<A, B, C, D>> {
+    type First = A;
+
+    type Second = B;
+
+    type Third = C;
+
+    type Fourth = D;
+
+    type ShownFirst = View<'a, A>;
+
+    type ShownSecond = View<'a, B>;
+
+    type ShownThird = View<'a, C>;
+
+    type ShownFourth = View<'a, D>;
+
+    ghost bytes = { λ view. view.buf.now };
+
+    ghost place = { λ view. view.pos };
+
+    fn as_tuple(self) -> (View<'a, A>, View<'a, B>, View<'a, C>, View<'a, D>) {
+        let (front, fourth) = fields_of(self);
+        let (front, third) = front.split();
+        let (front, second) = front.split();
+        (front.field(), second, third, fourth)
     }
-
-    ghost total = { tuples_total A.kind B.kind C.kind A.total B.total C.total };
-
-    ghost matches_same = { tuples_tied A.kind B.kind C.kind
-        A.matches_same B.matches_same C.matches_same };
 }
 
-impl<A: ViewHash, B: ViewHash, C: ViewHash> ViewHash for ArchivedTuple3<A, B, C> {
-    /// Feeds what a native tuple feeds: each field in turn.
-    fn hash_view<H: Hasher>(view: &View<'_, ArchivedTuple3<A, B, C>>, state: &mut H) {
-        let (first, second, third) = view.as_tuple();
-        A::hash_view(&first, state);
-        B::hash_view(&second, state);
-        C::hash_view(&third, state);
-    }
+/// A view of a tuple of five, whose fields are shown in place. `View<'a, ArchivedTuple5<A, B, C, D, E>>` is the one.
+pub trait ViewTuple5<'a> {
+    /// The archived type of the first field.
+    type First: Portable;
 
-    ghost respects_same = { tuples_respect A.kind B.kind C.kind
-        A.respects_same B.respects_same C.respects_same };
+    /// The archived type of the second field.
+    type Second: Portable;
+
+    /// The archived type of the third field.
+    type Third: Portable;
+
+    /// The archived type of the fourth field.
+    type Fourth: Portable;
+
+    /// The archived type of the fifth field.
+    type Fifth: Portable;
+
+    /// The type of views of the first field.
+    type ShownFirst: Shows<'a, Self::First>;
+
+    /// The type of views of the second field.
+    type ShownSecond: Shows<'a, Self::Second>;
+
+    /// The type of views of the third field.
+    type ShownThird: Shows<'a, Self::Third>;
+
+    /// The type of views of the fourth field.
+    type ShownFourth: Shows<'a, Self::Fourth>;
+
+    /// The type of views of the fifth field.
+    type ShownFifth: Shows<'a, Self::Fifth>;
+
+    /// The buffer with the tuple.
+    ghost bytes: { Self → List ℕ };
+
+    /// The position of the tuple.
+    ghost place: { Self → ℕ };
+
+    /// Returns the views of the fields, each at its place in the tuple's buffer.
+    fn as_tuple(
+        self,
+    ) -> (
+        Self::ShownFirst,
+        Self::ShownSecond,
+        Self::ShownThird,
+        Self::ShownFourth,
+        Self::ShownFifth,
+    )
+        ensures first_buffer { Self.ShownFirst.bytes result.0 ≡ bytes self }
+        ensures first_place { Self.ShownFirst.place result.0 ≡ place self }
+        ensures second_buffer { Self.ShownSecond.bytes result.1 ≡ bytes self }
+        ensures second_place { Self.ShownSecond.place result.1
+            ≡ place self + value_offset Self.First.kind Self.Second.kind }
+        ensures third_buffer { Self.ShownThird.bytes result.2 ≡ bytes self }
+        ensures third_place { Self.ShownThird.place result.2
+            ≡ place self + third_offset Self.First.kind Self.Second.kind Self.Third.kind }
+        ensures fourth_buffer { Self.ShownFourth.bytes result.3 ≡ bytes self }
+        ensures fourth_place { Self.ShownFourth.place result.3
+            ≡ place self + fourth_offset Self.First.kind Self.Second.kind Self.Third.kind Self.Fourth.kind }
+        ensures fifth_buffer { Self.ShownFifth.bytes result.4 ≡ bytes self }
+        ensures fifth_place { Self.ShownFifth.place result.4
+            ≡ place self + fifth_offset Self.First.kind Self.Second.kind Self.Third.kind Self.Fourth.kind Self.Fifth.kind };
+}
+
+impl<'a, A: Portable, B: Portable, C: Portable, D: Portable, E: Portable> ViewTuple5<'a>
+    for View<'a, ArchivedTuple5<A, B, C, D, E>> {
+    type First = A;
+
+    type Second = B;
+
+    type Third = C;
+
+    type Fourth = D;
+
+    type Fifth = E;
+
+    type ShownFirst = View<'a, A>;
+
+    type ShownSecond = View<'a, B>;
+
+    type ShownThird = View<'a, C>;
+
+    type ShownFourth = View<'a, D>;
+
+    type ShownFifth = View<'a, E>;
+
+    ghost bytes = { λ view. view.buf.now };
+
+    ghost place = { λ view. view.pos };
+
+    fn as_tuple(
+        self,
+    ) -> (
+        View<'a, A>,
+        View<'a, B>,
+        View<'a, C>,
+        View<'a, D>,
+        View<'a, E>,
+    ) {
+        let (front, fifth) = fields_of(self);
+        let (front, fourth) = front.split();
+        let (front, third) = front.split();
+        let (front, second) = front.split();
+        (front.field(), second, third, fourth, fifth)
+    }
+}
+
+/// A view of a tuple of six, whose fields are shown in place. `View<'a, ArchivedTuple6<A, B, C, D, E, F>>` is the one.
+pub trait ViewTuple6<'a> {
+    /// The archived type of the first field.
+    type First: Portable;
+
+    /// The archived type of the second field.
+    type Second: Portable;
+
+    /// The archived type of the third field.
+    type Third: Portable;
+
+    /// The archived type of the fourth field.
+    type Fourth: Portable;
+
+    /// The archived type of the fifth field.
+    type Fifth: Portable;
+
+    /// The archived type of the sixth field.
+    type Sixth: Portable;
+
+    /// The type of views of the first field.
+    type ShownFirst: Shows<'a, Self::First>;
+
+    /// The type of views of the second field.
+    type ShownSecond: Shows<'a, Self::Second>;
+
+    /// The type of views of the third field.
+    type ShownThird: Shows<'a, Self::Third>;
+
+    /// The type of views of the fourth field.
+    type ShownFourth: Shows<'a, Self::Fourth>;
+
+    /// The type of views of the fifth field.
+    type ShownFifth: Shows<'a, Self::Fifth>;
+
+    /// The type of views of the sixth field.
+    type ShownSixth: Shows<'a, Self::Sixth>;
+
+    /// The buffer with the tuple.
+    ghost bytes: { Self → List ℕ };
+
+    /// The position of the tuple.
+    ghost place: { Self → ℕ };
+
+    /// Returns the views of the fields, each at its place in the tuple's buffer.
+    fn as_tuple(
+        self,
+    ) -> (
+        Self::ShownFirst,
+        Self::ShownSecond,
+        Self::ShownThird,
+        Self::ShownFourth,
+        Self::ShownFifth,
+        Self::ShownSixth,
+    )
+        ensures first_buffer { Self.ShownFirst.bytes result.0 ≡ bytes self }
+        ensures first_place { Self.ShownFirst.place result.0 ≡ place self }
+        ensures second_buffer { Self.ShownSecond.bytes result.1 ≡ bytes self }
+        ensures second_place { Self.ShownSecond.place result.1
+            ≡ place self + value_offset Self.First.kind Self.Second.kind }
+        ensures third_buffer { Self.ShownThird.bytes result.2 ≡ bytes self }
+        ensures third_place { Self.ShownThird.place result.2
+            ≡ place self + third_offset Self.First.kind Self.Second.kind Self.Third.kind }
+        ensures fourth_buffer { Self.ShownFourth.bytes result.3 ≡ bytes self }
+        ensures fourth_place { Self.ShownFourth.place result.3
+            ≡ place self + fourth_offset Self.First.kind Self.Second.kind Self.Third.kind Self.Fourth.kind }
+        ensures fifth_buffer { Self.ShownFifth.bytes result.4 ≡ bytes self }
+        ensures fifth_place { Self.ShownFifth.place result.4
+            ≡ place self + fifth_offset Self.First.kind Self.Second.kind Self.Third.kind Self.Fourth.kind Self.Fifth.kind }
+        ensures sixth_buffer { Self.ShownSixth.bytes result.5 ≡ bytes self }
+        ensures sixth_place { Self.ShownSixth.place result.5
+            ≡ place self + sixth_offset Self.First.kind Self.Second.kind Self.Third.kind Self.Fourth.kind Self.Fifth.kind Self.Sixth.kind };
+}
+
+impl<'a, A: Portable, B: Portable, C: Portable, D: Portable, E: Portable, F: Portable> ViewTuple6<
+    'a,
+> for View<'a, ArchivedTuple6<A, B, C, D, E, F>> {
+    type First = A;
+
+    type Second = B;
+
+    type Third = C;
+
+    type Fourth = D;
+
+    type Fifth = E;
+
+    type Sixth = F;
+
+    type ShownFirst = View<'a, A>;
+
+    type ShownSecond = View<'a, B>;
+
+    type ShownThird = View<'a, C>;
+
+    type ShownFourth = View<'a, D>;
+
+    type ShownFifth = View<'a, E>;
+
+    type ShownSixth = View<'a, F>;
+
+    ghost bytes = { λ view. view.buf.now };
+
+    ghost place = { λ view. view.pos };
+
+    fn as_tuple(
+        self,
+    ) -> (
+        View<'a, A>,
+        View<'a, B>,
+        View<'a, C>,
+        View<'a, D>,
+        View<'a, E>,
+        View<'a, F>,
+    ) {
+        let (front, sixth) = fields_of(self);
+        let (front, fifth) = front.split();
+        let (front, fourth) = front.split();
+        let (front, third) = front.split();
+        let (front, second) = front.split();
+        (front.field(), second, third, fourth, fifth, sixth)
+    }
 }
 
 impl<A: ViewDebug, B: ViewDebug, C: ViewDebug> ViewDebug for ArchivedTuple3<A, B, C> {
@@ -148,31 +398,32 @@ impl<A: ViewDebug, B: ViewDebug, C: ViewDebug> ViewDebug for ArchivedTuple3<A, B
     }
 }
 
-impl<M, N, O, A: CompareWith<M>, B: CompareWith<N>, C: CompareWith<O>> CompareWith<(M, N, O)>
-    for ArchivedTuple3<A, B, C> {
-    ghost compared_at = { tuple_compared_at A.kind B.kind C.kind
-        A.compared_at B.compared_at C.compared_at };
-
-    fn compare_with(native: &(M, N, O), view: &View<'_, ArchivedTuple3<A, B, C>>) -> Ordering {
-        let (first, second, third) = view.as_tuple();
-        A::compare_with(&native.0, &first)
-            .then(B::compare_with(&native.1, &second))
-            .then(C::compare_with(&native.2, &third))
+impl<A: ViewDebug, B: ViewDebug, C: ViewDebug, D: ViewDebug> ViewDebug
+    for ArchivedTuple4<A, B, C, D> {
+    fn show<W: fmt::Write>(
+        view: &View<'_, ArchivedTuple4<A, B, C, D>>,
+        f: &mut fmt::Formatter<W>,
+    ) -> fmt::Result {
+        fmt::Debug::fmt(&view.as_tuple(), f)
     }
-
-    ghost compares = { tuples_compare A.kind B.kind C.kind A.compares B.compares C.compares };
 }
 
-impl<M, N, O, A: SameAs<M>, B: SameAs<N>, C: SameAs<O>> SameAs<(M, N, O)>
-    for ArchivedTuple3<A, B, C> {
-    ghost same_at = { tuple_same_at A.kind B.kind C.kind A.same_at B.same_at C.same_at };
-
-    fn same_as(view: &View<'_, ArchivedTuple3<A, B, C>>, native: &(M, N, O)) -> bool {
-        let (first, second, third) = view.as_tuple();
-        A::same_as(&first, &native.0)
-            && B::same_as(&second, &native.1)
-            && C::same_as(&third, &native.2)
+impl<A: ViewDebug, B: ViewDebug, C: ViewDebug, D: ViewDebug, E: ViewDebug> ViewDebug
+    for ArchivedTuple5<A, B, C, D, E> {
+    fn show<W: fmt::Write>(
+        view: &View<'_, ArchivedTuple5<A, B, C, D, E>>,
+        f: &mut fmt::Formatter<W>,
+    ) -> fmt::Result {
+        fmt::Debug::fmt(&view.as_tuple(), f)
     }
+}
 
-    ghost tests = { tuples_test A.kind B.kind C.kind A.tests B.tests C.tests };
+impl<A: ViewDebug, B: ViewDebug, C: ViewDebug, D: ViewDebug, E: ViewDebug, F: ViewDebug> ViewDebug
+    for ArchivedTuple6<A, B, C, D, E, F> {
+    fn show<W: fmt::Write>(
+        view: &View<'_, ArchivedTuple6<A, B, C, D, E, F>>,
+        f: &mut fmt::Formatter<W>,
+    ) -> fmt::Result {
+        fmt::Debug::fmt(&view.as_tuple(), f)
+    }
 }

@@ -9,3 +9,4 @@ pub mod Units
 pub mod RoundTrip
 pub mod Sorted
 pub mod SmallNodes
+pub mod VectorsMade

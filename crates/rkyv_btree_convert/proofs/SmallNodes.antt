@@ -4,15 +4,16 @@ use Rattle.std.proofs.lemmas.Bool.Decides.{nat_tests}
 use Rattle.std.proofs.Math.Nat.{mul-le-mul_right}
 use Rattle.rkyv_btree_portable.specs.Kind.{Kind, IsLawful}
 use Rattle.rkyv_btree_format.specs.Layout.{NodeLayout, layout_of, are_fitting, keys_at, values_at, node_align, node_size, align, len_at, inner_size}
-use Rattle.rkyv_btree_portable.specs.Rounding.{IsAlignment, one, two, four, eight, round_up}
+use Rattle.rkyv_btree_portable.specs.Rounding.{IsAlignment, one, two, four, eight, sixteen, round_up}
 use Rattle.rkyv_btree_portable.specs.laws.Rounding.{alignment_positive, round_up-lt}
 use Rattle.rkyv_btree_convert.specs.Sizes.{IsSmall}
 
-alignment_small : {a : ℕ} → IsAlignment a → a ≤ 8
+alignment_small : {a : ℕ} → IsAlignment a → a ≤ 16
 alignment_small one = omega arith
 alignment_small two = omega arith
 alignment_small four = omega arith
 alignment_small eight = omega arith
+alignment_small sixteen = omega arith
 
 at_least : (m n : ℕ) → m ≤ n → IsTrue (nat_le m n)
 at_least m n h = grind (arith, nat_tests)
@@ -21,8 +22,8 @@ all_true : (a b c d : Bool) → IsTrue a → IsTrue b → IsTrue c → IsTrue d 
 all_true a b c d p q r s = rw (p, q, r, s) refl
 
 -- what rounding up to two alignments adds at most
-module _ (s : NodeLayout) (key_positive : 0 < s.key_align) (key_small : s.key_align ≤ 8) (value_positive : 0 < s.value_align) (value_small : s.value_align ≤ 8) where
-  node_bound : node_size s ≤ 32 + (s.E * s.key_size + s.E * s.value_size)
+module _ (s : NodeLayout) (key_positive : 0 < s.key_align) (key_small : s.key_align ≤ 16) (value_positive : 0 < s.value_align) (value_small : s.value_align ≤ 16) where
+  node_bound : node_size s ≤ 64 + (s.E * s.key_size + s.E * s.value_size)
   unfolding node_size values_at keys_at node_align
   node_bound =
       let a = round_up-lt 1 s.key_align key_positive in
@@ -30,7 +31,7 @@ module _ (s : NodeLayout) (key_positive : 0 < s.key_align) (key_small : s.key_al
       let c = round_up-lt (round_up (round_up 1 s.key_align + s.E * s.key_size) s.value_align + s.E * s.value_size) (max 1 (max s.key_align s.value_align)) (omega arith) in
       omega (arith, a, b, c)
 
-  inner_bound : inner_size s ≤ 64 + (s.E * s.key_size + s.E * s.value_size) + 4 * s.E
+  inner_bound : inner_size s ≤ 128 + (s.E * s.key_size + s.E * s.value_size) + 4 * s.E
   unfolding inner_size len_at align node_align
   inner_bound =
       let n = node_bound in

@@ -5,5 +5,6 @@ pub mod RoundTrip
 pub mod Sets
 pub mod Sizes
 pub mod StdMaps
+pub mod Vectors
 pub mod Whole
 pub mod laws

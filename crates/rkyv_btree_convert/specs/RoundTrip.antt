@@ -1,5 +1,6 @@
 -- Values that are archived and made native again.
 use Rattle.std.specs.Prelude.{◌≡◌, ℕ, List, map, Result, Ok}
+use Rattle.std.specs.declared.vec.Vec.{Vec}
 use Rattle.rkyv_btree_writer.specs.declared.fault.EntryFault.{EntryFault}
 use Rattle.rkyv_btree_portable.specs.Kind.{Kind}
 
@@ -19,3 +20,7 @@ GivesItselfBack kind native = GivesBack kind (λ x. x) native (λ x. x)
 -- what entries mean, by what their keys and values mean
 abbrev pub both_mean : {T U A B : Type 0} → (T → A) → (U → B) → List (T × U) → List (A × B)
 both_mean key value entries = map (λ e. (key e.0, value e.1)) entries
+
+-- the bytes of a native byte string
+abbrev pub items_of : {A : Type 0} → Vec ℕ A → List ℕ
+items_of bytes = bytes.items

@@ -15,7 +15,7 @@ const MOST_ENTRIES: usize = (1 << 30) - 1;
 #[tactic(auto, unfolding(crate::specs::Layout::keys_at))]
 fn keys_at<K: Portable>() -> u64
     ensures value { result ≡ round_up 1 K.kind.align }
-    ensures small { result ≤ 8 }
+    ensures small { result ≤ 16 }
 {
     round_up(1, K::align())
 }
@@ -36,7 +36,7 @@ fn values_at<K: Portable, V: Portable, const E: usize>() -> u64
 pub fn node_align<K: Portable, V: Portable, const E: usize>() -> u32
     ensures value { result ≡ node_align (layout_of K.kind V.kind E) }
     ensures positive { 0 < result }
-    ensures small { result ≤ 8 }
+    ensures small { result ≤ 16 }
 {
     K::align().max(V::align()).max(1)
 }
@@ -46,7 +46,7 @@ pub fn node_align<K: Portable, V: Portable, const E: usize>() -> u32
 pub fn align<K: Portable, V: Portable, const E: usize>() -> u32
     ensures value { result ≡ align (layout_of K.kind V.kind E) }
     ensures positive { 0 < result }
-    ensures small { result ≤ 8 }
+    ensures small { result ≤ 16 }
 {
     node_align::<K, V, E>().max(4)
 }

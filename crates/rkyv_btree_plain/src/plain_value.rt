@@ -14,7 +14,7 @@ pub trait PlainValue: Copy + Debug + Ord + Hash + Drop {
     /// The bytes of a value are so many, and mean it.
     ghost lawful: { IsPlainLayout layout };
 
-    /// Returns the number of bytes, and the alignment: 1, 2, 4 or 8.
+    /// Returns the number of bytes, and the alignment: 1, 2, 4, 8 or 16.
     fn size_and_align() -> (u32, u32)
         ensures size { result.0 ≡ layout.size }
         ensures align { result.1 ≡ layout.align };

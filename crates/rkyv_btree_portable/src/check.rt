@@ -26,11 +26,11 @@ pub trait Portable {
         requires { IsTrue kind.is_fitting }
         ensures { result ≡ kind.size };
 
-    /// The alignment: 1, 2, 4 or 8.
+    /// The alignment: 1, 2, 4, 8 or 16.
     fn align() -> u32
         ensures value { result ≡ kind.align }
         ensures positive { 0 < result }
-        ensures small { result ≤ 8 };
+        ensures small { result ≤ 16 };
 
     /// The test that the sizes of its parts fit 32 bits, which every other call over the type asks.
     fn fits() -> bool

@@ -8,6 +8,7 @@ pub mod Held
 pub mod Inside
 pub mod Knowing
 pub mod Lacking
+pub mod Lasts
 pub mod Pairs
 pub mod Parts
 pub mod Ranging

@@ -66,7 +66,7 @@ module _ (K V : Kind) (E : ℕ) (b : List ℕ) (at : ℕ) (old new : UnverifiedW
       -- what it has left is what was to come, without what it brings
       pub brings_on : (r : Result (Option Brought) (SourceFault X)) → StepGives K V E b KR VR at old new room r → IfOk r (λ x. IsUnverifiedWalk K V E b at new)
           → BringsNext K V E b at compared low high KR VR before (Some new) room r
-      brings_on (Ok None) s walks = sym sought ∙ way_finishes K V E b at old new counted.walks s
+      brings_on (Ok None) s walks = (sym sought ∙ way_finishes K V E b at old new counted.walks s, let over = s.over in rw over refl)
       brings_on (Ok (Some e)) s walks =
           let less = most_less K V E b at old new counted s.0 s.1 in
           record {

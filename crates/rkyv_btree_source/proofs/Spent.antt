@@ -1,9 +1,10 @@
 -- What reads of at most `end` bytes leave of a budget.
 use Rattle.std.proofs.Common.{◌≡◌, ℕ, ◌+◌, ◌*◌, ◌≤◌, ◌-◌, arith}
 use Rattle.std.proofs.Math.Nat.{mul-le-mul_left, mul-le-mul_right}
+use Rattle.rkyv_btree_source.specs.LastEntry.{most_for_last}
 use Rattle.rkyv_btree_source.specs.Reading.{most_read}
 
-times_more : (n c : ℕ) → (n + 1) * c ≡ n * c + c
+pub times_more : (n c : ℕ) → (n + 1) * c ≡ n * c + c
 times_more n c = grind arith
 
 -- one read after i of them, where there are at most n
@@ -44,3 +45,18 @@ spent_lookup E old mid left pos head tree =
 pub spent_head : (E old left pos : ℕ) → old ≤ left + 8 → old ≤ left + most_read E (pos + 8)
 unfolding most_read
 spent_head E old left pos head = omega (arith, head, most_is (E + 2) (pos + 8))
+
+-- the map's own bytes on the way to the last entry
+pub spent_start : (node end old left : ℕ) → old ≤ left + 8 → old ≤ left + most_for_last node end
+unfolding most_for_last
+spent_start node end old left head = omega (arith, head)
+
+-- and a node on each level
+pub spent_way : (node end old mid left : ℕ) → old ≤ mid + 8 → mid ≤ left + 32 * node → old ≤ left + most_for_last node end
+unfolding most_for_last
+spent_way node end old mid left head way = omega (arith, head, way)
+
+-- and the entry
+pub spent_last : (node end old mid next left p len : ℕ) → old ≤ mid + 8 → mid ≤ next + 32 * node → next ≤ left + (len + 2 * (p + len)) → len ≤ node → p + len ≤ end → old ≤ left + most_for_last node end
+unfolding most_for_last
+spent_last node end old mid next left p len head way entry few inside = omega (arith, head, way, entry, few, inside)

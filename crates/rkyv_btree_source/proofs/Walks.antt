@@ -29,6 +29,7 @@ use Rattle.rkyv_btree_unverified.specs.mirror.Passes.{NodePasses, Passes}
 use Rattle.rkyv_btree_unverified.specs.mirror.Walked.{IsWay, LeadsTo, path_entries}
 use Rattle.rkyv_btree_view.specs.Map.{IsMap}
 use Rattle.rkyv_btree_view.specs.Query.{ComparesAs}
+use Rattle.rkyv_btree_walk.proofs.Searches.{leaf_alone}
 use Rattle.rkyv_btree_walk.specs.Below.{root_place}
 use Rattle.rkyv_btree_walk.specs.Nodes.{is_leaf, entry_count, child_place}
 use Rattle.rkyv_btree_walk.specs.mirror.Node.{EntryStands}
@@ -120,6 +121,16 @@ module _ (K V : Kind) (E : ℕ) (b : List ℕ) where
   -- a pointer of an inner node leads to its child
   pub child_leads : (hi p i : ℕ) (o : Option ℕ) → IsInner K V E b 0 hi p → ChildGives K V E b hi p i (Ok o) → o ≡ child_place (layout_of K V E) b p i
   child_leads hi p i o is h = child_from hi p i (Ok o) h is o refl
+
+  child_any : (hi p i : ℕ) (r : Result (Option ℕ) Refusal) → ChildGives K V E b hi p i r → (o : Option ℕ) → r ≡ Ok o → o ≡ child_place (layout_of K V E) b p i
+  child_any hi p i r (of_leaf is) o e = let same : None ≡ o = cc e in sym same ∙ sym (leaf_alone (layout_of K V E) b p i (eq-eqb (slice_index b p) 0 is.kind_byte))
+  child_any hi p i r (absent is none) o e = child_from hi p i r (absent is none) is o e
+  child_any hi p i r (bad_place is to bad) o e = absurd (cc e)
+  child_any hi p i r (child is to place) o e = child_from hi p i r (child is to place) is o e
+
+  -- and a leaf has none
+  pub child_is : (hi p i : ℕ) (o : Option ℕ) → ChildGives K V E b hi p i (Ok o) → o ≡ child_place (layout_of K V E) b p i
+  child_is hi p i o h = child_any hi p i (Ok o) h o refl
 
   node_from : (hi p : ℕ) (r : Result ℕ Refusal) → NodeGives K V E b hi p r → (n : ℕ) → r ≡ Ok n → n ≡ entry_count (layout_of K V E) b p
   node_from hi p r (bad_kind is not_leaf not_inner) n e = absurd (cc e)

@@ -1,6 +1,7 @@
 -- What lookups promise in a source of bytes that isn't read whole.
 pub mod Cached
 pub mod Known
+pub mod LastEntry
 pub mod Reading
 pub mod Reads
 pub mod SourceRange

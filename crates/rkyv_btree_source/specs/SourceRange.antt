@@ -75,7 +75,7 @@ module _ (K V : Kind) (E : ℕ) (b : List ℕ) (at : ℕ) where
 
     -- what bringing the next entry gives
     abbrev pub BringsNext : {X : Type 0} → Result (Option Brought) (SourceFault X) → Type 0
-    BringsNext (Ok None) = places_to_come compared low high old ≡ []
+    BringsNext (Ok None) = (places_to_come compared low high old ≡ []) × (places_to_come compared low high new ≡ [])
     BringsNext (Ok (Some e)) = BringsFirst e
     BringsNext (Err fault) = IfRefused (Fails K V E b KR VR at) fault × IfUnread (places_to_come compared low high new ≡ places_to_come compared low high old) fault
 
@@ -112,8 +112,8 @@ module _ {S M T R F K V : Type 0} {s : ReadAt.Ghosts S F} {g : ArchivedMap.Ghost
           pub fails : Fails k.kind v.kind g.E b KR VR r.map.pos e
           pub over : source_left t ≡ []
 
-        -- a call of `next`: after a fault of reading all entries are left that were
+        -- a call of `next`: `None` if none was left, and none is left then. After a fault of reading all entries are left that were
         abbrev pub YieldsNext : {X : Type 0} → Result (Option (View K k × View V v)) (SourceFault X) → Type 0
-        YieldsNext (Ok None) = source_left r ≡ []
+        YieldsNext (Ok None) = (source_left r ≡ []) × (source_left t ≡ [])
         YieldsNext (Ok (Some e)) = YieldsFirst r t e
         YieldsNext (Err fault) = IfRefused RefusesLast fault × IfUnread (source_left t ≡ source_left r) fault

@@ -1,3 +1,4 @@
 -- Functions that follow the code.
 pub mod Found
+pub mod Lasting
 pub mod Walking

@@ -88,7 +88,7 @@ impl<S: ReadAt> CachedSource<S> {
         ensures source { IfOk result (λ cached. cached.source ≡ source) }
         ensures blocks { IfOk result (λ cached. length cached.blocks.items ≡ count) }
     {
-        let mut blocks = Vec::new(alloc);
+        let mut blocks = Vec::with_capacity(alloc, count)?;
         while blocks.len() < count {
             blocks.push(Block::new())?;
         }

@@ -67,7 +67,7 @@ pub trait Fetch: CheckBytes {
 }
 
 /// Brings a value whose own bytes are all of it.
-fn fetch_own<T: Scalar, E>(
+pub(crate) fn fetch_own<T: Scalar, E>(
     own_bytes: &[u8],
     pos: u32,
     room: &mut [u8],

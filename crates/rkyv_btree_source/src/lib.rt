@@ -7,6 +7,8 @@ pub mod cached;
 pub mod fault;
 pub mod fetch;
 mod fetch_pair;
+mod fetch_scalars;
+pub mod last_entry;
 pub mod laws;
 mod node;
 pub mod piece;

@@ -32,7 +32,7 @@ pub struct Brought {
 }
 
 /// Brings the key and the value of an entry of the node at `node`, of which `len` bytes are read into `page`.
-fn bring_entry<S: ReadAt, K: Fetch, V: Fetch, M: ArchivedMap<Key = K, Mapped = V>>(
+pub(crate) fn bring_entry<S: ReadAt, K: Fetch, V: Fetch, M: ArchivedMap<Key = K, Mapped = V>>(
     node: u32,
     index: u32,
     len: u32,
@@ -56,6 +56,7 @@ fn bring_entry<S: ReadAt, K: Fetch, V: Fetch, M: ArchivedMap<Key = K, Mapped = V
     ensures caused { IfErr result
         (IsTooSmall (node + len) 0 (length room.old) reader.new.left) }
     ensures left { reader.new.left ≤ reader.old.left }
+    ensures spent { reader.old.left ≤ reader.new.left + (len + 2 * (node + len)) }
 {
     let bytes = &mut page[..len as usize];
     match reader.read(node, bytes) {

@@ -58,10 +58,18 @@ abbrev map_value : TypeTerm → Read → Read
 map_value key None = None
 map_value key (Some x) = map_end key x.0 (after (codes " / ") x.1)
 
--- after the key of a map or a set, whichever it is
+abbrev array_end : TypeTerm → Rest → Read
+array_end element None = None
+array_end element (Some rest) = Some (term.array element (digits_value 10 (front 93 rest)), back 93 rest)
+
+abbrev bracket_end : TypeTerm → List ℕ → Rest → Read
+bracket_end key rest (Some entries) = set_end key (Some entries)
+bracket_end key rest None = array_end key (after (codes "; ") rest)
+
+-- after the key of a map or a set, or the elements of an array, whichever it is
 abbrev bracket_key : (List ℕ → Read) → TypeTerm → List ℕ → Rest → Read
 bracket_key read key rest (Some value) = map_value key (read value)
-bracket_key read key rest None = set_end key (after (codes " / ") rest)
+bracket_key read key rest None = bracket_end key rest (after (codes " / ") rest)
 
 abbrev bracket_first : (List ℕ → Read) → Read → Read
 bracket_first read None = None
@@ -71,29 +79,68 @@ abbrev bracket : (List ℕ → Read) → Rest → Read
 bracket read None = None
 bracket read (Some rest) = bracket_first read (read rest)
 
-abbrev option_end : TypeTerm → Rest → Read
-option_end value None = None
-option_end value (Some rest) = Some (term.option value, rest)
+-- a name in parentheses, of the value of an option or of the elements of a vector
+abbrev wrapped_end : (TypeTerm → TypeTerm) → TypeTerm → Rest → Read
+wrapped_end make value None = None
+wrapped_end make value (Some rest) = Some (make value, rest)
 
-abbrev option_value : Read → Read
-option_value None = None
-option_value (Some x) = option_end x.0 (after (codes ")") x.1)
+abbrev wrapped_value : (TypeTerm → TypeTerm) → Read → Read
+wrapped_value make None = None
+wrapped_value make (Some x) = wrapped_end make x.0 (after (codes ")") x.1)
 
-abbrev option : (List ℕ → Read) → Rest → Read
-option read None = None
-option read (Some rest) = option_value (read rest)
+abbrev wrapped : (TypeTerm → TypeTerm) → (List ℕ → Read) → Rest → Read
+wrapped make read None = None
+wrapped make read (Some rest) = wrapped_value make (read rest)
 
-abbrev triple_end : TypeTerm → TypeTerm → TypeTerm → Rest → Read
-triple_end first second third None = None
-triple_end first second third (Some rest) = Some (term.triple first second third, rest)
+abbrev sextuple_end : TypeTerm → TypeTerm → TypeTerm → TypeTerm → TypeTerm → TypeTerm → Rest → Read
+sextuple_end first second third fourth fifth sixth None = None
+sextuple_end first second third fourth fifth sixth (Some rest) = Some (term.sextuple first second third fourth fifth sixth, rest)
 
-abbrev triple_third : TypeTerm → TypeTerm → Read → Read
-triple_third first second None = None
-triple_third first second (Some x) = triple_end first second x.0 (after (codes ")") x.1)
+abbrev sextuple_sixth : TypeTerm → TypeTerm → TypeTerm → TypeTerm → TypeTerm → Read → Read
+sextuple_sixth first second third fourth fifth None = None
+sextuple_sixth first second third fourth fifth (Some x) = sextuple_end first second third fourth fifth x.0 (after (codes ")") x.1)
+
+abbrev sextuple_comma : (List ℕ → Read) → TypeTerm → TypeTerm → TypeTerm → TypeTerm → TypeTerm → Rest → Read
+sextuple_comma read first second third fourth fifth None = None
+sextuple_comma read first second third fourth fifth (Some rest) = sextuple_sixth first second third fourth fifth (read rest)
+
+-- after so many names in parentheses: their end, or another one
+abbrev quintuple_end : (List ℕ → Read) → TypeTerm → TypeTerm → TypeTerm → TypeTerm → TypeTerm → List ℕ → Rest → Read
+quintuple_end read first second third fourth fifth rest (Some end) = Some (term.quintuple first second third fourth fifth, end)
+quintuple_end read first second third fourth fifth rest None = sextuple_comma read first second third fourth fifth (after (codes ", ") rest)
+
+abbrev quintuple_fifth : (List ℕ → Read) → TypeTerm → TypeTerm → TypeTerm → TypeTerm → Read → Read
+quintuple_fifth read first second third fourth None = None
+quintuple_fifth read first second third fourth (Some x) = quintuple_end read first second third fourth x.0 x.1 (after (codes ")") x.1)
+
+abbrev quintuple_comma : (List ℕ → Read) → TypeTerm → TypeTerm → TypeTerm → TypeTerm → Rest → Read
+quintuple_comma read first second third fourth None = None
+quintuple_comma read first second third fourth (Some rest) = quintuple_fifth read first second third fourth (read rest)
+
+-- after so many names in parentheses: their end, or another one
+abbrev quadruple_end : (List ℕ → Read) → TypeTerm → TypeTerm → TypeTerm → TypeTerm → List ℕ → Rest → Read
+quadruple_end read first second third fourth rest (Some end) = Some (term.quadruple first second third fourth, end)
+quadruple_end read first second third fourth rest None = quintuple_comma read first second third fourth (after (codes ", ") rest)
+
+abbrev quadruple_fourth : (List ℕ → Read) → TypeTerm → TypeTerm → TypeTerm → Read → Read
+quadruple_fourth read first second third None = None
+quadruple_fourth read first second third (Some x) = quadruple_end read first second third x.0 x.1 (after (codes ")") x.1)
+
+abbrev quadruple_comma : (List ℕ → Read) → TypeTerm → TypeTerm → TypeTerm → Rest → Read
+quadruple_comma read first second third None = None
+quadruple_comma read first second third (Some rest) = quadruple_fourth read first second third (read rest)
+
+abbrev triple_end : (List ℕ → Read) → TypeTerm → TypeTerm → TypeTerm → List ℕ → Rest → Read
+triple_end read first second third rest (Some end) = Some (term.triple first second third, end)
+triple_end read first second third rest None = quadruple_comma read first second third (after (codes ", ") rest)
+
+abbrev triple_third : (List ℕ → Read) → TypeTerm → TypeTerm → Read → Read
+triple_third read first second None = None
+triple_third read first second (Some x) = triple_end read first second x.0 x.1 (after (codes ")") x.1)
 
 abbrev triple_comma : (List ℕ → Read) → TypeTerm → TypeTerm → Rest → Read
 triple_comma read first second None = None
-triple_comma read first second (Some rest) = triple_third first second (read rest)
+triple_comma read first second (Some rest) = triple_third read first second (read rest)
 
 -- after two names in parentheses: their end, or a third one
 abbrev pair_end : (List ℕ → Read) → TypeTerm → TypeTerm → List ℕ → Rest → Read
@@ -116,12 +163,17 @@ abbrev pair : (List ℕ → Read) → Rest → Read
 pair read None = None
 pair read (Some rest) = pair_first read (read rest)
 
+-- the names of numbers of 128 bits, of which none begins with another
+abbrev wide_leaves : List ℕ → Read
+wide_leaves bytes =
+    or_else (leaf term.u128 bytes) (or_else (leaf term.i128 bytes) (or_else (leaf term.non_zero_u128 bytes) (leaf term.non_zero_i128 bytes)))
+
 -- the names of floating-point numbers and of the other numbers than 0, of which none begins with another
 abbrev more_leaves : List ℕ → Read
 more_leaves bytes =
     or_else (leaf term.non_zero_u8 bytes) (or_else (leaf term.non_zero_u16 bytes) (or_else (leaf term.non_zero_u64 bytes) (or_else (leaf term.non_zero_i8 bytes)
     (or_else (leaf term.non_zero_i16 bytes) (or_else (leaf term.non_zero_i32 bytes) (or_else (leaf term.non_zero_i64 bytes)
-    (or_else (leaf term.f32 bytes) (leaf term.f64 bytes))))))))
+    (or_else (leaf term.f32 bytes) (or_else (leaf term.f64 bytes) (wide_leaves bytes)))))))))
 
 abbrev leaves : List ℕ → Read
 leaves bytes =
@@ -136,13 +188,19 @@ read_name zero bytes = None
 read_name (suc n) bytes =
     or_else (pair (read_name n) (after (codes "(") bytes))
     (or_else (bracket (read_name n) (after (codes "[") bytes))
-    (or_else (option (read_name n) (after (codes "option(") bytes))
-    (or_else (own_end (after (codes "<") bytes)) (leaves bytes))))
+    (or_else (wrapped term.option (read_name n) (after (codes "option(") bytes))
+    (or_else (wrapped term.vector (read_name n) (after (codes "vec(") bytes))
+    (or_else (own_end (after (codes "<") bytes)) (leaves bytes)))))
 
 abbrev depth : TypeTerm → ℕ
 depth (term.option value) = suc (depth value)
+depth (term.vector element) = suc (depth element)
 depth (term.pair first second) = suc (depth first + depth second)
 depth (term.triple first second third) = suc (depth first + depth second + depth third)
+depth (term.array element count) = suc (depth element)
+depth (term.quadruple first second third fourth) = suc (depth first + depth second + depth third + depth fourth)
+depth (term.quintuple first second third fourth fifth) = suc (depth first + depth second + depth third + depth fourth + depth fifth)
+depth (term.sextuple first second third fourth fifth sixth) = suc (depth first + depth second + depth third + depth fourth + depth fifth + depth sixth)
 depth (term.set key entries) = suc (depth key)
 depth (term.map key value entries) = suc (depth key + depth value)
 depth t = 0
@@ -195,6 +253,10 @@ parses term.non_zero_i8 n x d h = refl
 parses term.non_zero_i16 n x d h = refl
 parses term.non_zero_i32 n x d h = refl
 parses term.non_zero_i64 n x d h = refl
+parses term.u128 n x d h = refl
+parses term.i128 n x d h = refl
+parses term.non_zero_u128 n x d h = refl
+parses term.non_zero_i128 n x d h = refl
 parses term.f32 n x d h = refl
 parses term.f64 n x d h = refl
 parses term.unit_type zero x d h = refl
@@ -208,7 +270,11 @@ parses (term.own name) n x d h =
 parses (term.option value) zero x d h = absurd (omega (arith, d))
 parses (term.option value) (suc n) x d h =
     ap (λ z. read_name (suc (suc n)) (codes "option(" ++ z)) (append_assoc (name_of value) (codes ")") x)
-    ∙ ap (λ r. or_else (option_value r) None) (parses value n (41 ∷ x) (omega (arith, d)) h)
+    ∙ ap (λ r. or_else (wrapped_value term.option r) None) (parses value n (41 ∷ x) (omega (arith, d)) h)
+parses (term.vector element) zero x d h = absurd (omega (arith, d))
+parses (term.vector element) (suc n) x d h =
+    ap (λ z. read_name (suc (suc n)) (codes "vec(" ++ z)) (append_assoc (name_of element) (codes ")") x)
+    ∙ ap (λ r. or_else (wrapped_value term.vector r) None) (parses element n (41 ∷ x) (omega (arith, d)) h)
 parses (term.pair first second) zero x d h = absurd (omega (arith, d))
 parses (term.pair first second) (suc n) x d h =
     let read = read_name (suc n) in
@@ -231,7 +297,64 @@ parses (term.triple first second third) (suc n) x d h =
     ap (λ z. read_name (suc (suc n)) (40 ∷ z)) whole
     ∙ (ap (λ r. or_else (pair_first read r) other) (parses first n (codes ", " ++ rest) (omega (arith, d)) h.0)
     ∙ (ap (λ r. or_else (pair_second read first r) other) (parses second n (codes ", " ++ end) (omega (arith, d)) h.1)
-    ∙ ap (λ r. or_else (triple_third first second r) other) (parses third n (41 ∷ x) (omega (arith, d)) h.2)))
+    ∙ ap (λ r. or_else (triple_third read first second r) other) (parses third n (41 ∷ x) (omega (arith, d)) h.2)))
+parses (term.array element count) zero x d h = absurd (omega (arith, d))
+parses (term.array element count) (suc n) x d h =
+    let read = read_name (suc n) in
+    let rest = decimal count ++ (93 ∷ x) in
+    let whole : (name_of element ++ (codes "; " ++ (decimal count ++ codes "]"))) ++ x ≡ name_of element ++ (codes "; " ++ rest) =
+    append_assoc (name_of element) (codes "; " ++ (decimal count ++ codes "]")) x ∙ ap (λ z. name_of element ++ (codes "; " ++ z)) (append_assoc (decimal count) (codes "]") x) in
+    ap (λ z. read_name (suc (suc n)) (91 ∷ z)) whole
+    ∙ (ap (λ r. or_else (bracket_first read r) None) (parses element n (codes "; " ++ rest) (omega (arith, d)) h.0)
+    ∙ (ap (λ z. Some (term.array element z, back 93 rest)) (number_front count x h.1) ∙ ap (λ z. Some (term.array element count, z)) (number_back count x h.1)))
+parses (term.quadruple first second third fourth) zero x d h = absurd (omega (arith, d))
+parses (term.quadruple first second third fourth) (suc n) x d h =
+    let read = read_name (suc n) in
+    let at_fourth = name_of fourth ++ (41 ∷ x) in
+    let at_third = name_of third ++ (codes ", " ++ at_fourth) in
+    let at_second = name_of second ++ (codes ", " ++ at_third) in
+    let other = leaves (40 ∷ (name_of first ++ (codes ", " ++ at_second))) in
+    let whole : (name_of first ++ (codes ", " ++ (name_of second ++ (codes ", " ++ (name_of third ++ (codes ", " ++ (name_of fourth ++ codes ")"))))))) ++ x ≡ name_of first ++ (codes ", " ++ at_second) =
+    append_assoc (name_of first) (codes ", " ++ (name_of second ++ (codes ", " ++ (name_of third ++ (codes ", " ++ (name_of fourth ++ codes ")")))))) x ∙ ap (λ z. name_of first ++ (codes ", " ++ z)) (append_assoc (name_of second) (codes ", " ++ (name_of third ++ (codes ", " ++ (name_of fourth ++ codes ")")))) x ∙ ap (λ z. name_of second ++ (codes ", " ++ z)) (append_assoc (name_of third) (codes ", " ++ (name_of fourth ++ codes ")")) x ∙ ap (λ z. name_of third ++ (codes ", " ++ z)) (append_assoc (name_of fourth) (codes ")") x))) in
+    ap (λ z. read_name (suc (suc n)) (40 ∷ z)) whole
+    ∙ (ap (λ r. or_else (pair_first read r) other) (parses first n (codes ", " ++ at_second) (omega (arith, d)) h.0)
+    ∙ (ap (λ r. or_else (pair_second read first r) other) (parses second n (codes ", " ++ at_third) (omega (arith, d)) h.1)
+    ∙ (ap (λ r. or_else (triple_third read first second r) other) (parses third n (codes ", " ++ at_fourth) (omega (arith, d)) h.2)
+    ∙ ap (λ r. or_else (quadruple_fourth read first second third r) other) (parses fourth n (41 ∷ x) (omega (arith, d)) h.3))))
+parses (term.quintuple first second third fourth fifth) zero x d h = absurd (omega (arith, d))
+parses (term.quintuple first second third fourth fifth) (suc n) x d h =
+    let read = read_name (suc n) in
+    let at_fifth = name_of fifth ++ (41 ∷ x) in
+    let at_fourth = name_of fourth ++ (codes ", " ++ at_fifth) in
+    let at_third = name_of third ++ (codes ", " ++ at_fourth) in
+    let at_second = name_of second ++ (codes ", " ++ at_third) in
+    let other = leaves (40 ∷ (name_of first ++ (codes ", " ++ at_second))) in
+    let whole : (name_of first ++ (codes ", " ++ (name_of second ++ (codes ", " ++ (name_of third ++ (codes ", " ++ (name_of fourth ++ (codes ", " ++ (name_of fifth ++ codes ")"))))))))) ++ x ≡ name_of first ++ (codes ", " ++ at_second) =
+    append_assoc (name_of first) (codes ", " ++ (name_of second ++ (codes ", " ++ (name_of third ++ (codes ", " ++ (name_of fourth ++ (codes ", " ++ (name_of fifth ++ codes ")")))))))) x ∙ ap (λ z. name_of first ++ (codes ", " ++ z)) (append_assoc (name_of second) (codes ", " ++ (name_of third ++ (codes ", " ++ (name_of fourth ++ (codes ", " ++ (name_of fifth ++ codes ")")))))) x ∙ ap (λ z. name_of second ++ (codes ", " ++ z)) (append_assoc (name_of third) (codes ", " ++ (name_of fourth ++ (codes ", " ++ (name_of fifth ++ codes ")")))) x ∙ ap (λ z. name_of third ++ (codes ", " ++ z)) (append_assoc (name_of fourth) (codes ", " ++ (name_of fifth ++ codes ")")) x ∙ ap (λ z. name_of fourth ++ (codes ", " ++ z)) (append_assoc (name_of fifth) (codes ")") x)))) in
+    ap (λ z. read_name (suc (suc n)) (40 ∷ z)) whole
+    ∙ (ap (λ r. or_else (pair_first read r) other) (parses first n (codes ", " ++ at_second) (omega (arith, d)) h.0)
+    ∙ (ap (λ r. or_else (pair_second read first r) other) (parses second n (codes ", " ++ at_third) (omega (arith, d)) h.1)
+    ∙ (ap (λ r. or_else (triple_third read first second r) other) (parses third n (codes ", " ++ at_fourth) (omega (arith, d)) h.2)
+    ∙ (ap (λ r. or_else (quadruple_fourth read first second third r) other) (parses fourth n (codes ", " ++ at_fifth) (omega (arith, d)) h.3)
+    ∙ ap (λ r. or_else (quintuple_fifth read first second third fourth r) other) (parses fifth n (41 ∷ x) (omega (arith, d)) h.4)))))
+parses (term.sextuple first second third fourth fifth sixth) zero x d h = absurd (omega (arith, d))
+parses (term.sextuple first second third fourth fifth sixth) (suc n) x d h =
+    let read = read_name (suc n) in
+    let at_sixth = name_of sixth ++ (41 ∷ x) in
+    let at_fifth = name_of fifth ++ (codes ", " ++ at_sixth) in
+    let at_fourth = name_of fourth ++ (codes ", " ++ at_fifth) in
+    let at_third = name_of third ++ (codes ", " ++ at_fourth) in
+    let at_second = name_of second ++ (codes ", " ++ at_third) in
+    let other = leaves (40 ∷ (name_of first ++ (codes ", " ++ at_second))) in
+    let whole : (name_of first ++ (codes ", " ++ (name_of second ++ (codes ", " ++ (name_of third ++ (codes ", " ++ (name_of fourth ++ (codes ", " ++ (name_of fifth ++ (codes ", " ++ (name_of sixth ++ codes ")"))))))))))) ++ x ≡ name_of first ++ (codes ", " ++ at_second) =
+    append_assoc (name_of first) (codes ", " ++ (name_of second ++ (codes ", " ++ (name_of third ++ (codes ", " ++ (name_of fourth ++ (codes ", " ++ (name_of fifth ++ (codes ", " ++ (name_of sixth ++ codes ")")))))))))) x ∙ ap (λ z. name_of first ++ (codes ", " ++ z)) (append_assoc (name_of second) (codes ", " ++ (name_of third ++ (codes ", " ++ (name_of fourth ++ (codes ", " ++ (name_of fifth ++ (codes ", " ++ (name_of sixth ++ codes ")")))))))) x ∙ ap (λ z. name_of second ++ (codes ", " ++ z)) (append_assoc (name_of third) (codes ", " ++ (name_of fourth ++ (codes ", " ++ (name_of fifth ++ (codes ", " ++ (name_of sixth ++ codes ")")))))) x ∙ ap (λ z. name_of third ++ (codes ", " ++ z)) (append_assoc (name_of fourth) (codes ", " ++ (name_of fifth ++ (codes ", " ++ (name_of sixth ++ codes ")")))) x ∙ ap (λ z. name_of fourth ++ (codes ", " ++ z)) (append_assoc (name_of fifth) (codes ", " ++ (name_of sixth ++ codes ")")) x ∙ ap (λ z. name_of fifth ++ (codes ", " ++ z)) (append_assoc (name_of sixth) (codes ")") x))))) in
+    ap (λ z. read_name (suc (suc n)) (40 ∷ z)) whole
+    ∙ (ap (λ r. or_else (pair_first read r) other) (parses first n (codes ", " ++ at_second) (omega (arith, d)) h.0)
+    ∙ (ap (λ r. or_else (pair_second read first r) other) (parses second n (codes ", " ++ at_third) (omega (arith, d)) h.1)
+    ∙ (ap (λ r. or_else (triple_third read first second r) other) (parses third n (codes ", " ++ at_fourth) (omega (arith, d)) h.2)
+    ∙ (ap (λ r. or_else (quadruple_fourth read first second third r) other) (parses fourth n (codes ", " ++ at_fifth) (omega (arith, d)) h.3)
+    ∙ (ap (λ r. or_else (quintuple_fifth read first second third fourth r) other) (parses fifth n (codes ", " ++ at_sixth) (omega (arith, d)) h.4)
+    ∙ ap (λ r. or_else (sextuple_sixth first second third fourth fifth r) other) (parses sixth n (41 ∷ x) (omega (arith, d)) h.5))))))
 parses (term.set key entries) zero x d h = absurd (omega (arith, d))
 parses (term.set key entries) (suc n) x d h =
     let read = read_name (suc n) in

@@ -8,6 +8,8 @@ mod non_zero_names;
 pub mod open_source;
 pub mod open_typed;
 pub mod to_typed;
+mod tuple_names;
 pub mod type_check;
 pub mod type_laws;
 pub mod type_name;
+mod wide_names;

@@ -5,9 +5,11 @@ ghost use Rattle.rkyv_btree_typed.specs.Stripping.{Strips};
 ghost use Rattle.rkyv_btree_typed.specs.TypeNames.{TypeTerm, name_of};
 ghost use Rattle.rkyv_btree_typed.specs.TypeNames as term;
 
+use rkyv_btree_compound::array::ArchivedArray;
 use rkyv_btree_compound::floats::{ArchivedF32, ArchivedF64};
 use rkyv_btree_compound::option::ArchivedOption;
 use rkyv_btree_compound::tuple::ArchivedTuple3;
+use rkyv_btree_compound::vector::ArchivedVec;
 use rkyv_btree_plain::archived_plain::ArchivedPlain;
 use rkyv_btree_portable::byte_string::ArchivedBytes;
 use rkyv_btree_portable::entry::Entry;
@@ -80,12 +82,13 @@ fn strip_number(bytes: &[u8], number: usize) -> Option<&[u8]>
     strip(bytes, digits.format(number))
 }
 
-/// Returns the bytes that come after the entries a node at the end of a name, or `None` if they don't begin with them.
-fn strip_entries(bytes: &[u8], entries: usize) -> Option<&[u8]>
-    ensures { Strips (codes " / " ++ (decimal entries ++ codes "]")) bytes.now result }
+/// Returns the bytes that come after a separator, a number and a bracket at the end of a name, or `None` if they don't begin with
+/// these.
+fn strip_numbered<'a>(bytes: &'a [u8], separator: &str, number: usize) -> Option<&'a [u8]>
+    ensures { Strips (separator.now ++ (decimal number ++ codes "]")) bytes.now result }
 {
-    let number = strip(bytes, " / ")?;
-    let end = strip_number(number, entries)?;
+    let digits = strip(bytes, separator)?;
+    let end = strip_number(digits, number)?;
     strip(end, "]")
 }
 
@@ -311,6 +314,21 @@ impl<T: TypeName> TypeName for ArchivedOption<T> {
     }
 }
 
+impl<T: TypeName> TypeName for ArchivedVec<T> {
+    ghost term = { term.vector T.term };
+
+    fn write_name<W: fmt::Write>(f: &mut fmt::Formatter<W>) -> fmt::Result {
+        let element = NameOf::<T>::new();
+        write!(f, "vec({element})")
+    }
+
+    fn strip_name(bytes: &[u8]) -> Option<&[u8]> {
+        let element = strip(bytes, "vec(")?;
+        let end = T::strip_name(element)?;
+        strip(end, ")")
+    }
+}
+
 impl<A: TypeName, B: TypeName> TypeName for Entry<A, B> {
     ghost term = { term.pair A.term B.term };
 
@@ -350,6 +368,21 @@ impl<A: TypeName, B: TypeName, C: TypeName> TypeName for ArchivedTuple3<A, B, C>
     }
 }
 
+impl<T: TypeName, const N: usize> TypeName for ArchivedArray<T, N> {
+    ghost term = { term.array T.term N };
+
+    fn write_name<W: fmt::Write>(f: &mut fmt::Formatter<W>) -> fmt::Result {
+        let element = NameOf::<T>::new();
+        write!(f, "[{element}; {N}]")
+    }
+
+    fn strip_name(bytes: &[u8]) -> Option<&[u8]> {
+        let element = strip(bytes, "[")?;
+        let semicolon = T::strip_name(element)?;
+        strip_numbered(semicolon, "; ", N)
+    }
+}
+
 impl<K: TypeName, const E: usize> TypeName for ArchivedBTreeSet<K, E> {
     ghost term = { term.set K.term E };
 
@@ -361,7 +394,7 @@ impl<K: TypeName, const E: usize> TypeName for ArchivedBTreeSet<K, E> {
     fn strip_name(bytes: &[u8]) -> Option<&[u8]> {
         let key = strip(bytes, "[")?;
         let slash = K::strip_name(key)?;
-        strip_entries(slash, E)
+        strip_numbered(slash, " / ", E)
     }
 }
 
@@ -379,6 +412,6 @@ impl<K: TypeName, V: TypeName, const E: usize> TypeName for ArchivedBTreeMap<K, 
         let arrow = K::strip_name(key)?;
         let value = strip(arrow, " -> ")?;
         let slash = V::strip_name(value)?;
-        strip_entries(slash, E)
+        strip_numbered(slash, " / ", E)
     }
 }

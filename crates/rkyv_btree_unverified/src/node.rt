@@ -34,7 +34,7 @@ pub(crate) fn check_at<T: CheckBytes>(buf: &[u8], pos: u32) -> Result<(), Refusa
 pub fn align<K: Portable, V: Portable, M: ArchivedMap<Key = K, Mapped = V>>() -> u32
     ensures value { result ≡ align (layout_of K.kind V.kind M.E) }
     ensures positive { 0 < result }
-    ensures small { result ≤ 8 }
+    ensures small { result ≤ 16 }
 {
     K::align().max(V::align()).max(1).max(4)
 }

@@ -1,6 +1,6 @@
 -- Native values that are read of archived ones, and what native values mean.
 use Rattle.std.specs.Cmp.{IsTotalOrder}
-use Rattle.std.specs.Prelude.{◌≡◌, ℕ, ◌+◌, List, map}
+use Rattle.std.specs.Prelude.{◌≡◌, ℕ, ◌+◌, List, Option, Some, None, if◌then◌else◌, map, nat_eq, slice_index}
 use Rattle.std.specs.declared.cmp.Ordering.{Ordering}
 use Rattle.std.specs.declared.cmp.Ordering.TheVariants.{Equal}
 use Rattle.rkyv_btree_writer.specs.Archiving.{Archival, Matches}
@@ -31,6 +31,10 @@ pub record IsLent {X Y R : Type 0} (archival : Archival X R) (kind : Kind) (show
   pub alike : (x y : Y) → order x y ≡ kind.order (meant x) (meant y)
   pub total : IsTotalOrder order
   pub exact : (x y : Y) → order x y ≡ Equal → x ≡ y
+
+-- what the option at a position shows: what its value shows, if it has one
+abbrev pub option_lent : {Y : Type 0} → Kind → (List ℕ → ℕ → Y) → List ℕ → ℕ → Option Y
+option_lent kind lent b at = if nat_eq (slice_index b at) 1 then Some (lent b (at + kind.align)) else None
 
 -- what a key and a value show
 abbrev pub both : {T U A B : Type 0} → (T → A) → (U → B) → T × U → A × B

@@ -1,18 +1,21 @@
-//! Numbers, truth values, characters, `()` and text that are compared with archived ones.
+//! Numbers, truth values, characters, `()`, text and byte strings that are compared with archived ones.
 ghost use Rattle.std.specs.Cmp.Lexicographic.{slice_cmp};
 ghost use Rattle.std.specs.Int.NonZero.{non_zero_u32_get};
 ghost use Rattle.std.specs.Ordering.{bool_cmp, int_cmp, nat_cmp};
 ghost use Rattle.std.specs.Prelude.{◌≡◌, ℕ, ℤ, Bool, IsTrue, List};
 ghost use Rattle.std.specs.declared.cmp.Ordering.{Ordering as Comparison};
 ghost use Rattle.std.specs.declared.cmp.Ordering.TheVariants.{Equal};
+ghost use Rattle.rkyv_btree_portable.specs.ByteStrings.{bytes_kind};
 ghost use Rattle.rkyv_btree_portable.specs.Scalars.{bool_kind, char_kind, i16_kind, i32_kind, i64_kind, i8_kind, non_zero_kind};
 ghost use Rattle.rkyv_btree_portable.specs.Scalars.{u16_kind, u32_kind, u64_kind, u8_kind, unit_kind};
 ghost use Rattle.rkyv_btree_portable.specs.Text.{text_kind};
+ghost use Rattle.rkyv_btree_writer.specs.BytesArchival.{bytes_archival};
 ghost use Rattle.rkyv_btree_writer.specs.TextArchival.{text_archival};
 ghost use Rattle.rkyv_btree_portable.specs.Views.{stands};
 ghost use Rattle.rkyv_btree_update.specs.Natives.{IsLent};
 
 use rkyv_btree_archive::archive::Archive;
+use rkyv_btree_portable::byte_string::ArchivedBytes;
 use rkyv_btree_portable::numbers::{ArchivedU16, ArchivedU32, ArchivedU64};
 use rkyv_btree_portable::scalars::{ArchivedChar, ArchivedNonZeroU32};
 use rkyv_btree_portable::signed::{ArchivedI16, ArchivedI32, ArchivedI64};
@@ -291,5 +294,27 @@ impl<'a> CompareArchived for &'a str {
     fn is_lent()
         ensures { IsLent (text_archival (λ text. text.now)) text_kind (λ text. text.now)
             (slice_cmp nat_cmp) text_kind.read ⟦<&'a str as Ord>⟧.cmp }
+    {}
+}
+
+impl<'a> CompareArchived for &'a [u8] {
+    ghost Shown = { List ℕ };
+
+    ghost shown = { λ bytes. bytes.now };
+
+    ghost order = { slice_cmp nat_cmp };
+
+    ghost lent = { bytes_kind.read };
+
+    fn compare_at(&self, buf: &[u8], pos: u32) -> Ordering
+        requires { IsTrue (stands bytes_kind buf.now pos) }
+        ensures { result ≡ slice_cmp nat_cmp self.now.now (bytes_kind.read buf.now pos) }
+    {
+        ArchivedBytes::compare_with(self, &View::at(buf, pos))
+    }
+
+    fn is_lent()
+        ensures { IsLent (bytes_archival (λ bytes. bytes.now)) bytes_kind (λ bytes. bytes.now)
+            (slice_cmp nat_cmp) bytes_kind.read ⟦<&'a [u8] as Ord>⟧.cmp }
     {}
 }

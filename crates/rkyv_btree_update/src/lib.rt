@@ -9,6 +9,7 @@ pub mod diff;
 mod entries;
 pub mod from_archived;
 mod natives;
+mod options;
 mod order;
 mod pairs;
 pub mod update;

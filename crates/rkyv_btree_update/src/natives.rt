@@ -1,12 +1,14 @@
-//! Numbers, truth values, characters, `()` and text, made of archived ones.
+//! Numbers, truth values, characters, `()`, text and byte strings, made of archived ones.
 ghost use Rattle.std.specs.Int.NonZero.{non_zero_u32_get};
 ghost use Rattle.std.specs.Prelude.{◌≡◌, IsTrue};
+ghost use Rattle.rkyv_btree_portable.specs.ByteStrings.{bytes_kind};
 ghost use Rattle.rkyv_btree_portable.specs.Scalars.{bool_kind, char_kind, i16_kind, i32_kind, i64_kind, i8_kind, non_zero_kind};
 ghost use Rattle.rkyv_btree_portable.specs.Scalars.{u16_kind, u32_kind, u64_kind, u8_kind};
 ghost use Rattle.rkyv_btree_portable.specs.Text.{text_kind};
 ghost use Rattle.rkyv_btree_portable.specs.Views.{stands};
 
 use crate::from_archived::FromArchived;
+use rkyv_btree_portable::byte_string::ArchivedBytes;
 use rkyv_btree_portable::numbers::{ArchivedU16, ArchivedU32, ArchivedU64};
 use rkyv_btree_portable::scalars::{ArchivedChar, ArchivedNonZeroU32};
 use rkyv_btree_portable::signed::{ArchivedI16, ArchivedI32, ArchivedI64};
@@ -124,5 +126,14 @@ impl<'a> FromArchived<'a> for &'a str {
         ensures { result.now ≡ text_kind.read buf.now pos }
     {
         View::<ArchivedText>::at(buf, pos).as_str()
+    }
+}
+
+impl<'a> FromArchived<'a> for &'a [u8] {
+    fn from_archived(buf: &'a [u8], pos: u32) -> &'a [u8]
+        requires { IsTrue (stands bytes_kind buf.now pos) }
+        ensures { result.now ≡ bytes_kind.read buf.now pos }
+    {
+        View::<ArchivedBytes>::at(buf, pos).as_bytes()
     }
 }

@@ -1,5 +1,5 @@
 -- Writes one after another.
-use Rattle.std.proofs.Common.{◌≡◌, ℕ, ◌+◌, ◌-◌, ◌%◌, ◌<◌, ◌≤◌, take, Bool, true, false, if◌then◌else◌, nat_eq, List, [], ◌∷◌, ◌++◌, length, refl, ap, sym, subst, ◌∙◌, arith}
+use Rattle.std.proofs.Common.{◌≡◌, ℕ, ◌+◌, ◌-◌, ◌%◌, ◌<◌, ◌≤◌, replicate, take, Bool, true, false, if◌then◌else◌, nat_eq, List, [], ◌∷◌, ◌++◌, length, refl, ap, sym, subst, ◌∙◌, arith}
 use Rattle.std.proofs.lemmas.List.{append_assoc, append-nil, length-append, take-replicate}
 use Rattle.std.proofs.lemmas.Bool.Decides.{nat_tests}
 use Rattle.rkyv_btree_writer.specs.declared.fault.Fault.{Fault}
@@ -105,18 +105,18 @@ padding-some align w l = go (nat_eq (round_up w align) w) refl
     go true h = absurd (grind (arith, nat_tests))
     go false h = refl
 
--- as many of seven zeros as are missing to the next multiple
-module _ (s : Writing) (align w : ℕ) (at : w ≡ position s) (positive : 0 < align) (small : align ≤ 8) (past : 0 < w % align) where
-  missing : take (align - w % align) (0 ∷ 0 ∷ 0 ∷ 0 ∷ 0 ∷ 0 ∷ 0 ∷ []) ≡ zeros (round_up w align - w)
-  missing = take-replicate {X = ℕ} (align - w % align) 7 0 (omega arith) ∙ ap zeros (omega (arith, round_up-past w align positive past))
+-- as many of fifteen zeros as are missing to the next multiple
+module _ (s : Writing) (align w : ℕ) (at : w ≡ position s) (positive : 0 < align) (small : align ≤ 16) (past : 0 < w % align) where
+  missing : take (align - w % align) (replicate 15 0) ≡ zeros (round_up w align - w)
+  missing = take-replicate {X = ℕ} (align - w % align) 15 0 (omega arith) ∙ ap zeros (omega (arith, round_up-past w align positive past))
 
   padded : padding align (position s) ≡ zeros_write (round_up w align - w) ∷ []
   padded = ap (padding align) (sym at) ∙ padding-some align w (omega (arith, round_up-past w align positive past))
 
-  pub padding-wrote : (t : Writing) → Appended s (take (align - w % align) (0 ∷ 0 ∷ 0 ∷ 0 ∷ 0 ∷ 0 ∷ 0 ∷ [])) t → Wrote s (padding align (position s)) t
+  pub padding-wrote : (t : Writing) → Appended s (take (align - w % align) (replicate 15 0)) t → Wrote s (padding align (position s)) t
   padding-wrote t a = subst (λ ws. Wrote s ws t) (sym padded) (wrote-one s (zeros_write (round_up w align - w)) t refl (subst (λ bs. Appended s bs t) missing a))
 
-  pub padding-stopped : {E : Type 0} (t : Writing) (fault : Fault E) → Refused fault s (record { bytes = take (align - w % align) (0 ∷ 0 ∷ 0 ∷ 0 ∷ 0 ∷ 0 ∷ 0 ∷ []); reaches = true }) t → Stopped s (padding align (position s)) fault t
+  pub padding-stopped : {E : Type 0} (t : Writing) (fault : Fault E) → Refused fault s (record { bytes = take (align - w % align) (replicate 15 0); reaches = true }) t → Stopped s (padding align (position s)) fault t
   padding-stopped t fault r = subst (λ ws. Stopped s ws fault t) (sym padded) (stopped-one s (zeros_write (round_up w align - w)) fault t (subst (λ bs. Refused fault s (record { bytes = bs; reaches = true }) t) missing r))
 
 pub unpadded : (s : Writing) (align w : ℕ) → w ≡ position s → 0 < align → w % align ≡ 0 → Wrote s (padding align (position s)) s

@@ -37,7 +37,7 @@ pub fn put<W: Writer>(writer: &mut W, bytes: &[u8]) -> Result<(), Fault<W::Error
 /// Those of `put`.
 pub fn pad<W: Writer>(writer: &mut W, align: u32) -> Result<u64, Fault<W::Error>>
     requires positive { 0 < align }
-    requires small { align ≤ 8 }
+    requires small { align ≤ 16 }
     ensures pos { IfOk result (λ pos. pos ≡ round_up (position (W.state writer.old)) align) }
     ensures end { IfOk result (λ pos. pos ≡ position (W.state writer.new)) }
     ensures ok { OnOk result
@@ -53,6 +53,6 @@ pub fn pad<W: Writer>(writer: &mut W, align: u32) -> Result<u64, Fault<W::Error>
         return Ok(pos);
     }
     let count = align as usize - past;
-    put(writer, &[0, 0, 0, 0, 0, 0, 0][..count])?;
+    put(writer, &[0; 15][..count])?;
     Ok(pos + count as u64)
 }

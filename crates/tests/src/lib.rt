@@ -30,6 +30,8 @@ mod in_place;
 #[cfg(test)]
 mod large;
 #[cfg(test)]
+mod long_tuples;
+#[cfg(test)]
 mod lookups;
 #[cfg(test)]
 mod lookups_counted;
@@ -73,6 +75,8 @@ mod trees;
 mod tuples;
 #[cfg(test)]
 mod values;
+#[cfg(test)]
+mod vectors;
 #[cfg(test)]
 mod views;
 #[cfg(test)]

@@ -1,15 +1,14 @@
 -- Two values in so many bytes are archived by what archives both, and so are tuples.
 use Rattle.std.specs.Prelude.{◌≡◌, ℕ, ◌+◌, ◌≤◌, ◌^◌, ◌&&◌, Bool, ◌++◌, length, nat_lt}
 use Rattle.std.proofs.Common.{arith, ap, subst, ◌∙◌, length-append}
-use Rattle.rkyv_btree_archive.specs.TupleArchival.{joined_archival, front_archival, tuple3_archival}
+use Rattle.rkyv_btree_archive.specs.TupleArchival.{joined_archival}
 use Rattle.rkyv_btree_archive.specs.laws.EntryArchived.{same_offset}
 use Rattle.rkyv_btree_compound.specs.Joined.{joined_end, joined_kind, IsLaidOut}
-use Rattle.rkyv_btree_compound.specs.Tuples.{first_two, tuple3_size, tuple3_kind}
-use Rattle.rkyv_btree_compound.specs.laws.JoinedLaws.{laid_out_of, fitting_joined, key_before, joined_of_parts}
-use Rattle.rkyv_btree_compound.specs.laws.TupleLaws.{front_laid_out, third_inside}
+use Rattle.rkyv_btree_compound.specs.Tuples.{front_kind, tuple_size, tuple_kind}
+use Rattle.rkyv_btree_compound.specs.laws.JoinedLaws.{fitting_joined, key_before, joined_of_parts}
 use Rattle.rkyv_btree_portable.specs.Bytes.{Holds}
 use Rattle.rkyv_btree_portable.specs.Entry.{value_offset, entry_align}
-use Rattle.rkyv_btree_portable.specs.Kind.{Kind, IsLawful}
+use Rattle.rkyv_btree_portable.specs.Kind.{Kind}
 use Rattle.rkyv_btree_portable.specs.Rounding.{round_up}
 use Rattle.rkyv_btree_portable.specs.Standing.{IsAligned}
 use Rattle.rkyv_btree_portable.specs.laws.Holding.{Holds-front, Holds-back, tail_length, tail_held}
@@ -47,18 +46,16 @@ module _ (K V A B : Kind) (k : Matches K A) (v : Matches V B) where
       fitting : (a a2 b b2 : Bool) (m n : ℕ) → a ≡ a2 → b ≡ b2 → m ≡ n → (a && b && nat_lt m (2 ^ 32)) ≡ (a2 && b2 && nat_lt n (2 ^ 32))
       fitting a a2 b b2 m n p q r = cc
 
-module _ (K L M A B C : Kind) (a : Matches K A) (b : Matches L B) (c : Matches M C) where
-  pub same_front : Matches (first_two K L M) (first_two A B C)
-  same_front = same_joined K L A B a b (joined_end K L) (joined_end A B) (same_end K L A B a b)
+-- the first fields of two tuples, and tuples, whose fields lie alike
+module _ {K L A B : Kind} (front : Matches K A) (last : Matches L B) where
+  pub same_next : Matches (front_kind K L) (front_kind A B)
+  same_next = same_joined K L A B front last (joined_end K L) (joined_end A B) (same_end K L A B front last)
 
-  pub same_tuple_size : tuple3_size K L M ≡ tuple3_size A B C
-  same_tuple_size =
-      let end = same_end (first_two K L M) M (first_two A B C) C same_front c in
-      let align = same_alignment (first_two K L M) M (first_two A B C) C same_front c in
-      ap (λ n. round_up n (entry_align (first_two K L M) M)) end ∙ ap (round_up (joined_end (first_two A B C) C)) align
+  pub same_tuple_size : tuple_size K L ≡ tuple_size A B
+  same_tuple_size = ap (λ n. round_up n (entry_align K L)) (same_end K L A B front last) ∙ ap (round_up (joined_end A B)) (same_alignment K L A B front last)
 
-  pub same_tuple : Matches (tuple3_kind K L M) (tuple3_kind A B C)
-  same_tuple = same_joined (first_two K L M) M (first_two A B C) C same_front c (tuple3_size K L M) (tuple3_size A B C) same_tuple_size
+  pub same_tuple : Matches (tuple_kind K L) (tuple_kind A B)
+  same_tuple = same_joined K L A B front last (tuple_size K L) (tuple_size A B) same_tuple_size
 
 module _ {X M N R S : Type 0} (K : Archival M R) (V : Archival N S) (pair : X → M × N) (size : ℕ) (room : joined_end K.kind V.kind ≤ size) (k : IsLaidOut K.kind) (v : IsLaidOut V.kind) (is_key : IsArchived K) (is_value : IsArchived V) where
   pub joined_archived : IsArchived (joined_archival K V size pair)
@@ -88,11 +85,3 @@ module _ {X M N R S : Type 0} (K : Archival M R) (V : Archival N S) (pair : X �
             let vw = v.widens b mid (mid + length (appended w.second)) (at + offset) vm.0 kw.0 end (V.meaning (pair x).1) (omega arith) (omega arith) (omega arith) vm.1 in
             (vw.0, joined_of_parts K.kind V.kind k v size room b from end at vw.0 (K.meaning (pair x).0) (V.meaning (pair x).1) before (record { short = short; room = inside; aligned = aligned }) (record { between = kw.0; key = kw.2; value = vw.2 })),
       )
-
-module _ {L M N Q R S : Type 0} (A : Archival L Q) (B : Archival M R) (C : Archival N S) (a : IsLawful A.kind) (b : IsLawful B.kind) (c : IsLawful C.kind) (is_first : IsArchived A) (is_second : IsArchived B) where
-  pub front_archived : IsArchived (front_archival A B C)
-  front_archived = joined_archived A B (λ x. x) (joined_end A.kind B.kind) (omega arith) (laid_out_of a) (laid_out_of b) is_first is_second
-
-  pub tuple3_archived : IsArchived C → IsArchived (tuple3_archival A B C)
-  tuple3_archived is_third =
-      joined_archived (front_archival A B C) C (λ x. ((x.0, x.1), x.2)) (tuple3_size A.kind B.kind C.kind) (third_inside A.kind B.kind C.kind a b c) (front_laid_out A.kind B.kind C.kind a b c) (laid_out_of c) front_archived is_third

@@ -2,17 +2,17 @@
 use Rattle.std.specs.Prelude.{ℕ, ◌+◌, ◌≤◌, ◌⊎◌, List, [], ◌++◌, length}
 use Rattle.std.proofs.Common.{arith, refl, subst, inl, inr}
 use Rattle.rkyv_btree_archive.specs.EntryArchival.{EntryWrites}
-use Rattle.rkyv_btree_archive.specs.TupleArchival.{JoinedResolves, joined_archival, front_archival, tuple3_archival}
+use Rattle.rkyv_btree_archive.specs.TupleArchival.{JoinedResolves, joined_archival, front_archival, tuple_archival}
 use Rattle.rkyv_btree_archive.specs.declared.util.EntryResolver.{EntryResolver}
 use Rattle.rkyv_btree_archive.specs.laws.EntryCauses.{through, begins, long}
-use Rattle.rkyv_btree_archive.specs.laws.JoinedArchived.{front_archived}
+use Rattle.rkyv_btree_archive.specs.laws.JoinedArchived.{joined_archived}
 use Rattle.rkyv_btree_compound.specs.Joined.{joined_end, IsLaidOut}
-use Rattle.rkyv_btree_compound.specs.Tuples.{tuple3_size}
+use Rattle.rkyv_btree_compound.specs.Tuples.{tuple_kind, tuple_size}
 use Rattle.rkyv_btree_compound.specs.laws.JoinedLaws.{FittingJoined, laid_out_of, fitting_joined, key_before}
-use Rattle.rkyv_btree_compound.specs.laws.TupleLaws.{front_laid_out, third_inside}
+use Rattle.rkyv_btree_compound.specs.laws.TupleLaws.{front_laid_out, last_inside, tuple_laws}
 use Rattle.rkyv_btree_portable.specs.Bytes.{Holds, filled}
 use Rattle.rkyv_btree_portable.specs.Entry.{value_offset}
-use Rattle.rkyv_btree_portable.specs.Kind.{IsLawful}
+use Rattle.rkyv_btree_portable.specs.Kind.{Kind, IsLawful}
 use Rattle.rkyv_btree_portable.specs.laws.Holding.{tail_held}
 use Rattle.rkyv_btree_writer.proofs.FieldRuns.{fit_both, fit_parts, lengths_both, long_parts, inside_more, inside_both, held_both}
 use Rattle.rkyv_btree_writer.specs.Archiving.{Archival, IsArchived}
@@ -54,10 +54,31 @@ module _ {X M N R S : Type 0} (K : Archival M R) (V : Archival N S) (pair : X �
           begun = begins K V pair key value;
         }
 
-module _ {L M N Q R S : Type 0} (A : Archival L Q) (B : Archival M R) (C : Archival N S) (first : HasCauses A) (second : HasCauses B) (third : HasCauses C) (a : IsLawful A.kind) (b : IsLawful B.kind) (c : IsLawful C.kind) (is_first : IsArchived A) (is_second : IsArchived B) (is_third : IsArchived C) where
-  pub front_causes : HasCauses (front_archival A B C)
-  front_causes = joined_causes A B (λ x. x) (joined_end A.kind B.kind) first second (omega arith) (laid_out_of a) (laid_out_of b) is_first is_second
+-- what archiving the first fields of a tuple owes
+pub record FrontArchives {M R : Type 0} (K : Archival M R) : Type 0 where
+  pub laid_out : IsLaidOut K.kind
+  pub archived : IsArchived K
+  pub causes : HasCauses K
 
-  pub tuple3_causes : HasCauses (tuple3_archival A B C)
-  tuple3_causes =
-      joined_causes (front_archival A B C) C (λ x. ((x.0, x.1), x.2)) (tuple3_size A.kind B.kind C.kind) front_causes third (third_inside A.kind B.kind C.kind a b c) (front_laid_out A.kind B.kind C.kind a b c) (laid_out_of c) (front_archived A B C a b c is_first is_second) is_third
+pub first_archives : {M R : Type 0} {K : Archival M R} → IsLawful K.kind → IsArchived K → HasCauses K → FrontArchives K
+first_archives lawful is causes = record { laid_out = laid_out_of lawful; archived = is; causes = causes }
+
+pub tuple_lawful : {M R : Type 0} {K : Archival M R} {V : Kind} → FrontArchives K → IsLawful V → IsLawful (tuple_kind K.kind V)
+tuple_lawful {K} {V} front lawful = tuple_laws K.kind V front.laid_out (laid_out_of lawful)
+
+module _ {M N R S : Type 0} {K : Archival M R} {V : Archival N S} (front : FrontArchives K) (lawful : IsLawful V.kind) where
+  module _ (is : IsArchived V) where
+    pub next_archives : HasCauses V → FrontArchives (front_archival K V)
+    next_archives causes = record {
+      laid_out = front_laid_out K.kind V.kind front.laid_out (laid_out_of lawful);
+      archived = joined_archived K V (λ x. x) (joined_end K.kind V.kind) (omega arith) front.laid_out (laid_out_of lawful) front.archived is;
+      causes = joined_causes K V (λ x. x) (joined_end K.kind V.kind) front.causes causes (omega arith) front.laid_out (laid_out_of lawful) front.archived is;
+    }
+
+    module _ {X : Type 0} (parts : X → M × N) where
+      pub tuple_archived : IsArchived (tuple_archival K V parts)
+      tuple_archived = joined_archived K V parts (tuple_size K.kind V.kind) (last_inside K.kind V.kind front.laid_out (laid_out_of lawful)) front.laid_out (laid_out_of lawful) front.archived is
+
+      pub tuple_causes : HasCauses V → HasCauses (tuple_archival K V parts)
+      tuple_causes causes =
+          joined_causes K V parts (tuple_size K.kind V.kind) front.causes causes (last_inside K.kind V.kind front.laid_out (laid_out_of lawful)) front.laid_out (laid_out_of lawful) front.archived is

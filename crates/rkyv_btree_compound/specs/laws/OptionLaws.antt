@@ -4,7 +4,7 @@ use Rattle.std.proofs.Common.{arith, refl, sym, ap, ◌∙◌, inl, inr}
 use Rattle.std.proofs.lemmas.Bool.{ltb-true, eqb-true}
 use Rattle.rkyv_btree_portable.specs.Kind.{Kind, IsLawful}
 use Rattle.rkyv_btree_portable.specs.Refusing.{HasPlace}
-use Rattle.rkyv_btree_portable.specs.Rounding.{IsAlignment, one, two, four, eight}
+use Rattle.rkyv_btree_portable.specs.Rounding.{IsAlignment, one, two, four, eight, sixteen}
 use Rattle.rkyv_btree_portable.specs.Standing.{IsAligned, Lies, SameBytes}
 use Rattle.rkyv_btree_portable.specs.Views.{stands}
 use Rattle.rkyv_btree_portable.specs.laws.Choices.{both, chosen, through}
@@ -29,6 +29,7 @@ aligned_self one = refl
 aligned_self two = refl
 aligned_self four = refl
 aligned_self eight = refl
+aligned_self sixteen = refl
 
 module _ (T : Kind) (t : IsLawful T) where
   option_whole : IsAligned T.align (option_size T)

@@ -1,13 +1,13 @@
--- Tuples of fields that lie in their own bytes alone do so too.
+-- Tuples of fields that lie in their own bytes alone do so too, and so do their first fields.
 use Rattle.std.specs.Prelude.{◌≡◌, ℕ, ◌+◌, ◌≤◌, ◌↔◌, IsTrue, List, length}
 use Rattle.std.proofs.Common.{arith, refl, sym, ap, subst, ◌∙◌}
 use Rattle.std.proofs.Math.Nat.{zero-mod}
 use Rattle.std.proofs.lemmas.List.{take_all}
 use Rattle.rkyv_btree_compound.specs.Joined.{joined_end, joined_kind, MeansJoined, IsLaidOut}
-use Rattle.rkyv_btree_compound.specs.TupleInPlace.{joined_form, front_form, tuple3_form}
-use Rattle.rkyv_btree_compound.specs.Tuples.{first_two, tuple3_size, tuple3_kind}
+use Rattle.rkyv_btree_compound.specs.TupleInPlace.{joined_form, front_form, tuple_form}
+use Rattle.rkyv_btree_compound.specs.Tuples.{front_kind, tuple_size, tuple_kind}
 use Rattle.rkyv_btree_compound.specs.laws.JoinedLaws.{laid_out_of, fitting_joined, key_before, joined_of_parts}
-use Rattle.rkyv_btree_compound.specs.laws.TupleLaws.{front_laid_out, third_inside}
+use Rattle.rkyv_btree_compound.specs.laws.TupleLaws.{front_laid_out, last_inside}
 use Rattle.rkyv_btree_portable.specs.Bytes.{bytes_at}
 use Rattle.rkyv_btree_portable.specs.Entry.{value_offset}
 use Rattle.rkyv_btree_portable.specs.InPlace.{IsOwn, value_of, InPlaceForm, LiesAlone, IsInPlace}
@@ -66,7 +66,7 @@ module _ (K V : Kind) (k : IsLaidOut K) (v : IsLaidOut V) (size : ℕ) (room : j
       own = form.own_bytes x
 
       -- the own bytes of both are so many, and hold those of each
-      held : (length own ≡ size) × (bytes_at own 0 K.size ≡ key.own_bytes (parts_of x).0) × (bytes_at own (value_offset K V) V.size ≡ value.own_bytes (parts_of x).1)
+      pub held : (length own ≡ size) × (bytes_at own 0 K.size ≡ key.own_bytes (parts_of x).0) × (bytes_at own (value_offset K V) V.size ≡ value.own_bytes (parts_of x).1)
       held =
           let first = (ki.written (parts_of x).0).size in
           let second = (vi.written (parts_of x).1).size in
@@ -113,23 +113,20 @@ module _ (K V : Kind) (k : IsLaidOut K) (v : IsLaidOut V) (size : ℕ) (room : j
     pub joined_in_place : IsInPlace (joined_kind K V size) form
     joined_in_place = record { alone = alone; written = written; same_model = same_model }
 
-module _ {X Y Z : Type 0} (A B C : Kind) (a : IsLawful A) (b : IsLawful B) (c : IsLawful C) {first : InPlaceForm X} {second : InPlaceForm Y} {third : InPlaceForm Z} (ai : IsInPlace A first) (bi : IsInPlace B second) (ci : IsInPlace C third) where
-  pub front_in_place : IsInPlace (first_two A B C) (front_form A B first second)
-  front_in_place = joined_in_place A B (laid_out_of a) (laid_out_of b) (joined_end A B) (omega arith) (λ x. x) ai bi
+-- fields that are laid out, and lie in their own bytes alone
+pub record LieAlone (kind : Kind) {X : Type 0} (form : InPlaceForm X) : Type 0 where
+  pub laid_out : IsLaidOut kind
+  pub in_place : IsInPlace kind form
 
-  pub tuple3_in_place : IsInPlace (tuple3_kind A B C) (tuple3_form A B C first second third)
-  tuple3_in_place = joined_in_place (first_two A B C) C (front_laid_out A B C a b c) (laid_out_of c) (tuple3_size A B C) (third_inside A B C a b c) (λ x. ((x.0, x.1), x.2)) front_in_place ci
+pub first_alone : {K : Kind} {X : Type 0} {form : InPlaceForm X} → IsLawful K → IsInPlace K form → LieAlone K form
+first_alone k is = record { laid_out = laid_out_of k; in_place = is }
 
-  -- the fields' own bytes in those of a tuple
-  pub field_bytes : IsTrue (tuple3_kind A B C).is_fitting → (own : List ℕ) → IsOwn (tuple3_kind A B C) own → IsOwn A (bytes_at (bytes_at own 0 (joined_end A B)) 0 A.size) × IsOwn B (bytes_at (bytes_at own 0 (joined_end A B)) (value_offset A B) B.size)
-      × IsOwn C (bytes_at own (value_offset (first_two A B C) C) C.size)
-  field_bytes fits own is =
-      let all = parts (first_two A B C) C (front_laid_out A B C a b c) (laid_out_of c) (tuple3_size A B C) (third_inside A B C a b c) (λ (x : X × Y × Z). ((x.0, x.1), x.2)) front_in_place ci fits own is in
-      let front = parts A B (laid_out_of a) (laid_out_of b) (joined_end A B) (omega arith) (λ (x : X × Y). x) ai bi (fitting_joined (first_two A B C) C (tuple3_size A B C) fits).key (bytes_at own 0 (joined_end A B)) all.0 in
-      (front.0, front.1, all.1)
+module _ {P L : Kind} {X Y : Type 0} {front : InPlaceForm X} {last : InPlaceForm Y} (f : LieAlone P front) (l : IsLawful L) (is : IsInPlace L last) where
+  pub next_alone : LieAlone (front_kind P L) (front_form P L front last)
+  next_alone = record {
+    laid_out = front_laid_out P L f.laid_out (laid_out_of l);
+    in_place = joined_in_place P L f.laid_out (laid_out_of l) (joined_end P L) (omega arith) (λ x. x) f.in_place is;
+  }
 
-  pub model_of_tuple : (x : X × Y × Z) → first.model_of_bytes (first.own_bytes x.0) ≡ first.model x.0 → second.model_of_bytes (second.own_bytes x.1) ≡ second.model x.1 → third.model_of_bytes (third.own_bytes x.2) ≡ third.model x.2
-      → (tuple3_form A B C first second third).model_of_bytes ((tuple3_form A B C first second third).own_bytes x) ≡ (tuple3_form A B C first second third).model x
-  model_of_tuple x p q r =
-      model_of_joined (first_two A B C) C (front_laid_out A B C a b c) (laid_out_of c) (tuple3_size A B C) (third_inside A B C a b c) (λ x. ((x.0, x.1), x.2)) front_in_place ci x
-      (model_of_joined A B (laid_out_of a) (laid_out_of b) (joined_end A B) (omega arith) (λ x. x) ai bi (x.0, x.1) p q) r
+  pub tuple_alone : {T : Type 0} (parts : T → X × Y) → IsInPlace (tuple_kind P L) (tuple_form parts P L front last)
+  tuple_alone parts = joined_in_place P L f.laid_out (laid_out_of l) (tuple_size P L) (last_inside P L f.laid_out (laid_out_of l)) parts f.in_place is

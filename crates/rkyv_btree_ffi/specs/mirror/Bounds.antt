@@ -11,7 +11,7 @@ pub record AreSizes (s : NodeLayout) (sizes : NodeSizes) : Type 0 where
   pub align : sizes.align ≡ align s
   pub order : sizes.leaf ≤ sizes.inner
   pub some : 1 ≤ sizes.align
-  pub few : sizes.align ≤ 8
+  pub few : sizes.align ≤ 16
 
 module _ (sizes : NodeSizes) (n texts : ℕ) where
   abbrev pub least : ℕ

@@ -5,7 +5,7 @@ use Rattle.std.proofs.Math.Nat.{mul-mod_left, div-mul-le_self, max-eq_left, max-
 use Rattle.std.proofs.lemmas.Nat.{div_below, le-div}
 use Rattle.std.proofs.lemmas.Nat.Gcd.{dvd_of_mod-eq-zero, mod-eq-zero_of_dvd, dvd_trans}
 use Rattle.std.proofs.lemmas.Bool.{cases_lt}
-use Rattle.rkyv_btree_portable.specs.Rounding.{IsAlignment, one, two, four, eight, round_up}
+use Rattle.rkyv_btree_portable.specs.Rounding.{IsAlignment, one, two, four, eight, sixteen, round_up}
 use Rattle.rkyv_btree_portable.specs.Standing.{IsAligned}
 
 pub alignment_positive : {a : ℕ} → IsAlignment a → 0 < a
@@ -13,6 +13,7 @@ alignment_positive one = omega arith
 alignment_positive two = omega arith
 alignment_positive four = omega arith
 alignment_positive eight = omega arith
+alignment_positive sixteen = omega arith
 
 pub round_up-aligned : (n a : ℕ) → IsAligned a (round_up n a)
 unfolding round_up
@@ -47,14 +48,22 @@ alignment_divides two one h = absurd (omega arith)
 alignment_divides two two h = refl
 alignment_divides two four h = refl
 alignment_divides two eight h = refl
+alignment_divides two sixteen h = refl
 alignment_divides four one h = absurd (omega arith)
 alignment_divides four two h = absurd (omega arith)
 alignment_divides four four h = refl
 alignment_divides four eight h = refl
+alignment_divides four sixteen h = refl
 alignment_divides eight one h = absurd (omega arith)
 alignment_divides eight two h = absurd (omega arith)
 alignment_divides eight four h = absurd (omega arith)
 alignment_divides eight eight h = refl
+alignment_divides eight sixteen h = refl
+alignment_divides sixteen one h = absurd (omega arith)
+alignment_divides sixteen two h = absurd (omega arith)
+alignment_divides sixteen four h = absurd (omega arith)
+alignment_divides sixteen eight h = absurd (omega arith)
+alignment_divides sixteen sixteen h = refl
 
 pub max_alignment : {a b : ℕ} → IsAlignment a → IsAlignment b → IsAlignment (max a b)
 max_alignment {a} {b} p q = ⊎_elim (λ h. subst IsAlignment (sym (max-eq_right h)) q) (λ h. subst IsAlignment (sym (max-eq_left h)) p) (cases_le a b)

@@ -29,8 +29,8 @@ returns g c =
     let key = name_of g.K.TypeName.term in
     let value = name_of g.V.TypeName.term in
     let entries = codes " / " ++ (decimal g.row.E ++ codes "]") in
-    let result = c.strip_entries.result in
+    let result = c.strip_numbered.result in
     then_strips (codes "[") (key ++ (codes " -> " ++ (value ++ entries))) c.args.bytes.now c.in_ok-key.key result c.in_ok-key.ensures
     (then_strips key (codes " -> " ++ (value ++ entries)) c.in_ok-key.key.now c.in_ok-arrow.arrow result c.in_ok-arrow.ensures
     (then_strips (codes " -> ") (value ++ entries) c.in_ok-arrow.arrow.now c.in_ok-value.value result c.in_ok-value.ensures
-    (then_strips value entries c.in_ok-value.value.now c.in_ok-slash.slash result c.in_ok-slash.ensures c.strip_entries.ensures)))
+    (then_strips value entries c.in_ok-value.value.now c.in_ok-slash.slash result c.in_ok-slash.ensures c.strip_numbered.ensures)))

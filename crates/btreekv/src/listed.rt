@@ -1,0 +1,39 @@
+//! The command `list`.
+
+use crate::archives::read;
+use crate::system::{Ended, Names, System};
+use crate::words::form_of;
+use btreearc_lines::fault::ProgramFault;
+use btreekv_commands::list::{list, list_object};
+use clap::ArgMatches;
+use std::io::BufWriter;
+
+/// The number of bytes that one write of entries has.
+const WRITE_LEN: usize = 65536;
+
+/// Writes the entries of an archive, as its words say.
+fn write_entries(
+    system: &System<'_>,
+    matches: &ArgMatches<'_>,
+    archive: &[u8],
+) -> Result<(), ProgramFault> {
+    let alloc = system.alloc();
+    let Ok(mut output) = BufWriter::with_capacity(alloc, WRITE_LEN, system.stdout()) else {
+        return Err(ProgramFault::Memory);
+    };
+    if matches.get_flag("json") {
+        list_object(alloc, archive, &mut output)
+    } else {
+        list(alloc, archive, form_of(matches), &mut output)
+    }
+}
+
+/// Writes the entries of a file, or of standard input, and returns the exit status.
+pub fn run(system: &System<'_>, matches: &ArgMatches<'_>) -> Result<u8, Ended> {
+    let path = matches.get_str("FILE");
+    let archive = read(system, path)?;
+    match write_entries(system, matches, &archive) {
+        Ok(()) => Ok(0),
+        Err(fault) => Err(system.fail(Names::of_input(path), &fault)),
+    }
+}

@@ -1,0 +1,16 @@
+use Rattle.std.proofs.Common.{map}
+use Rattle.std.specs.Io.KnownBytes.{Appends}
+use Rattle.std.specs.Iterator.{Yields, IsFinite, size}
+use Rattle.rkyv_btree_view.specs.View.{view_entry}
+use Rattle.btreekv_commands.specs.Forms.{text_in}
+use Rattle.btreekv_commands.proofs.list.stream_entries.Given as goal
+
+-- the lines so far are written
+abbrev pub invariant-loop-key : goal.invariant-loop-key
+invariant-loop-key g l =
+    g.I.Iterator.can_next l.entries × IsFinite (g.I.Iterator.remaining l.entries)
+    × ((items : _) × Yields g.I.Iterator.next_gives l.fn.entries items l.entries
+    × Appends (g.W.Write.contents l.fn.output) (g.W.Write.contents l.output) (text_in l.fn.form (map view_entry items)))
+
+abbrev pub decreases-loop-key : goal.decreases-loop-key
+decreases-loop-key g l = size (g.I.Iterator.remaining l.entries)

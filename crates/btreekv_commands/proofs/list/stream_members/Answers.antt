@@ -1,0 +1,31 @@
+-- One more member, and the end.
+use Rattle.std.proofs.Common.{[], ◌∷◌, ◌++◌, refl, sym, ◌∙◌}
+use Rattle.std.proofs.iter.Next.{Yields-more}
+use Rattle.std.proofs.KnownBytes.{Appends-nil}
+use Rattle.btreekv_commands.proofs.JsonTexts.{separated}
+use Rattle.btreekv_commands.proofs.Streamed.{member_streamed}
+use Rattle.btreekv_commands.proofs.list.stream_members.Goals as goal
+
+pub loop-key-init : goal.loop-key-init
+loop-key-init g c = (c.requires.can, c.requires.ends, ([], refl, Appends-nil _, refl))
+
+pub loop-key-preserved : goal.loop-key-preserved
+loop-key-preserved g c =
+    let before = c.loop-key.invariant in
+    let items = before.2.0 in
+    let steps = g.I.Iterator.next_gives in
+    let on = c.in-Some.ensures.goes.on before.1 in (
+      on.0,
+      on.1,
+      (
+        items ++ (c.in-Some.key, c.in-Some.value) ∷ [],
+        Yields-more steps c.args.entries items c.loop-key.entries (c.in-Some.key, c.in-Some.value) c.next.new.self before.2.1 c.in-Some.ensures.steps,
+        member_streamed _ items (c.in-Some.key, c.in-Some.value) _ _ _ _ _ _ _ before.2.2 before.2.3 (c.deref.ensures.value ∙ c.in_ok-make_member.ensures.ok) c.in_ok-write_all.ensures.all c.as_str.ensures c.as_str-in-Some.ensures,
+        sym (separated _ items (c.in-Some.key, c.in-Some.value) items),
+      ),
+    )
+
+pub returns-clause-ok : goal.returns-clause-ok
+returns-clause-ok g c =
+    let before = c.loop-key.invariant in
+    (before.2.0, (c.next.new.self, (c.loop-key.entries, before.2.1, c.in_default.ensures.steps)), before.2.2)

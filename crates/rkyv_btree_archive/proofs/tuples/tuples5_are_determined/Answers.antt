@@ -1,0 +1,5 @@
+use Rattle.rkyv_btree_archive.proofs.JoinedResolved.{front_determined, tuple_determined}
+use Rattle.rkyv_btree_archive.proofs.tuples.tuples5_are_determined.Goals as goal
+
+pub returns : goal.returns
+returns g c first second third fourth fifth = tuple_determined (front_determined (front_determined (front_determined first second) third) fourth) fifth (λ x. ((((x.0, x.1), x.2), x.3), x.4))
