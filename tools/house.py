@@ -14,7 +14,7 @@ from drawing import box, path, text
 ROOT = pathlib.Path(__file__).resolve().parent.parent
 READS, WRITES = "rkyv_btree_walk", "rkyv_btree_writer"
 FACES = ("rkyv_btree", "rkyv_btree_base")
-PROGRAMS = ("btreearc", "btreekv", "btreearc_lines", "btreearc_commands", "btreekv_commands", "rkyv_btree_ffi")
+PROGRAMS = ("btreearc", "btreekv", "btreearc_lines", "btreearc_commands", "btreekv_items", "btreekv_commands", "rkyv_btree_ffi")
 NEITHER, READERS, WRITERS, BOTH = "what both use", "readers", "writers", "what needs both wings"
 COLORS = {NEITHER: "#e4e1ee", READERS: "#a9d5c3", WRITERS: "#f6d38b", BOTH: "#e79d86", "face": "#ffffff", "program": "#f0f0ee"}
 WIDTH, WIDE, TALL, ROW, TOP = 1120, 130, 34, 74, 66

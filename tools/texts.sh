@@ -127,6 +127,44 @@ ends 2 "error: 'btreekv' requires a subcommand but one was not provided" ''    '
 ends 2 "error: unrecognized subcommand 'lists'"    ''                          ''                            lists
 ends 2 "error: the argument '--sort' cannot be used with '--strict'" ''        ''                            build --sort --strict
 
+# maps of other types than texts: their header names the types, or the words do
+numbers=$(archive_of '10\tten\n9\tnine\n10\tTEN\n' --types u32:text)
+untyped=$(archive_of '10\tten\n9\tnine\n10\tTEN\n' --types u32:text --untyped)
+ends 0 ''                                          "$numbers"                  '9\tnine\n10\tTEN\n'        list
+ends 0 ''                                          "$untyped"                  '9\tnine\n10\tTEN\n'        list --types u32:text
+ends 0 ''                                          "$numbers"                  '{"9":"nine","10":"TEN"}\n'  list --json
+ends 0 ''                                          "$numbers"                  '{"key":"9","value":"nine"}\n{"key":"10","value":"TEN"}\n' list --ndjson
+ends 0 ''                                          "$numbers"                  'key,value\n9,nine\n10,TEN\n' list --csv
+ends 0 ''                                          "$numbers"                  'ok 2 entries\n'              check
+ends 0 ''                                          "$numbers"                  'ok 2 entries\n'              check --strict
+ends 0 ''                                          "$numbers"                  '9\tnine\n'                   first
+ends 0 ''                                          "$numbers"                  'TEN\n'                       get 10
+ends 1 ''                                          "$numbers"                  ''                            get 11
+ends 0 ''                                          "$numbers"                  '10\tTEN\n'                   range 10 4294967295
+ends 0 ''                                          "$numbers"                  '10\tTEN\n'                   last
+ends 0 ''                                          "$untyped"                  '{"key":"10","value":"TEN"}\n' last --ndjson --types u32:text
+ends 1 ''                                          "$(archive_of '' --types u32:text)" ''                      last
+ends 0 ''                                          "$numbers"                  "$(archive_of '9\tnine\n10\tzehn\n' --types u32:text)" set 10 zehn
+ends 0 ''                                          "$numbers"                  "$(archive_of '8\teight\n9\tnine\n10\tTEN\n' --types u32:text)" set 8 eight
+ends 0 ''                                          "$untyped"                  "$(archive_of '9\tnine\n10\tTEN\n11\t\n' --types u32:text --untyped)" set --types u32:text 11 ''
+ends 2 'btreekv: 010 is no u32'                    "$numbers"                  ''                            set 010 ten
+ends 2 'btreekv: x is no u32'                      "$(archive_of 'a\t1\n' --types text:u32)" ''                set b x
+ends 2 'btreekv: refused: the bytes are of type [u32 -> text / 5], not [text -> text / 5]' "$numbers" ''     set --types text:text 1 2
+ends 2 'btreekv: 4294967296 is no u32'             "$numbers"                  ''                            get 4294967296
+ends 2 'btreekv: 09 is no u32'                     "$numbers"                  ''                            range 09 10
+ends 2 'btreekv: ten is no u32'                    "$numbers"                  ''                            range 9 ten
+ends 0 ''                                          'a\t1\nb\t2\n'              "$(archive_of 'b\t2\na\t1\n' --types text:u32)" build --strict --types text:u32
+ends 2 'btreekv: not built: entry 1 is out of order' '10\ta\n9\tb\n'         ''                            build --strict --types u32:text
+ends 2 'btreekv: entry 2: the key is no u32'       '1\ta\n01\tb\n'            ''                            build --types u32:text
+ends 2 'btreekv: entry 1: the value is no u32'     'a\t-1\nb\tx\n'            ''                            build --types text:u32
+ends 2 'btreekv: line 2: not KEY TAB VALUE'        '1\ta\n2\n'                 ''                            build --types u32:text
+ends 2 'btreekv: refused: the bytes are of type [u32 -> text / 5], not [text -> u32 / 5]' "$numbers" ''      list --types text:u32
+ends 2 'btreekv: refused: the bytes are of type [u32 -> text / 5], not [text -> text / 5]' "$numbers" ''     prefix 1
+ends 2 'btreekv: refused: the bytes are of type [u32 -> text / 5], not [text -> text / 5]' "$numbers" ''     stat
+ends 2 'btreekv: u32 are no types KEY:VALUE'       ''                          ''                            build --types u32
+ends 2 'btreekv: u32:number are no types KEY:VALUE' ''                         ''                            build --types u32:number
+ends 0 ''                                          'b\t1\na\t2\n'              "$(archive_of 'b\t1\na\t2\n')" build --types text:text
+
 # forms: each line that --escape writes is read back, and so is each entry that --null writes
 odd='{"key":"a\\tb","value":"c\\nd\\\\e"}'
 tabs='a\\tb\tc\\nd\\\\e\n'
@@ -298,11 +336,11 @@ ends 0 ''                                          '{"b":"3","a":"2"}'         "
 ends 0 ''                                          "$untyped"                  'a\t2\nb\t3\n'              list
 ends 0 ''                                          "$untyped"                  'ok 2 entries\n'              check --strict
 ends 0 ''                                          "$untyped"                  '3\n'                         get b
-foreign='rkyvbt\x01\x00\x10\x00\x00\x00[u32 -> u32 / 5]\x00\x00\x00\x00'$untyped
+foreign='rkyvbt\x01\x00\x11\x00\x00\x00[u32 -> bool / 5]\x00\x00\x00'$untyped
 later='rkyvbt\x02\x00'$untyped
 for words in list 'list --json' 'list --csv' check 'check --strict' stat explain first last 'get a' 'range a b' 'prefix a' 'set a b'; do
     read -ra words <<< "$words"
-    ends 2 'btreekv: refused: the bytes are of type [u32 -> u32 / 5], not [text -> text / 5]' "$foreign" '' "${words[@]}"
+    ends 2 'btreekv: refused: the bytes are of type [u32 -> bool / 5], not [text -> text / 5]' "$foreign" '' "${words[@]}"
     ends 2 'btreekv: refused: the type header has version 2, not 1' "$later" '' "${words[@]}"
 done
 
@@ -743,7 +781,7 @@ cat old.lines changes | "$program" build --sort > expected
 "$program" diff bare typed | cmp -s - /dev/null || fail "diff of a typed file: other lines"
 for name in foreign later; do
     why='the type header has version 2, not 1'
-    [[ $name == later ]] || why='the bytes are of type [u32 -> u32 / 5], not [text -> text / 5]'
+    [[ $name == later ]] || why='the bytes are of type [u32 -> bool / 5], not [text -> text / 5]'
     for words in "get a $name" "get --validate a $name" "get --keys-from keys $name" "update $name changes" "merge $name typed" "merge typed $name" \
         "diff $name typed" "diff typed $name" "top 1 $name" "first $name" "first --validate $name" "last $name" "get a b $name" "set a b $name"; do
         read -ra words <<< "$words"
@@ -768,6 +806,26 @@ merges third second first
 merges third second first second none
 merges none none
 merges none first
+
+# merges of other types than texts, by a header or by words; what is expected is built of all lines
+printf '9\tnine\n10\tten\n' > tens.lines
+printf '10\tTEN\n200\ttwo hundred\n' > hundreds.lines
+for name in tens hundreds; do "$program" build --types u32:text "$name.lines" > "$name"; "$program" build --types u32:text --untyped "$name.lines" > "bare_$name"; done
+cat tens.lines hundreds.lines | "$program" build --types u32:text > expected
+"$program" merge tens hundreds | cmp -s - expected || fail "merge of numbers: another archive"
+"$program" merge tens bare_hundreds -o merged && cmp -s merged expected || fail "merge of numbers: another file"
+"$program" merge --types u32:text tens hundreds | cmp -s - expected || fail "merge of numbers by words: another archive"
+"$program" merge tens tens | cmp -s - tens || fail "merge of numbers with themselves: another archive"
+cat hundreds.lines tens.lines | "$program" build --types u32:text --untyped > expected
+"$program" merge --types u32:text bare_hundreds tens | cmp -s - expected || fail "merge of numbers without a header: another archive"
+refuses 'btreekv: refused: old: the bytes are of type [text -> text / 5], not [u32 -> text / 5]' '' merge tens hundreds old
+refuses 'btreekv: refused: short: position 0 is out of range' '' merge tens short hundreds
+refuses 'btreekv: refused: tens: the bytes are of type [u32 -> text / 5], not [text -> text / 5]' '' merge old tens
+refuses 'btreekv: input failed: absent: No such file or directory (os error 2)' '' merge tens absent
+"$program" set 9 NINE tens -o tens && "$program" get 9 tens | cmp -s - <(echo NINE) || fail "a set number: another value"
+refuses 'btreekv: ten is no u32' '' set ten 10 tens
+refuses 'btreekv: refused: hundreds: the bytes are of type [u32 -> text / 5], not [text -> text / 5]' '' get 10 200 hundreds
+refuses "error: the argument '--types <KEY:VALUE>' cannot be used with '[MORE]...'" '' get --types u32:text 10 200 hundreds
 
 # 20000 entries, and some 3000 changes
 awk 'NR % 7 == 3 { print $0 " again" } NR % 11 == 5 { print substr($0, 1, 10) } NR % 13 == 1 { print substr($0, 1, 9) "\tnew" }' many \
@@ -977,7 +1035,7 @@ mapfile -t commands < <("$program" help | sed -n '/^Commands:/,/^$/s/^  \([a-z]*
 cmp -s <(printf '%s\n' "${commands[@]}" --help --version | sort) <(completes '') || fail "completion: other commands than those of the help"
 for command in "${commands[@]}"; do
     [[ $command != help ]] || continue
-    cmp -s <("$program" help "$command" | grep -o '^ *\(-., \)\?--[a-z-]*' | grep -o -e '--.*' | sort) <(completes "$command" -) ||
+    cmp -s <("$program" help "$command" | grep -o '^ *\(-., \)\?--[a-z0-9-]*' | grep -o -e '--.*' | sort) <(completes "$command" -) ||
         fail "completion of $command: other flags than those of its help"
 done
 [[ $(completes list arch) == archive ]] || fail "completion: no file"

@@ -112,35 +112,52 @@ pub fn update(system: &System<'_>, matches: &ArgMatches<'_>) -> Result<u8, Ended
     }
 }
 
-/// Runs `set`, and returns the exit status.
-pub fn set(system: &System<'_>, matches: &ArgMatches<'_>) -> Result<u8, Ended> {
-    let name = matches.get_str("FILE");
+/// Writes an archive, which came from this file, with one entry put, and returns the exit status.
+pub(crate) fn set_in(
+    system: &System<'_>,
+    matches: &ArgMatches<'_>,
+    name: Option<&str>,
+    archive: &[u8],
+) -> Result<u8, Ended> {
     let key = matches.get_str("KEY").unwrap_or("");
     let value = matches.get_str("VALUE").unwrap_or("");
-    let archive = read(system, name)?;
-    match (updating::set(system.alloc(), &archive, key, value), name) {
+    match (updating::set(system.alloc(), archive, key, value), name) {
         (Ok(bytes), _) => write(system, words::output_of("set", matches), &bytes),
         (Err(fault), Some(name)) => Err(fail(system, &[name], fault)),
         (Err(fault), None) => Err(fail(system, &[], fault)),
     }
 }
 
+/// Runs `set`, and returns the exit status.
+pub fn set(system: &System<'_>, matches: &ArgMatches<'_>) -> Result<u8, Ended> {
+    let name = matches.get_str("FILE");
+    let archive = read(system, name)?;
+    set_in(system, matches, name, &archive)
+}
+
+/// Reads files, in their order.
+pub(crate) fn read_each(system: &System<'_>, names: &[&str]) -> Result<Vec<Vec<u8>>, Ended> {
+    let mut files = Vec::new(system.alloc());
+    for name in names {
+        let file = read(system, Some(*name))?;
+        if files.push(file).is_err() {
+            return Err(system.fail(Names::of_input(None), &ProgramFault::Memory));
+        }
+    }
+    Ok(files)
+}
+
 /// Runs `merge`, and returns the exit status.
 pub fn merge(system: &System<'_>, matches: &ArgMatches<'_>) -> Result<u8, Ended> {
     let alloc = system.alloc();
     let first = matches.get_str("ARCHIVE").unwrap_or("");
+    let other_names = matches.get_strs("OTHERS").unwrap_or(&[]);
     let mut names = Vec::new(alloc);
-    let mut others = Vec::new(alloc);
-    let archive = read(system, Some(first))?;
-    if names.push(first).is_err() {
+    if names.push(first).is_err() || names.extend_from_slice(other_names).is_err() {
         return Err(system.fail(Names::of_input(None), &ProgramFault::Memory));
     }
-    for name in matches.get_strs("OTHERS").unwrap_or(&[]) {
-        let other = read(system, Some(*name))?;
-        if others.push(other).is_err() || names.push(*name).is_err() {
-            return Err(system.fail(Names::of_input(None), &ProgramFault::Memory));
-        }
-    }
+    let archive = read(system, Some(first))?;
+    let others = read_each(system, other_names)?;
     match merging::merge(alloc, &archive, &others) {
         Ok(bytes) => write(system, words::output_of("merge", matches), &bytes),
         Err(fault) => { Err(fail(system, &names, fault)) }

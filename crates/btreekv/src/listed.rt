@@ -28,12 +28,22 @@ fn write_entries(
     }
 }
 
+/// Writes the entries of an archive, which came from this file, and returns the exit status.
+pub(crate) fn write(
+    system: &System<'_>,
+    matches: &ArgMatches<'_>,
+    names: Names<'_>,
+    archive: &[u8],
+) -> Result<u8, Ended> {
+    match write_entries(system, matches, archive) {
+        Ok(()) => Ok(0),
+        Err(fault) => Err(system.fail(names, &fault)),
+    }
+}
+
 /// Writes the entries of a file, or of standard input, and returns the exit status.
 pub fn run(system: &System<'_>, matches: &ArgMatches<'_>) -> Result<u8, Ended> {
     let path = matches.get_str("FILE");
     let archive = read(system, path)?;
-    match write_entries(system, matches, &archive) {
-        Ok(()) => Ok(0),
-        Err(fault) => Err(system.fail(Names::of_input(path), &fault)),
-    }
+    write(system, matches, Names::of_input(path), &archive)
 }

@@ -91,12 +91,11 @@ pub(crate) fn in_all<R: Read + Drop>(
     system: &System<'_>,
     name: &str,
     matches: &ArgMatches<'_>,
-    input: R,
+    mut input: Progress<'_, '_, R>,
 ) -> Result<u8, ProgramFault> {
     let Ok(command) = words::command_of(system.alloc(), name, matches) else {
         return Err(ProgramFault::Memory);
     };
-    let mut input = Progress::new(system, input);
     let status = run(system.alloc(), &command, &mut input, &mut system.stdout())?;
     let read = input.bytes_read();
     write_stats(system, matches, read, read);
@@ -349,7 +348,7 @@ fn get_in_file(
     if is_regular(&file) && !matches.get_flag("validate") {
         get_in_parts(system, matches, file)
     } else {
-        in_all(system, "get", matches, file)
+        in_all(system, "get", matches, Progress::of_file(system, file))
     }
 }
 
@@ -365,7 +364,12 @@ pub fn get(system: &System<'_>, matches: &ArgMatches<'_>) -> Result<u8, Ended> {
     }
     let path = matches.get_str("FILE");
     let done = match path {
-        None => in_all(system, "get", matches, system.stdin()?),
+        None => in_all(
+            system,
+            "get",
+            matches,
+            Progress::new(system, system.stdin()?),
+        ),
         Some(path) => {
             let file = system.open(path)?;
             get_in_file(system, matches, file)

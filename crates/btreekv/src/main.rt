@@ -10,6 +10,7 @@ mod output;
 mod progress;
 mod ranges;
 mod system;
+mod typed;
 mod words;
 
 use btreearc_lines::fault::ProgramFault;
@@ -227,6 +228,9 @@ fn status(system: &System<'_>) -> Result<u8, Ended> {
     };
     if words::output_of(name, matches).is_none() {
         system.writes_to_stdout();
+    }
+    if let Some(status) = typed::run(system, name, matches)? {
+        return Ok(status);
     }
     match name {
         "update" => archives::update(system, matches),

@@ -2,7 +2,7 @@
 
 use crate::system::System;
 use std::fs::File;
-use std::io::{IsTerminal, Read, Result};
+use std::io::{Chain, IsTerminal, Read, Result};
 use std::time::{Duration, Instant};
 
 /// When a reader began, and when it wrote its last line.
@@ -59,6 +59,29 @@ impl<'s, 'a, R> Progress<'s, 'a, R> {
     /// Returns how many bytes were read.
     pub fn bytes_read(&self) -> u64 {
         self.bytes
+    }
+
+    /// Returns a reader over these bytes, which were read first, and the rest. None of them counts as read. The time goes on.
+    pub fn with_first<'b>(self, first: &'b [u8]) -> Progress<'s, 'a, Chain<&'b [u8], R>>
+    where
+        R: Read,
+    {
+        let Progress {
+            system,
+            input,
+            times,
+            len,
+            is_written,
+            ..
+        } = self;
+        Progress {
+            system,
+            input: first.chain(input),
+            times,
+            len,
+            bytes: 0,
+            is_written,
+        }
     }
 }
 

@@ -1,6 +1,7 @@
 //! The first and the last entry, ranges of keys, and keys that begin with a text. A regular file isn't read whole.
 
 use crate::lookups::{cached, in_all, is_regular, write_stats};
+use crate::progress::Progress;
 use crate::system::{Ended, Names, System};
 use crate::words;
 use btreearc_lines::fault::ProgramFault;
@@ -95,7 +96,7 @@ fn in_file(
     if is_regular(&file) && !matches.get_flag("validate") {
         in_parts(system, name, matches, file)
     } else {
-        in_all(system, name, matches, file)
+        in_all(system, name, matches, Progress::of_file(system, file))
     }
 }
 
@@ -103,7 +104,12 @@ fn in_file(
 pub fn run(system: &System<'_>, name: &str, matches: &ArgMatches<'_>) -> Result<u8, Ended> {
     let path = matches.get_str("FILE");
     let done = match path {
-        None => in_all(system, name, matches, system.stdin()?),
+        None => in_all(
+            system,
+            name,
+            matches,
+            Progress::new(system, system.stdin()?),
+        ),
         Some(path) => {
             let file = system.open(path)?;
             in_file(system, name, matches, file)

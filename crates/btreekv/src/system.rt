@@ -29,6 +29,13 @@ pub struct Ended {
     pub status: u8,
 }
 
+impl Ended {
+    /// Returns the end by an error whose line is written.
+    pub fn failed() -> Ended {
+        Ended { status: FAILED }
+    }
+}
+
 /// The files of a command, which its errors name. Standard input and output have no names.
 #[derive(Clone, Copy)]
 pub struct Names<'a> {
@@ -48,7 +55,7 @@ impl<'a> Names<'a> {
 
 /// Words before a name, if there is one, and the name.
 #[derive(Clone, Copy)]
-struct Named<'a>(&'a str, Option<&'a str>);
+pub(crate) struct Named<'a>(pub(crate) &'a str, pub(crate) Option<&'a str>);
 
 impl<'a> fmt::Display for Named<'a> {
     fn fmt<W: fmt::Write>(&self, f: &mut fmt::Formatter<W>) -> fmt::Result {

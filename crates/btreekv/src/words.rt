@@ -5,6 +5,10 @@ use btreekv_commands::command;
 use btreekv_commands::csv_records::Table;
 use btreekv_commands::forms::Form;
 use btreekv_commands::records::Records;
+use btreekv_items::item::BytesStyle;
+use btreekv_types::command::{Order, TypedCommand};
+use btreekv_types::list_form::ListForm;
+use btreekv_types::source::Source;
 use clap::{Arg, ArgAction, ArgMatches, Command, Error, value_parser};
 use std::alloc::{AllocError, Global};
 
@@ -91,6 +95,30 @@ fn required<'a>(alloc: Global, name: &'a str, help: &'a str) -> Arg<'a> {
         .required(true)
         .help(help)
         .action(ArgAction::Set)
+}
+
+/// Adds the types of the keys and the values, and how byte strings are written.
+fn with_types<'a>(
+    alloc: Global,
+    command: Command<'a>,
+    help: &'a str,
+) -> Result<Command<'a>, AllocError> {
+    let types = Arg::new(alloc, "types")
+        .long("types")
+        .value_name("KEY:VALUE")
+        .help(help)
+        .action(ArgAction::Set);
+    command.arg(types)?.arg(flag(
+        alloc,
+        "base64",
+        "write and read byte strings as base64, in place of hexadecimal digits",
+    ))
+}
+
+/// Adds the same to a command that reads an archive.
+fn with_archive_types<'a>(alloc: Global, command: Command<'a>) -> Result<Command<'a>, AllocError> {
+    let help = "the types of keys and values, if FILE has no header and they are no texts";
+    with_types(alloc, command, help)
 }
 
 /// Adds the flags of how entries are written.
@@ -190,7 +218,8 @@ fn build<'a>(alloc: Global) -> Result<Command<'a>, AllocError> {
         .arg(untyped)?
         .arg(escape.requires_arg("sort")?.conflicts_with("null")?)?
         .arg(null.requires_arg("sort")?)?;
-    let command = with_json_input(alloc, command)?;
+    let types = "the types of keys and values, if they are no texts; sorted as by --sort";
+    let command = with_types(alloc, with_json_input(alloc, command)?, types)?;
     with_tables(alloc, command, tables, "strict")?
         .arg(output(alloc))?
         .arg(file(alloc))
@@ -216,9 +245,10 @@ fn update<'a>(alloc: Global) -> Result<Command<'a>, AllocError> {
 
 /// Returns the words of `set`.
 fn set<'a>(alloc: Global) -> Result<Command<'a>, AllocError> {
-    Command::new(alloc, "set")
+    let command = Command::new(alloc, "set")
         .about("write an archive with the value of one key, which it may lack")
-        .after_help(SET_EXAMPLES)
+        .after_help(SET_EXAMPLES);
+    with_archive_types(alloc, command)?
         .arg(output(alloc))?
         .arg(word(alloc, "KEY"))?
         .arg(word(alloc, "VALUE"))?
@@ -232,8 +262,10 @@ fn merge<'a>(alloc: Global) -> Result<Command<'a>, AllocError> {
         "OTHERS",
         "further archives, of which the last one wins",
     );
-    Command::new(alloc, "merge")
-        .about("write the archive of the entries of several archives")
+    let command = Command::new(alloc, "merge").about(
+        "write the archive of the entries of several archives",
+    );
+    with_archive_types(alloc, command)?
         .arg(output(alloc))?
         .arg(required(alloc, "ARCHIVE", "the first archive"))?
         .arg(others.num_args(1..))
@@ -265,6 +297,7 @@ fn list<'a>(alloc: Global) -> Result<Command<'a>, AllocError> {
     let command = Command::new(alloc, "list")
         .about("write the lines of an archive")
         .after_help(LIST_EXAMPLES);
+    let command = with_archive_types(alloc, command)?;
     let command = with_json_lines(alloc, with_forms(alloc, command)?)?;
     let tables = "write CSV: the header key,value, and a record an entry";
     with_tables(alloc, command, tables, "json")?
@@ -278,8 +311,8 @@ fn list<'a>(alloc: Global) -> Result<Command<'a>, AllocError> {
 
 /// Returns the words of `check`.
 fn check<'a>(alloc: Global) -> Result<Command<'a>, AllocError> {
-    Command::new(alloc, "check")
-        .about("write how many entries an archive has")
+    let command = Command::new(alloc, "check").about("write how many entries an archive has");
+    with_archive_types(alloc, command)?
         .arg(flag(alloc, "strict", "fail unless the keys increase"))?
         .arg(file(alloc))
 }
@@ -324,6 +357,7 @@ fn first<'a>(alloc: Global) -> Result<Command<'a>, AllocError> {
     let command = Command::new(alloc, "first")
         .about("write the line of the first entry, which has the least key if the keys increase")
         .after_help(FIRST_EXAMPLES);
+    let command = with_archive_types(alloc, command)?;
     with_reading(alloc, with_json_lines(alloc, with_forms(alloc, command)?)?)?.arg(file(alloc))
 }
 
@@ -332,6 +366,7 @@ fn last<'a>(alloc: Global) -> Result<Command<'a>, AllocError> {
     let command = Command::new(alloc, "last")
         .about("write the line of the last entry, which has the greatest key if the keys increase")
         .after_help(LAST_EXAMPLES);
+    let command = with_archive_types(alloc, command)?;
     with_reading(alloc, with_json_lines(alloc, with_forms(alloc, command)?)?)?.arg(file(alloc))
 }
 
@@ -344,6 +379,7 @@ fn more<'a>(alloc: Global) -> Result<Arg<'a>, AllocError> {
         .conflicts_with("json")?
         .conflicts_with("escape")?
         .conflicts_with("null")?
+        .conflicts_with("types")?
         .conflicts_with("keys-from")
 }
 
@@ -360,12 +396,14 @@ fn get<'a>(alloc: Global) -> Result<Command<'a>, AllocError> {
     let command = Command::new(alloc, "get")
         .about("write the value of a key, or KEY TAB VALUE of each of several keys")
         .after_help(GET_EXAMPLES);
+    let command = with_archive_types(alloc, command)?;
     with_reading(alloc, with_forms(alloc, command)?)?
         .arg(json.conflicts_with("escape")?.conflicts_with("null")?)?
         .arg(
             keys.conflicts_with("json")?
                 .conflicts_with("escape")?
-                .conflicts_with("null")?,
+                .conflicts_with("null")?
+                .conflicts_with("types")?,
         )?
         .arg(word(alloc, "KEY"))?
         .arg(file(alloc).conflicts_with("keys-from")?)?
@@ -377,6 +415,7 @@ fn range<'a>(alloc: Global) -> Result<Command<'a>, AllocError> {
     let command = Command::new(alloc, "range").about(
         "write the lines of the keys from LOW to HIGH, both included",
     );
+    let command = with_archive_types(alloc, command)?;
     with_reading(alloc, with_json_lines(alloc, with_forms(alloc, command)?)?)?
         .arg(word(alloc, "LOW"))?
         .arg(word(alloc, "HIGH"))?
@@ -539,5 +578,101 @@ pub fn output_of<'a>(name: &str, matches: &ArgMatches<'a>) -> Option<&'a str> {
     match name {
         "build" | "update" | "set" | "merge" | "top" => matches.get_str("OUTPUT"),
         _ => None,
+    }
+}
+
+/// Returns whether a command takes maps of other types than texts, with these words.
+pub fn takes_types(name: &str, matches: &ArgMatches<'_>) -> bool {
+    match name {
+        "build" | "list" | "check" | "first" | "last" | "range" | "set" | "merge" => true,
+        "get" => matches.get_str("keys-from").is_none() && matches.get_strs("MORE").is_none(),
+        _ => false,
+    }
+}
+
+/// Returns the file that a command reads first, if it isn't standard input.
+pub fn input_of<'a>(name: &str, matches: &ArgMatches<'a>) -> Option<&'a str> {
+    match name {
+        "merge" => matches.get_str("ARCHIVE"),
+        _ => matches.get_str("FILE"),
+    }
+}
+
+/// Returns how byte strings are written and read.
+pub fn style_of(matches: &ArgMatches<'_>) -> BytesStyle {
+    if matches.get_flag("base64") {
+        BytesStyle::Base64
+    } else {
+        BytesStyle::Hexadecimal
+    }
+}
+
+/// Returns what the words of `build` have entries read from.
+fn source_of(matches: &ArgMatches<'_>) -> Source {
+    if let Some(table) = table_of(matches) {
+        Source::Table(table)
+    } else if matches.get_flag("escape") {
+        Source::Records(Records::Escaped)
+    } else if matches.get_flag("null") {
+        Source::Records(Records::Null)
+    } else if matches.get_flag("ndjson") {
+        Source::Records(Records::Json)
+    } else if matches.get_flag("json") {
+        Source::Object
+    } else {
+        Source::Lines
+    }
+}
+
+/// Returns the command over typed maps of the words of `build`.
+fn typed_build(matches: &ArgMatches<'_>) -> TypedCommand {
+    let order = if matches.get_flag("strict") {
+        Order::Increasing
+    } else {
+        Order::Any
+    };
+    TypedCommand::Build(source_of(matches), order, heading_of(matches))
+}
+
+/// Returns how the words of `list` have a list written.
+fn list_form_of(matches: &ArgMatches<'_>) -> ListForm {
+    if matches.get_flag("json") {
+        return ListForm::Object;
+    }
+    match table_of(matches) {
+        Some(table) => ListForm::Table(table),
+        None => ListForm::Lines(form_of(matches)),
+    }
+}
+
+/// Returns the command over typed maps of the matches of a subcommand. `others` are the further archives of `merge`.
+pub fn typed_command_of(
+    alloc: Global,
+    name: &str,
+    matches: &ArgMatches<'_>,
+    others: Vec<Vec<u8>>,
+) -> Result<TypedCommand, AllocError> {
+    match name {
+        "build" => Ok(typed_build(matches)),
+        "merge" => Ok(TypedCommand::Merge(others)),
+        "check" if matches.get_flag("strict") => Ok(TypedCommand::CheckStrict),
+        "check" => Ok(TypedCommand::Check),
+        "first" => Ok(TypedCommand::First(form_of(matches))),
+        "last" => Ok(TypedCommand::Last(form_of(matches))),
+        "set" => {
+            let key = owned(alloc, matches, "KEY")?;
+            let value = owned(alloc, matches, "VALUE")?;
+            Ok(TypedCommand::Set(key, value))
+        }
+        "get" => {
+            let key = owned(alloc, matches, "KEY")?;
+            Ok(TypedCommand::Get(key, form_of(matches)))
+        }
+        "range" => {
+            let low = owned(alloc, matches, "LOW")?;
+            let high = owned(alloc, matches, "HIGH")?;
+            Ok(TypedCommand::Range(low, high, form_of(matches)))
+        }
+        _ => Ok(TypedCommand::List(list_form_of(matches))),
     }
 }

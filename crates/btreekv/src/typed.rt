@@ -1,0 +1,414 @@
+//! Maps of other types than texts to texts: their types are those of the words, or those that a file's header names.
+
+use crate::lookups::{in_all, is_regular, write_stats};
+use crate::output::Output;
+use crate::progress::Progress;
+use crate::system::{Ended, Named, Names, System};
+use crate::{archives, listed, words};
+use btreearc_lines::fault::ProgramFault;
+use btreearc_lines::heading::HeadingFault;
+use btreearc_lines::streams::read_all;
+use btreekv_items::item::BytesStyle;
+use btreekv_types::command::TypedCommand;
+use btreekv_types::fault::TypedFault;
+use btreekv_types::plain_type::PlainType;
+use btreekv_types::program;
+use btreekv_types::source::Source;
+use btreekv_types::types::Types;
+use clap::ArgMatches;
+use rkyv_btree_typed::header::type_name_of;
+use std::io::{Read, Write};
+
+/// The number of bytes that are read to find a header: more than that of each type that the program knows has.
+const HEADER_LEN: u64 = 256;
+
+/// A command over maps of two types.
+#[derive(Drop)]
+struct TypedRun {
+    types: Types,
+    style: BytesStyle,
+    command: TypedCommand,
+}
+
+/// Returns the command of the words of a subcommand over maps of two types. The further archives of `merge` are read for it.
+fn typed_run(
+    system: &System<'_>,
+    types: Types,
+    name: &str,
+    matches: &ArgMatches<'_>,
+) -> Result<TypedRun, Ended> {
+    let others = match name {
+        "merge" => archives::read_each(system, matches.get_strs("OTHERS").unwrap_or(&[]))?,
+        _ => Vec::new(system.alloc()),
+    };
+    match words::typed_command_of(system.alloc(), name, matches, others) {
+        Ok(command) => Ok(TypedRun {
+            types,
+            style: words::style_of(matches),
+            command,
+        }),
+        Err(_) => Err(system.fail(Names::of_input(None), &ProgramFault::Memory)),
+    }
+}
+
+/// Runs a command over an input and an output.
+fn run_to<R: Read, W: Write>(
+    system: &System<'_>,
+    typed: &TypedRun,
+    input: &mut R,
+    output: &mut W,
+) -> Result<u8, TypedFault> {
+    program::run(
+        system.alloc(),
+        typed.types,
+        typed.style,
+        &typed.command,
+        input,
+        output,
+    )
+}
+
+/// Runs a command over an input, into a file that takes the place of an old one.
+fn run_into<R: Read>(
+    system: &System<'_>,
+    typed: &TypedRun,
+    input: &mut R,
+    path: &str,
+) -> Result<u8, TypedFault> {
+    let output = match Output::open(system, path) {
+        Ok(output) => output,
+        Err(fault) => return Err(TypedFault::Program(fault)),
+    };
+    let done = match output.file() {
+        Ok(file) => run_to(system, typed, input, &mut system.writing(file)),
+        Err(fault) => Err(TypedFault::Program(fault)),
+    };
+    match done {
+        Ok(_) => {}
+        Err(fault) => {
+            output.abandon();
+            return Err(fault);
+        }
+    }
+    match output.finish() {
+        Ok(()) => Ok(0),
+        Err(fault) => Err(TypedFault::Program(fault)),
+    }
+}
+
+/// Runs a command over an input, and the file of this name or standard output.
+fn run_over<R: Read>(
+    system: &System<'_>,
+    typed: &TypedRun,
+    input: &mut R,
+    output: Option<&str>,
+) -> Result<u8, TypedFault> {
+    match output {
+        Some(path) => run_into(system, typed, input, path),
+        None => run_to(system, typed, input, &mut system.stdout()),
+    }
+}
+
+/// Returns whether a command has the flag `--stats`.
+fn has_stats(command: &TypedCommand) -> bool {
+    match command {
+        TypedCommand::First(_) | TypedCommand::Last(_) => true,
+        TypedCommand::Get(..) | TypedCommand::Range(..) => true,
+        _ => false,
+    }
+}
+
+/// Returns the status of a run that read so many bytes, or writes the line of its error.
+fn ended(
+    system: &System<'_>,
+    typed: &TypedRun,
+    names: Names<'_>,
+    matches: &ArgMatches<'_>,
+    done: Result<u8, TypedFault>,
+    read: u64,
+) -> Result<u8, Ended> {
+    match done {
+        Ok(status) => {
+            if has_stats(&typed.command) {
+                write_stats(system, matches, read, read);
+            }
+            Ok(status)
+        }
+        Err(fault) => Err(fail(system, typed, names, matches, &fault)),
+    }
+}
+
+/// Writes the line of an error of a command over maps of two types.
+fn fail(
+    system: &System<'_>,
+    typed: &TypedRun,
+    names: Names<'_>,
+    matches: &ArgMatches<'_>,
+    fault: &TypedFault,
+) -> Ended {
+    let Types { key, value } = typed.types;
+    match fault {
+        TypedFault::Archive(number, fault) => {
+            fail_of(system, typed, name_at(matches, *number), fault)
+        }
+        TypedFault::BadKey(number) => match typed.command {
+            TypedCommand::Set(..) => bad_word(system, matches, "KEY", key),
+            _ => bad_entry(system, names, *number, "key", key),
+        },
+        TypedFault::BadValue(number) => match typed.command {
+            TypedCommand::Set(..) => bad_word(system, matches, "VALUE", value),
+            _ => bad_entry(system, names, *number, "value", value),
+        },
+        TypedFault::NoKey => bad_word(system, matches, "KEY", key),
+        TypedFault::NoLow => bad_word(system, matches, "LOW", key),
+        TypedFault::NoHigh => bad_word(system, matches, "HIGH", key),
+        TypedFault::Program(ProgramFault::Line(number)) => {
+            bad_record(system, &typed.command, names, *number)
+        }
+        TypedFault::Program(fault) => fail_of(system, typed, names, fault),
+    }
+}
+
+/// Returns the name of the archive of `merge` with this number, of which the first is number 0.
+fn name_at<'a>(matches: &ArgMatches<'a>, number: u64) -> Names<'a> {
+    let Some(index) = number.checked_sub(1) else {
+        return Names::of_input(matches.get_str("ARCHIVE"));
+    };
+    let others = matches.get_strs("OTHERS").unwrap_or(&[]);
+    Names::of_input(others.get(index as usize).copied())
+}
+
+/// Writes the line of an error of any command over maps of two types.
+fn fail_of(system: &System<'_>, typed: &TypedRun, names: Names<'_>, fault: &ProgramFault) -> Ended {
+    let Types { key, value } = typed.types;
+    match fault {
+        ProgramFault::Misheaded(HeadingFault::OtherType(found)) => {
+            let rt = system.rt;
+            let name = Named(": ", names.input);
+            let _ = eprintln!(rt;
+                "btreekv: refused{name}: the bytes are of type {found}, not [{key} -> {value} / 5]"
+            );
+            Ended::failed()
+        }
+        _ => system.fail(names, fault),
+    }
+}
+
+/// Writes the line of an entry whose key or value is no text of its type.
+fn bad_entry(
+    system: &System<'_>,
+    names: Names<'_>,
+    number: u64,
+    part: &str,
+    item: PlainType,
+) -> Ended {
+    let rt = system.rt;
+    let of = Named(" of ", names.input);
+    let _ = eprintln!(rt; "btreekv: entry {number}{of}: the {part} is no {item}");
+    Ended::failed()
+}
+
+/// Writes the line of a word that is no text of the type of keys.
+fn bad_word(
+    system: &System<'_>,
+    matches: &ArgMatches<'_>,
+    argument: &str,
+    item: PlainType,
+) -> Ended {
+    let rt = system.rt;
+    let word = matches.get_str(argument).unwrap_or("");
+    let _ = eprintln!(rt; "btreekv: {word} is no {item}");
+    Ended::failed()
+}
+
+/// Writes the line of an input's first line or record that is no entry.
+fn bad_record(system: &System<'_>, command: &TypedCommand, names: Names<'_>, number: u64) -> Ended {
+    match command {
+        TypedCommand::Build(Source::Records(form), _, _) => {
+            system.bad_record(names.input, number, *form)
+        }
+        TypedCommand::Build(Source::Table(_), _, _) => system.bad_row(names.input, number),
+        TypedCommand::Build(Source::Object, _, _) => system.no_object(names.input),
+        _ => system.fail(names, &ProgramFault::Line(number)),
+    }
+}
+
+/// Returns the files of a command.
+fn names_of<'a>(name: &str, matches: &ArgMatches<'a>) -> Names<'a> {
+    Names {
+        input: words::input_of(name, matches),
+        output: words::output_of(name, matches),
+    }
+}
+
+/// Runs a command over maps of the types that the words name.
+fn run_as(
+    system: &System<'_>,
+    types: Types,
+    name: &str,
+    matches: &ArgMatches<'_>,
+) -> Result<u8, Ended> {
+    let typed = typed_run(system, types, name, matches)?;
+    let names = names_of(name, matches);
+    match names.input {
+        None => {
+            let mut input = Progress::new(system, system.stdin()?);
+            let done = run_over(system, &typed, &mut input, names.output);
+            ended(system, &typed, names, matches, done, input.bytes_read())
+        }
+        Some(path) => {
+            let mut input = Progress::of_file(system, system.open(path)?);
+            let done = run_over(system, &typed, &mut input, names.output);
+            ended(system, &typed, names, matches, done, input.bytes_read())
+        }
+    }
+}
+
+/// Returns the types of two names.
+fn types_of(key: &str, value: &str) -> Option<Types> {
+    Some(Types {
+        key: PlainType::from_name(key)?,
+        value: PlainType::from_name(value)?,
+    })
+}
+
+/// Returns the types of words as `u32:text`.
+fn types_of_words(words: &str) -> Option<Types> {
+    let (key, value) = words.split_once(":")?;
+    types_of(key, value)
+}
+
+/// Returns the types of a map of this name, as `[u32 -> text / 5]`.
+fn types_of_map(name: &str) -> Option<Types> {
+    let (key, value) = name
+        .strip_prefix("[")?
+        .strip_suffix(" / 5]")?
+        .split_once(" -> ")?;
+    types_of(key, value)
+}
+
+/// Returns whether keys and values are texts.
+fn is_texts(types: Types) -> bool {
+    types.key == PlainType::Text && types.value == PlainType::Text
+}
+
+/// Returns the types that the header names with which bytes begin, if they are known and aren't texts to texts.
+fn header_types(bytes: &[u8]) -> Option<Types> {
+    let Ok(name) = type_name_of(bytes) else {
+        return None;
+    };
+    let types = types_of_map(name)?;
+    if is_texts(types) {
+        return None;
+    }
+    Some(types)
+}
+
+/// Reads up to the first bytes of an input, by which a header is known.
+fn first_bytes<R: Read>(
+    system: &System<'_>,
+    input: &mut Progress<'_, '_, R>,
+) -> Result<Vec<u8>, ProgramFault> {
+    let mut bytes = Vec::new(system.alloc());
+    match input.take(HEADER_LEN).read_to_end(&mut bytes) {
+        Ok(_) => Ok(bytes),
+        Err(_) => Err(ProgramFault::InputFailed),
+    }
+}
+
+/// Runs a command over an input that can't be read again, as a map of texts.
+fn run_texts<R: Read + Drop>(
+    system: &System<'_>,
+    name: &str,
+    matches: &ArgMatches<'_>,
+    mut input: Progress<'_, '_, R>,
+) -> Result<u8, Ended> {
+    let names = Names::of_input(matches.get_str("FILE"));
+    if name == "set" || name == "list" && !words::is_table(matches) {
+        let archive = match read_all(system.alloc(), &mut input) {
+            Ok(archive) => archive,
+            Err(fault) => return Err(system.fail(names, &fault)),
+        };
+        if name == "set" {
+            return archives::set_in(system, matches, names.input, &archive);
+        }
+        return listed::write(system, matches, names, &archive);
+    }
+    match in_all(system, name, matches, input) {
+        Ok(status) => Ok(status),
+        Err(fault) => Err(system.fail(names, &fault)),
+    }
+}
+
+/// Runs a command over an input that can't be read again, as a map of the types that its header names, or of texts.
+fn run_stream<R: Read + Drop>(
+    system: &System<'_>,
+    name: &str,
+    matches: &ArgMatches<'_>,
+    input: R,
+) -> Result<u8, Ended> {
+    let names = names_of(name, matches);
+    let mut input = Progress::new(system, input);
+    let first = match first_bytes(system, &mut input) {
+        Ok(first) => first,
+        Err(fault) => return Err(system.fail(names, &fault)),
+    };
+    let types = header_types(&first);
+    let mut input = input.with_first(&first);
+    let Some(types) = types else {
+        return run_texts(system, name, matches, input);
+    };
+    let typed = typed_run(system, types, name, matches)?;
+    let done = run_over(system, &typed, &mut input, names.output);
+    ended(system, &typed, names, matches, done, input.bytes_read())
+}
+
+/// Runs a command that reads an archive as a map of the types that its header names, and returns the exit status. There is none if the
+/// archive is a regular file without such a header, or the first of several and no regular file: nothing is done then.
+fn run_by_header(
+    system: &System<'_>,
+    name: &str,
+    matches: &ArgMatches<'_>,
+) -> Result<Option<u8>, Ended> {
+    let Some(path) = words::input_of(name, matches) else {
+        return Ok(Some(run_stream(system, name, matches, system.stdin()?)?));
+    };
+    let file = system.open(path)?;
+    if !is_regular(&file) {
+        if name == "merge" {
+            return Ok(None);
+        }
+        return Ok(Some(run_stream(system, name, matches, file)?));
+    }
+    let first = match first_bytes(system, &mut Progress::silent(system, file)) {
+        Ok(first) => first,
+        Err(fault) => return Err(system.fail(Names::of_input(Some(path)), &fault)),
+    };
+    match header_types(&first) {
+        Some(types) => Ok(Some(run_as(system, types, name, matches)?)),
+        None => Ok(None),
+    }
+}
+
+/// Runs a command over maps of other types than texts, if the words or the header of its input name them, and returns the exit status.
+/// There is none if they are texts: nothing is done then.
+pub fn run(system: &System<'_>, name: &str, matches: &ArgMatches<'_>) -> Result<Option<u8>, Ended> {
+    if !words::takes_types(name, matches) {
+        return Ok(None);
+    }
+    let Some(word) = matches.get_str("types") else {
+        if name == "build" {
+            return Ok(None);
+        }
+        return run_by_header(system, name, matches);
+    };
+    let Some(types) = types_of_words(word) else {
+        let rt = system.rt;
+        let _ = eprintln!(rt; "btreekv: {word} are no types KEY:VALUE");
+        return Err(Ended::failed());
+    };
+    if is_texts(types) {
+        return Ok(None);
+    }
+    Ok(Some(run_as(system, types, name, matches)?))
+}

@@ -1,0 +1,8 @@
+use Rattle.std.proofs.Common.{arith}
+use Rattle.std.specs.Int.{w32}
+use Rattle.btreekv_items.proofs.Written.{no_signed}
+use Rattle.btreekv_items.proofs.signed.ArchivedI32Item.parse.Goals as goal
+
+pub returns-clause-none : goal.returns-clause-none
+returns-clause-none c =
+    no_signed w32 c.args.text.now c.number_of.result (λ z fits. omega (arith, fits.sfits)) (λ r parses. parses.0) c.number_of.ensures.none

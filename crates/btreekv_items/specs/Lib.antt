@@ -1,0 +1,7 @@
+pub mod Bytes
+pub mod ItemTypes
+pub mod Items
+pub mod Optional
+pub mod Pairs
+pub mod Words
+pub mod laws

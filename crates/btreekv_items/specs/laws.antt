@@ -1,0 +1,11 @@
+pub mod ByteStrings
+pub mod Decimals
+pub mod Forms
+pub mod Optional
+pub mod OwnBytes
+pub mod Pairs
+pub mod Signed
+pub mod Texts
+pub mod Units
+pub mod Unsigned
+pub mod Words

@@ -1,0 +1,10 @@
+pub mod BuildFails
+pub mod Built
+pub mod Changed
+pub mod Fits
+pub mod ListWritten
+pub mod Meant
+pub mod Ordered
+pub mod Pairs
+pub mod Read
+pub mod Shown

@@ -1,0 +1,29 @@
+-- The texts of one entry more.
+use Rattle.std.proofs.Common.{◌++◌, [], ◌∷◌, append-nil, refl, sym}
+use Rattle.std.proofs.iter.Next.{Yields-more}
+use Rattle.btreekv_types.specs.Typed.{texts_shown}
+use Rattle.btreekv_types.proofs.Changed.{shown_more}
+use Rattle.btreekv_types.proofs.changing.push_all.Goals as goal
+
+pub loop-key-init : goal.loop-key-init
+loop-key-init g c = (c.requires.can, c.requires.ends, ([], refl, sym (append-nil _)))
+
+pub loop-key-preserved : goal.loop-key-preserved
+loop-key-preserved g c =
+    let before = c.loop-key.invariant in
+    let items = before.2.0 in
+    let on = c.in-Some.ensures.goes.on before.1 in
+    let shown = texts_shown (g.K.Item.spelling c.args.style) g.K.Item.value_at (g.V.Item.spelling c.args.style) g.V.Item.value_at in (
+      on.0,
+      on.1,
+      (
+        items ++ (c.in-Some.key, c.in-Some.value) ∷ [],
+        Yields-more g.I.Iterator.next_gives c.args.entries items c.loop-key.entries (c.in-Some.key, c.in-Some.value) c.next.new.self before.2.1 c.in-Some.ensures.steps,
+        shown_more shown _ _ _ items (c.in-Some.key, c.in-Some.value) before.2.2 c.in-Ok.ensures.ok,
+      ),
+    )
+
+pub returns-clause-ok : goal.returns-clause-ok
+returns-clause-ok g c =
+    let before = c.loop-key.invariant in
+    (before.2.0, (c.next.new.self, (c.loop-key.entries, before.2.1, c.in_default.ensures.steps)), before.2.2)

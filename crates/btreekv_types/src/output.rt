@@ -1,0 +1,115 @@
+//! What the commands over typed maps write.
+ghost use Rattle.std.specs.Prelude.{◌≡◌, IfErr, IfOk, IsTrue, map};
+ghost use Rattle.rkyv_btree_format.specs.Layout.{are_fitting};
+ghost use Rattle.rkyv_btree_typed.specs.TypeNames.{name_of};
+ghost use Rattle.rkyv_btree_typed.specs.TypeNames as term;
+ghost use Rattle.btreekv_types.specs.Commands.{Fails, Outputs};
+ghost use Rattle.btreekv_types.specs.Typed.{ByValues, items_by};
+ghost use Rattle.btreekv_types.specs.declared.command.TypedCommand.TheVariants.{Build};
+
+use crate::building::archive;
+use crate::changing::{merge, set};
+use crate::command::{Order, TypedCommand};
+use crate::fault::TypedFault;
+use crate::reading::{check, check_strict, first, get, last, list, range};
+use crate::source::{Source, parse_entries};
+use btreearc_lines::fault::ProgramFault;
+use btreearc_lines::heading::Heading;
+use btreekv_items::item::{BytesStyle, Item};
+use std::alloc::Global;
+
+/// Returns the archive of the entries of a text.
+fn build<K: Item, V: Item>(
+    alloc: Global,
+    style: BytesStyle,
+    source: Source,
+    order: Order,
+    heading: Heading,
+    text: &[u8],
+) -> Result<Vec<u8>, TypedFault>
+    requires { IsTrue (are_fitting K.kind V.kind 5) }
+    ensures ok { IfOk result (λ bytes.
+        ByValues K.Native.archival K.kind K.order K.value_at K.native_value
+        V.Native.archival V.kind V.order V.value_at V.native_value (λ key_to value_to.
+        Outputs K.kind V.kind (name_of (term.map K.term V.term 5))
+        (items_by K.IsValue (K.spelling style) key_to) (items_by V.IsValue (V.spelling style) value_to)
+        (Build source order heading) text.now bytes.items 0)) }
+    ensures err { IfErr result (λ fault.
+        ByValues K.Native.archival K.kind K.order K.value_at K.native_value
+        V.Native.archival V.kind V.order V.value_at V.native_value (λ key_to value_to.
+        Fails K.kind V.kind (name_of (term.map K.term V.term 5))
+        (items_by K.IsValue (K.spelling style) key_to) (items_by V.IsValue (V.spelling style) value_to)
+        K.Native.archival V.Native.archival (Build source order heading) text.now fault)) }
+{
+    let entries = match parse_entries(alloc, source, text) {
+        Ok(entries) => entries,
+        Err(fault) => return Err(TypedFault::Program(fault)),
+    };
+    archive::<K, V>(alloc, style, order, heading, entries.as_slice())
+}
+
+/// Returns what a command over maps of two types writes of an input, and its status.
+pub(crate) fn output_of<K: Item, V: Item>(
+    alloc: Global,
+    style: BytesStyle,
+    command: &TypedCommand,
+    input: &[u8],
+) -> Result<(Vec<u8>, u8), TypedFault>
+    requires { IsTrue (are_fitting K.kind V.kind 5) }
+    ensures ok { IfOk result (λ r.
+        ByValues K.Native.archival K.kind K.order K.value_at K.native_value
+        V.Native.archival V.kind V.order V.value_at V.native_value (λ key_to value_to.
+        Outputs K.kind V.kind (name_of (term.map K.term V.term 5))
+        (items_by K.IsValue (K.spelling style) key_to) (items_by V.IsValue (V.spelling style) value_to)
+        command.now input.now r.0.items r.1)) }
+    ensures err { IfErr result (λ fault.
+        ByValues K.Native.archival K.kind K.order K.value_at K.native_value
+        V.Native.archival V.kind V.order V.value_at V.native_value (λ key_to value_to.
+        Fails K.kind V.kind (name_of (term.map K.term V.term 5))
+        (items_by K.IsValue (K.spelling style) key_to) (items_by V.IsValue (V.spelling style) value_to)
+        K.Native.archival V.Native.archival command.now input.now fault)) }
+{
+    match command {
+        TypedCommand::Build(source, order, heading) => {
+            match build::<K, V>(alloc, style, *source, *order, *heading, input) {
+                Ok(bytes) => Ok((bytes, 0)),
+                Err(fault) => Err(fault),
+            }
+        }
+        TypedCommand::List(form) => match list::<K, V>(alloc, style, *form, input) {
+            Ok(text) => Ok((text, 0)),
+            Err(fault) => Err(TypedFault::Program(fault)),
+        },
+        TypedCommand::Check => match check::<K, V>(alloc, style, input) {
+            Ok(text) => Ok((text, 0)),
+            Err(fault) => Err(TypedFault::Program(fault)),
+        },
+        TypedCommand::CheckStrict => match check_strict::<K, V>(alloc, style, input) {
+            Ok(text) => Ok((text, 0)),
+            Err(fault) => Err(TypedFault::Program(fault)),
+        },
+        TypedCommand::First(form) => match first::<K, V>(alloc, style, *form, input) {
+            Ok(output) => Ok(output),
+            Err(fault) => Err(TypedFault::Program(fault)),
+        },
+        TypedCommand::Last(form) => match last::<K, V>(alloc, style, *form, input) {
+            Ok(output) => Ok(output),
+            Err(fault) => Err(TypedFault::Program(fault)),
+        },
+        TypedCommand::Get(key, form) => get::<K, V>(alloc, style, key, *form, input),
+        TypedCommand::Set(key, value) => match set::<K, V>(alloc, style, key, value, input) {
+            Ok(bytes) => Ok((bytes, 0)),
+            Err(fault) => Err(fault),
+        },
+        TypedCommand::Merge(others) => match merge::<K, V>(alloc, style, others.as_slice(), input) {
+            Ok(bytes) => Ok((bytes, 0)),
+            Err(fault) => Err(fault),
+        },
+        TypedCommand::Range(low, high, form) => {
+            match range::<K, V>(alloc, style, low, high, *form, input) {
+                Ok(text) => Ok((text, 0)),
+                Err(fault) => Err(fault),
+            }
+        }
+    }
+}
