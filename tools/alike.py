@@ -3,7 +3,8 @@
 
 A fact is said on one page, and other pages link to it. Two sentences, or cells of tables, of at least LEAST words are alike if they have three
 words in a row in common, and if at least SHARE of their words agree in order. The pages are README.md, CONTRIBUTING.md, bench/README.md and those in
-docs, without the index, which a script makes. CHANGELOG.md says what has changed, so it isn't compared. The last line is `1 passed, 0 failed`, or
+docs, without the index, which a script makes. The manuals of the two programs aren't compared with each other, since a man page is made of each.
+CHANGELOG.md says what has changed, so it isn't compared. The last line is `1 passed, 0 failed`, or
 `0 passed, 1 failed` after the pairs.
 """
 import collections
@@ -16,6 +17,7 @@ import sys
 ROOT = pathlib.Path(__file__).resolve().parent.parent
 PAGES = [ROOT / "README.md", ROOT / "CONTRIBUTING.md", ROOT / "bench" / "README.md", *sorted((ROOT / "docs").glob("*.md"))]
 MADE = {"PROOFS.md"}
+MANUALS = {ROOT / "docs" / "BTREEARC.md", ROOT / "docs" / "BTREEKV.md"}
 LEAST, SHARE = 10, 0.7
 
 
@@ -50,17 +52,18 @@ def pairs():
                 if len(words) >= LEAST:
                     for at in range(len(words) - 2):
                         places[tuple(words[at:at + 3])].append(len(said))
-                    said.append((page.relative_to(ROOT), sentence, words))
+                    said.append((page, sentence, words))
     near = {pair for found in places.values() for pair in itertools.combinations(sorted(set(found)), 2)}
     for one, other in sorted(near):
-        if said[one][0] != said[other][0] and alike(said[one][2], said[other][2]):
+        pages = {said[one][0], said[other][0]}
+        if len(pages) == 2 and pages != MANUALS and alike(said[one][2], said[other][2]):
             yield said[one][:2], said[other][:2]
 
 
 def main():
     failed = False
     for (page, sentence), (other, again) in pairs():
-        print(f"tools/alike.py: {page}: {sentence}\n    {other}: {again}", file=sys.stderr)
+        print(f"tools/alike.py: {page.relative_to(ROOT)}: {sentence}\n    {other.relative_to(ROOT)}: {again}", file=sys.stderr)
         failed = True
     print(f"{int(not failed)} passed, {int(failed)} failed")
     return int(failed)

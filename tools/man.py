@@ -1,8 +1,8 @@
 #!/usr/bin/env python3
-"""Makes the man pages of the programs, as docs/btreearc.1, of docs/PROGRAMS.md: tools/man.py [--check]
+"""Makes the man pages of the programs, as docs/btreearc.1, of their pages, as docs/BTREEARC.md: tools/man.py [--check]
 
-A man page has the program's part of the page, and the part on both programs. Headings become sections, and tables become lists: the first cell
-of a row is the term. With --check nothing is written, and the status is 1 if a man page is stale, which a line names.
+The title of a page is the program's name and what it does. Headings become sections, and tables become lists: the first cell of a row is the term.
+With --check nothing is written, and the status is 1 if a man page is stale, which a line names.
 """
 import pathlib
 import re
@@ -10,7 +10,6 @@ import sys
 
 DOCS = pathlib.Path(__file__).resolve().parent.parent / "docs"
 PROGRAMS = ("btreearc", "btreekv")
-SHARED = "Both programs\n"
 
 
 def escaped(text):
@@ -35,20 +34,14 @@ def table(rows):
         yield f".TP\n{inline(cells[0])}\n{rest}"
 
 
-def parts_of(page):
-    """Returns what the page has on each program, by its name: what the program does, and the text with that on both programs."""
-    parts = re.split(r"^## ", page, flags=re.M)[1:]
-    shared = "".join(part.removeprefix(SHARED) for part in parts if part.startswith(SHARED))
-    titles = [part.partition("\n") for part in parts if not part.startswith(SHARED)]
-    return {title.partition(": ")[0]: (title.partition(": ")[2], text + shared) for title, _, text in titles}
-
-
-def roff(name, about, text):
+def roff(name, page):
     """Returns the man page of a program."""
+    title, _, text = page.partition("\n")
+    about = title.removeprefix(f"# {name}: ")
     lines = [f'.TH {name.upper()} 1', ".SH NAME", f"{name} \\- {escaped(about)}"]
     for part in re.split(r"\n\n+", text.strip()):
-        if part.startswith("### "):
-            lines.append(f".SH {part[4:].upper()}")
+        if part.startswith("## "):
+            lines.append(f".SH {part[3:].upper()}")
         elif part.startswith("```"):
             body = "\n".join(escaped(line) for line in part.splitlines()[1:-1])
             lines.append(f".PP\n.nf\n.RS 4\n{body}\n.RE\n.fi")
@@ -64,9 +57,9 @@ def roff(name, about, text):
 
 
 def main(words):
-    stale, parts = 0, parts_of((DOCS / "PROGRAMS.md").read_text())
+    stale = 0
     for program in PROGRAMS:
-        made, man = roff(program, *parts[program]), DOCS / f"{program}.1"
+        made, man = roff(program, (DOCS / f"{program.upper()}.md").read_text()), DOCS / f"{program}.1"
         if words != ["--check"]:
             man.write_text(made)
         elif not man.exists() or man.read_text() != made:

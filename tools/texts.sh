@@ -979,7 +979,7 @@ sys.exit(child.wait() != 0 or b" bytes read" not in os.read(ours, 1000))
 { head -c 8 archive; sleep 1.3; tail -c +9 archive; } | "$program" check > written 2> said
 [[ $(cat written) == 'ok 20000 entries' && ! -s said ]] || fail "no terminal: on standard error: $(cat said)"
 
-# The recipes of the page on programs: each line after `$ ` is run by a shell, and prints the lines that follow it.
+# The recipes of the manual: each line after `$ ` is run by a shell, and prints the lines that follow it.
 mkdir recipes bin
 ln -s "$program" bin/btreekv
 cat > recipes.py <<'E'
@@ -997,7 +997,7 @@ for block in re.findall(r"^```console\n(.*?)^```$", open(page, encoding="utf-8")
 if commands < 20:
     sys.exit(f"only {commands} commands of recipes")
 E
-python3 recipes.py "$tools/../docs/PROGRAMS.md" "$work/bin" 2> said || fail "$(cat said)"
+python3 recipes.py "$tools/../docs/BTREEKV.md" "$work/bin" 2> said || fail "$(cat said)"
 
 # a reader that goes away ends the program with the status of SIGPIPE, and no line
 leaves() {
