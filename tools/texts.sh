@@ -604,6 +604,8 @@ held=$(($(stat -c %s large) / 1024 + 8192))
 python3 resident.py $held "$program" list large 2>> said | cmp -s - million || fail "a million lines: listed otherwise"
 python3 resident.py $held "$program" list --json large 2>> said | tail -c 32 | grep -q '^.*,"1999999":"value of 1999999"}$' ||
     fail "a million lines: another JSON object"
+python3 resident.py $held "$program" list --tsv large 2>> said | cmp -s - <(printf 'key\tvalue\n' && cat million) ||
+    fail "a million lines: another table"
 [[ $(python3 resident.py $held "$program" check --strict large 2>> said) == 'ok 1000000 entries' ]] || fail "a million lines: not checked"
 [[ ! -s said ]] || fail "a million lines: on standard error: $(cat said)"
 [[ $(resident get --stats 1500000 large 2> said) == 'value of 1500000' ]] || fail "a million lines: another value: $(cat said)"

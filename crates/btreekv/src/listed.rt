@@ -2,9 +2,9 @@
 
 use crate::archives::read;
 use crate::system::{Ended, Names, System};
-use crate::words::form_of;
+use crate::words::{form_of, table_of};
 use btreearc_lines::fault::ProgramFault;
-use btreekv_commands::list::{list, list_object};
+use btreekv_commands::list::{list, list_object, list_table};
 use clap::ArgMatches;
 use std::io::BufWriter;
 
@@ -22,9 +22,11 @@ fn write_entries(
         return Err(ProgramFault::Memory);
     };
     if matches.get_flag("json") {
-        list_object(alloc, archive, &mut output)
-    } else {
-        list(alloc, archive, form_of(matches), &mut output)
+        return list_object(alloc, archive, &mut output);
+    }
+    match table_of(matches) {
+        Some(table) => list_table(alloc, archive, table, &mut output),
+        None => list(alloc, archive, form_of(matches), &mut output),
     }
 }
 

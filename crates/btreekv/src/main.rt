@@ -239,7 +239,7 @@ fn status(system: &System<'_>) -> Result<u8, Ended> {
         "diff" => archives::diff(system, matches),
         "top" => archives::top(system, matches),
         "explain" => explained::run(system, matches),
-        "list" if !words::is_table(matches) => listed::run(system, matches),
+        "list" => listed::run(system, matches),
         "get" => lookups::get(system, matches),
         "first" | "last" | "range" | "prefix" => ranges::run(system, name, matches),
         _ => one_file(system, name, matches),

@@ -324,7 +324,7 @@ fn run_texts<R: Read + Drop>(
     mut input: Progress<'_, '_, R>,
 ) -> Result<u8, Ended> {
     let names = Names::of_input(matches.get_str("FILE"));
-    if name == "set" || name == "list" && !words::is_table(matches) {
+    if name == "set" || name == "list" {
         let archive = match read_all(system.alloc(), &mut input) {
             Ok(archive) => archive,
             Err(fault) => return Err(system.fail(names, &fault)),

@@ -500,7 +500,7 @@ fn heading_of(matches: &ArgMatches<'_>) -> Heading {
 }
 
 /// Returns how the table is that a command reads or writes, if it is one.
-fn table_of(matches: &ArgMatches<'_>) -> Option<Table> {
+pub fn table_of(matches: &ArgMatches<'_>) -> Option<Table> {
     if matches.get_flag("csv") {
         Some(Table::Csv)
     } else if matches.get_flag("tsv") {
@@ -508,11 +508,6 @@ fn table_of(matches: &ArgMatches<'_>) -> Option<Table> {
     } else {
         None
     }
-}
-
-/// Returns whether a command reads or writes a table.
-pub fn is_table(matches: &ArgMatches<'_>) -> bool {
-    table_of(matches).is_some()
 }
 
 /// Returns the command of the words of `build`.
@@ -552,7 +547,6 @@ pub fn command_of(
             }
             Ok(command::Command::Check)
         }
-        "stat" => Ok(command::Command::Stat),
         "first" => Ok(command::Command::First(form)),
         "last" => Ok(command::Command::Last(form)),
         "get" => {
@@ -568,8 +562,7 @@ pub fn command_of(
             let text = owned(alloc, matches, "TEXT")?;
             Ok(command::Command::Prefix(text, form))
         }
-        _ if matches.get_flag("csv") => Ok(command::Command::ListTable(Table::Csv)),
-        _ => Ok(command::Command::ListTable(Table::Tsv)),
+        _ => Ok(command::Command::Stat),
     }
 }
 

@@ -18,7 +18,7 @@ use Rattle.btreearc_lines.specs.declared.fault.ProgramFault.TheVariants.{Line, R
 use Rattle.btreearc_lines.specs.Headings.{IsMisheaded}
 use Rattle.btreearc_lines.specs.declared.heading.Heading.{Heading}
 use Rattle.btreekv_commands.specs.Building.{last_values, IsBuilt, IsBuiltMap, IsUnbuilt, IsUnbuiltInOrder, IsUnbuiltMap}
-use Rattle.btreekv_commands.specs.CsvRecords.{AreTableEntries, IsBadRow, table_text}
+use Rattle.btreekv_commands.specs.CsvRecords.{AreTableEntries, IsBadRow}
 use Rattle.btreekv_commands.specs.Figures.{archive_figures, figures}
 use Rattle.btreekv_commands.specs.Forms.{entry_line, text_in, value_line}
 use Rattle.btreekv_commands.specs.declared.forms.Form.{Form}
@@ -30,7 +30,7 @@ use Rattle.btreekv_commands.specs.Records.{AreRecords, IsBadRecord}
 use Rattle.btreekv_commands.specs.declared.csv_records.Table.{Table}
 use Rattle.btreekv_commands.specs.declared.records.Records.{Records}
 use Rattle.btreekv_commands.specs.declared.command.Command.{Command}
-use Rattle.btreekv_commands.specs.declared.command.Command.TheVariants.{Build, BuildFrom, BuildJson, BuildStrict, BuildSorted, BuildTable, ListTable}
+use Rattle.btreekv_commands.specs.declared.command.Command.TheVariants.{Build, BuildFrom, BuildJson, BuildStrict, BuildSorted, BuildTable}
 use Rattle.btreekv_commands.specs.declared.command.Command.TheVariants.{Check, CheckStrict, First, Get, Last, Prefix, Range, Stat}
 
 -- the line of an archive of so many entries
@@ -79,7 +79,6 @@ Outputs (BuildTable table heading) input text status =
     × IsBuiltMap heading text (last_values entries) × KeysIncrease (last_values entries))
 Outputs (BuildJson heading) input text status =
     (status ≡ 0) × ((entries : List Entry) × IsJsonObject input entries × IsBuiltMap heading text entries × KeysIncrease entries)
-Outputs (ListTable table) input text status = (status ≡ 0) × ((entries : List Entry) × IsInput input entries × (text ≡ table_text table entries))
 Outputs Check input text status = (status ≡ 0) × ((entries : List Entry) × IsInput input entries × (text ≡ total (length entries)))
 Outputs CheckStrict input text status = (status ≡ 0) × ((count : ℕ) × CountsStrict input count × (text ≡ total count))
 Outputs Stat input text status =

@@ -1,7 +1,6 @@
 -- Tables of two columns, as CSV or TSV. The crate `csv` says what the records of a text are, and what the text of a record is.
 use Rattle.std.specs.Prelude.{◌≡◌, ℕ, ◌+◌, List, [], ◌∷◌, ◌++◌, Option, Some, false, Vec, if◌then◌else◌}
 use Rattle.std.specs.Prelude.{IsUtf8, codes, flat_map, length, map}
-use Rattle.std.specs.Iterator.{Drains}
 use Rattle.std.specs.declared.alloc.Global.{Global}
 use Rattle.csv.specs.Reading.{AreRecords, Reached, default_config, is_io, strip_bom}
 use Rattle.csv.specs.Writing.{default_writer, fields_written, has_written, row_text, text_written, with_delimiter, writer_setup}
@@ -88,14 +87,13 @@ entry_row table e = row_text (writing table) (e.0 ∷ e.1 ∷ [])
 abbrev pub header : Entry
 header = (codes "key", codes "value")
 
+-- a record an entry
+abbrev pub rows_text : Table → List Entry → List ℕ
+rows_text table entries = flat_map (entry_row table) entries
+
 -- the text of a table: the header, and a record an entry
 abbrev pub table_text : Table → List Entry → List ℕ
-table_text table entries = flat_map (entry_row table) (header ∷ entries)
-
--- bytes are the text of a table of the entries that an iterator's items show
-abbrev pub ShowsTable : {S A : Type 0} → Table → (S → Option A → S → Type 0) → (A → Entry) → S → List ℕ → Type 0
-ShowsTable {S} {A} table steps shows start text =
-    (items : List A) × Drains steps start items × (text ≡ table_text table (map shows items))
+table_text table entries = rows_text table (header ∷ entries)
 
 -- a writer of a table is between two records, and has written this text
 pub record HasWritten (table : Table) (writer : Writer (Vec ℕ Global)) (written : List ℕ) : Type 0 where

@@ -20,8 +20,6 @@ pub enum Command {
     BuildTable(Table, Heading),
     /// Archive the members of the input's JSON object in increasing order of their keys. Of equal keys the last value counts.
     BuildJson(Heading),
-    /// Write the entries of the input's archive as a table.
-    ListTable(Table),
     /// Write how many entries the input's archive has.
     Check,
     /// Write how many entries the input's archive has, whose keys must increase.

@@ -1,13 +1,11 @@
 //! Tables of two columns as CSV and TSV, whose first record names the columns.
 ghost use Rattle.std.specs.Prelude.{◌≡◌, ◌++◌, ℕ, [], IfOk, IfErr, IfSome, IfNone, IsUtf8, List, OnOk, Some, map, string_bytes, true};
-ghost use Rattle.std.specs.Iterator.{IsFinite};
 ghost use Rattle.std.specs.List.{AllByRecursion};
 ghost use Rattle.csv.specs.Reading.{Ready, error_kind, is_flexible, reader_config, reader_state, reader_trim, source_of, stops_reader, strip_bom};
 ghost use Rattle.csv.specs.Records.{field_at, fields_of};
 ghost use Rattle.csv.specs.declared.parser.State.TheVariants.{StartRecord};
 ghost use Rattle.csv.specs.declared.reader.Trim.TheVariants as trims;
-ghost use Rattle.rkyv_btree_view.specs.View.{view_entry};
-ghost use Rattle.btreekv_commands.specs.CsvRecords.{AreTableEntries, HasWritten, IsBadRow, IsPair, IsTable, IsTableFault, ShowsTable};
+ghost use Rattle.btreekv_commands.specs.CsvRecords.{AreTableEntries, HasWritten, IsBadRow, IsPair, IsTable, IsTableFault};
 ghost use Rattle.btreekv_commands.specs.CsvRecords.{delimiter_of, entry_row, reading, stop_of, table_text};
 ghost use Rattle.btreekv_commands.specs.Lines.{Entry};
 ghost use Rattle.btreekv_commands.specs.Records.{AreUtf8};
@@ -15,8 +13,6 @@ ghost use Rattle.btreekv_commands.specs.Texts.{texts_of};
 
 use btreearc_lines::fault::ProgramFault;
 use csv::{ByteRecord, Error, Reader, ReaderBuilder, Writer, WriterBuilder};
-use rkyv_btree_portable::text::ArchivedText;
-use rkyv_btree_view::view::View;
 use std::alloc::Global;
 use std::str::from_utf8;
 
@@ -213,29 +209,24 @@ pub fn write_pair(writer: &mut Writer<Vec<u8>>, key: &str, value: &str) -> Resul
     }
 }
 
-/// Returns the table of the entries of an iterator, in their order: the record `key,value`, and a record an entry.
+/// Returns the record of two texts, with what ends it.
 ///
 /// # Errors
 ///
 /// `Memory` if an allocation fails.
-pub fn table_of<'a, I: Iterator<Item = (View<'a, ArchivedText>, View<'a, ArchivedText>)>>(
+pub(crate) fn row_of(
     alloc: Global,
     table: Table,
-    mut entries: I,
+    key: &str,
+    value: &str,
 ) -> Result<Vec<u8>, ProgramFault>
-    requires can { I.can_next entries }
-    requires ends { IsFinite (I.remaining entries) }
-    ensures ok { IfOk result (λ text.
-        ShowsTable table I.next_gives view_entry entries text.items) }
+    ensures ok { IfOk result (λ row. row.items ≡ entry_row table (key.now, value.now)) }
     ensures err { IfErr result (λ fault. fault ≡ ProgramFault.Memory) }
 {
     let mut writer = writer_of(alloc, table);
-    write_pair(&mut writer, "key", "value")?;
-    while let Some((key, value)) = entries.next() {
-        write_pair(&mut writer, key.as_str(), value.as_str())?;
-    }
+    write_pair(&mut writer, key, value)?;
     match writer.into_inner() {
-        Ok(text) => Ok(text),
+        Ok(row) => Ok(row),
         Err(_) => Err(ProgramFault::Memory),
     }
 }

@@ -1,13 +1,15 @@
 //! Archives that are listed entry by entry.
 ghost use Rattle.std.specs.Prelude.{◌≡◌, ◌++◌, OnOk, IfErr};
-ghost use Rattle.std.specs.Io.KnownBytes.{Keeps};
+ghost use Rattle.std.specs.Io.KnownBytes.{Appends, Keeps};
 ghost use Rattle.std.specs.Iterator.{IsFinite};
 ghost use Rattle.rkyv_btree_view.specs.View.{view_entry};
 ghost use Rattle.btreearc_lines.specs.Faults.{IsWriteFault};
+ghost use Rattle.btreekv_commands.specs.CsvRecords.{entry_row, rows_text, table_text};
 ghost use Rattle.btreekv_commands.specs.Forms.{entry_line, text_in};
 ghost use Rattle.btreekv_commands.specs.Json.{json_line, member, members};
 ghost use Rattle.btreekv_commands.specs.List.{FailsToList, Lists, StreamsEntries};
 
+use crate::csv_records::{Table, row_of};
 use crate::forms::{Form, push_entry};
 use crate::json_text::push_member;
 use crate::opening::open;
@@ -125,6 +127,52 @@ fn stream_members<
     Ok(())
 }
 
+/// Writes the record of two texts.
+///
+/// # Errors
+///
+/// `OutputFailed` if the writer fails, or there is no memory for the record.
+fn write_row<W: Write>(
+    alloc: Global,
+    table: Table,
+    key: &str,
+    value: &str,
+    output: &mut W,
+) -> Result<(), ProgramFault>
+    ensures ok { OnOk result (Appends (W.contents output.old) (W.contents output.new)
+        (entry_row table (key.now, value.now))) }
+    ensures err { IfErr result IsWriteFault }
+{
+    let Ok(row) = row_of(alloc, table, key, value) else {
+        return Err(ProgramFault::OutputFailed);
+    };
+    write_all(output, &row)?;
+    Ok(())
+}
+
+/// Writes a record for each entry.
+///
+/// # Errors
+///
+/// As of `stream_entries`.
+fn stream_rows<'a, I: Iterator<Item = (View<'a, ArchivedText>, View<'a, ArchivedText>)>, W: Write>(
+    alloc: Global,
+    table: Table,
+    mut entries: I,
+    output: &mut W,
+) -> Result<(), ProgramFault>
+    requires can { I.can_next entries }
+    requires ends { IsFinite (I.remaining entries) }
+    ensures ok { OnOk result (StreamsEntries (rows_text table) I.next_gives view_entry entries
+        (W.contents output.old) (W.contents output.new)) }
+    ensures err { IfErr result IsWriteFault }
+{
+    while let Some((key, value)) = entries.next() {
+        write_row(alloc, table, key.as_str(), value.as_str(), output)?;
+    }
+    Ok(())
+}
+
 /// Writes the entries of an archive, in their order. In memory is one of them at a time.
 ///
 /// # Errors
@@ -166,6 +214,30 @@ pub fn list_object<W: Write>(
     write_all(output, b"{")?;
     stream_members(alloc, map.iter(), output)?;
     write_all(output, b"}\n")?;
+    flush(output)?;
+    Ok(())
+}
+
+/// Writes the table of the entries of an archive, in their order: the record `key,value`, and a record an entry. In memory is one of
+/// them at a time.
+///
+/// # Errors
+///
+/// As of `list`.
+pub fn list_table<W: Write>(
+    alloc: Global,
+    archive: &[u8],
+    table: Table,
+    output: &mut W,
+) -> Result<(), ProgramFault>
+    ensures ok { OnOk result
+        (Lists (table_text table) archive.now (W.contents output.old) (W.contents output.new)) }
+    ensures err { IfErr result
+        (FailsToList archive.now (W.contents output.new ≡ W.contents output.old)) }
+{
+    let map = open(archive)?;
+    write_row(alloc, table, "key", "value", output)?;
+    stream_rows(alloc, table, map.iter(), output)?;
     flush(output)?;
     Ok(())
 }

@@ -1,12 +1,12 @@
 //! The commands over a reader and a writer.
 ghost use Rattle.std.specs.Prelude.{◌≡◌, IfOk, IfErr, string_bytes};
 ghost use Rattle.btreekv_commands.specs.Commands.{Does, Fails, FailsToBuild, FailsToRead, Outputs, total};
-ghost use Rattle.btreekv_commands.specs.declared.command.Command.TheVariants.{Build, BuildFrom, BuildJson, BuildStrict, BuildSorted, BuildTable, ListTable};
+ghost use Rattle.btreekv_commands.specs.declared.command.Command.TheVariants.{Build, BuildFrom, BuildJson, BuildStrict, BuildSorted, BuildTable};
 ghost use Rattle.btreekv_commands.specs.declared.command.Command.TheVariants.{Check, CheckStrict, First, Get, Last, Prefix, Range, Stat};
 
 use crate::building;
 use crate::command::Command;
-use crate::csv_records::{Table, parse_table, table_of};
+use crate::csv_records::{Table, parse_table};
 use crate::entries::{check_order, count_lines};
 use crate::figures::figures_of;
 use crate::forms::{Form, push_value};
@@ -22,15 +22,6 @@ use btreearc_lines::streams::{read_all, write_all};
 use std::alloc::Global;
 use std::io::{Read, Write};
 use std::ops::Bound;
-
-/// Returns the table of the entries of an archive.
-fn list_table(alloc: Global, archive: &[u8], table: Table) -> Result<Vec<u8>, ProgramFault>
-    ensures ok { IfOk result (λ text. Outputs (ListTable table) archive.now text.items 0) }
-    ensures err { IfErr result (Fails (ListTable table) archive.now) }
-{
-    let map = open(archive)?;
-    table_of(alloc, table, map.iter())
-}
 
 /// Returns the line of an archive of so many entries.
 ///
@@ -250,7 +241,6 @@ fn output_of(alloc: Global, command: &Command, input: &[u8]) -> Result<(Vec<u8>,
             Ok((build_table(alloc, *table, *heading, input)?, 0))
         }
         Command::BuildJson(heading) => Ok((build_json(alloc, *heading, input)?, 0)),
-        Command::ListTable(table) => Ok((list_table(alloc, input, *table)?, 0)),
         Command::Check => Ok((check(alloc, input)?.into_bytes(), 0)),
         Command::CheckStrict => Ok((check_strict(alloc, input)?.into_bytes(), 0)),
         Command::Stat => Ok((stat(alloc, input)?.into_bytes(), 0)),
