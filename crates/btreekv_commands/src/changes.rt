@@ -32,7 +32,7 @@ fn change_of(line: &[u8]) -> Option<(&str, Change<&str>)>
 /// # Errors
 ///
 /// `Line` with the number of the first line that is no change, and `Memory` if an allocation fails.
-fn parse_changes(alloc: Global, bytes: &[u8]) -> Result<Vec<(&str, Change<&str>)>, UpdateFault>
+pub fn parse_changes(alloc: Global, bytes: &[u8]) -> Result<Vec<(&str, Change<&str>)>, UpdateFault>
     ensures ok { IfOk result (λ found.
         AreChanges bytes.now (changes_meant (λ k. k.now) (λ v. v.now) found.items)) }
     ensures err { IfErr result (IsChangeFault bytes.now) }

@@ -3,7 +3,7 @@
 #![tactic(auto)]
 
 pub mod building;
-mod changes;
+pub mod changes;
 pub mod command;
 pub mod csv_records;
 pub mod differences;
