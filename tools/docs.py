@@ -111,7 +111,7 @@ def wrong_promises():
         for part in cells[-1].split(";"):
             calls, _, clauses = part.partition(": ")
             for call in re.findall(r"`([\w:]+)`", calls):
-                found = [index[title] for title in index if f"::{title}".endswith(f"::{call.removeprefix('btreearc_commands::')}")]
+                found = [index[title] for title in index if f"::{title}".endswith(f"::{re.sub('^btree(arc_commands|kv_types)::', '', call)}")]
                 missed = set(re.findall(r"`(\w+)`", clauses)) - set().union(*found)
                 if not found or missed:
                     yield f"docs/GUARANTEES.md: the index has no `{call}` with {', '.join(sorted(missed)) or 'a contract'}"
