@@ -159,11 +159,54 @@ ends 2 'btreekv: entry 2: the key is no u32'       '1\ta\n01\tb\n'            ''
 ends 2 'btreekv: entry 1: the value is no u32'     'a\t-1\nb\tx\n'            ''                            build --types text:u32
 ends 2 'btreekv: line 2: not KEY TAB VALUE'        '1\ta\n2\n'                 ''                            build --types u32:text
 ends 2 'btreekv: refused: the bytes are of type [u32 -> text / 5], not [text -> u32 / 5]' "$numbers" ''      list --types text:u32
-ends 2 'btreekv: refused: the bytes are of type [u32 -> text / 5], not [text -> text / 5]' "$numbers" ''     prefix 1
+ends 0 ''                                          "$numbers"                  '10\tTEN\n'                 prefix 1
 ends 2 'btreekv: refused: the bytes are of type [u32 -> text / 5], not [text -> text / 5]' "$numbers" ''     stat
 ends 2 'btreekv: u32 are no types KEY:VALUE'       ''                          ''                            build --types u32
 ends 2 'btreekv: u32:number are no types KEY:VALUE' ''                         ''                            build --types u32:number
-ends 0 ''                                          'b\t1\na\t2\n'              "$(archive_of 'b\t1\na\t2\n')" build --types text:text
+ends 0 ''                                          'b\t1\na\t2\n'              "$(archive_of 'a\t2\nb\t1\n')" build --types text:text
+
+# options and pairs
+options=$(archive_of '10\t7\n9\t\n' --types 'u32:option(u64)')
+stops=$(archive_of 'b\t45,Bern, Wankdorf\na\t30,\n' --types 'text:(u32, text)')
+months=$(archive_of '2026,10\t155\n2026,9\t-1\n' --types '(u32, u32):i64')
+ends 0 ''                                          "$options"                  '9\t\n10\t7\n'             list
+ends 0 ''                                          "$options"                  '{"9":"","10":"7"}\n'        list --json
+ends 0 ''                                          "$options"                  '\n'                         get 9
+ends 0 ''                                          "$options"                  '7\n'                        get 10
+ends 0 ''                                          "$options"                  "$(archive_of '9\t0\n10\t7\n' --types 'u32:option(u64)')" set 9 0
+ends 2 'btreekv: none is no option(u64)'           "$options"                  ''                           set 9 none
+ends 2 'btreekv: refused: the bytes are of type [u32 -> option(u64) / 5], not [text -> text / 5]' "$options" '' stat
+ends 2 'btreekv: refused: the bytes are of type [u32 -> option(u64) / 5], not [u32 -> u64 / 5]' "$options" '' list --types u32:u64
+ends 0 ''                                          "$stops"                    'a\t30,\nb\t45,Bern, Wankdorf\n' list
+ends 0 ''                                          "$stops"                    '45,Bern, Wankdorf\n'        get b
+ends 2 'btreekv: 45 is no (u32, text)'             "$stops"                    ''                           set b 45
+ends 0 ''                                          "$months"                   '2026,9\t-1\n2026,10\t155\n' list
+ends 0 ''                                          "$months"                   '2026,10\t155\n'            last
+ends 0 ''                                          "$months"                   '2026,9\t-1\n'              range 2025,12 2026,9
+ends 2 'btreekv: 2026, 9 is no (u32, u32)'         "$months"                   ''                           get '2026, 9'
+ends 2 'btreekv: entry 2: the key is no (u32, u32)' '1,2\t3\n1\t2\n'          ''                           build --types '(u32, u32):u8'
+ends 2 'btreekv: entry 1: the value is no option(i64)' '1\t-0\n'              ''                           build --types 'u8:option(i64)'
+
+# each type that the program has maps of: the lesser of two entries comes first; a pair as key goes with no option and no pair, and an
+# option is no key
+plain=(u8 u16 u32 u64 i32 i64 text bytes)
+numbered=('option(u32)' 'option(u64)' 'option(i64)')
+paired=('(u32, u32)' '(u64, u64)' '(u32, text)')
+declare -A low=([i32]=-10 [i64]=-10 [text]=10 [bytes]=0f ['option(u32)']='' ['option(u64)']='' ['option(i64)']=-3 ['(u32, u32)']=9,10 ['(u64, u64)']=9,10 ['(u32, text)']=9,b)
+declare -A high=([i32]=-9 [i64]=9 [text]=9 [bytes]=1e ['option(u32)']=0 ['option(u64)']=4 ['option(i64)']=5 ['(u32, u32)']=10,9 ['(u64, u64)']=10,9 ['(u32, text)']=10,a)
+for key in "${plain[@]}" "${paired[@]}" "${numbered[@]}"; do
+    for value in "${plain[@]}" "${numbered[@]}" "${paired[@]}"; do
+        if [[ $key == option* || $key == *,* && $value == *'('* ]]; then
+            ends 2 "btreekv: $key:$value are no types KEY:VALUE" '' '' build --types "$key:$value"
+            continue
+        fi
+        first="${low[$key]-9}\t${high[$value]-200}\n"
+        second="${high[$key]-10}\t${low[$value]-7}\n"
+        archive=$(archive_of "$second$first" --types "$key:$value")
+        ends 0 '' "$archive" "$first$second" list
+        ends 0 '' "$archive" 'ok 2 entries\n' check --strict --types "$key:$value"
+    done
+done
 
 # forms: each line that --escape writes is read back, and so is each entry that --null writes
 odd='{"key":"a\\tb","value":"c\\nd\\\\e"}'
@@ -407,6 +450,23 @@ ends 2 'btreekv: refused: huge: buffer is longer than 4294967295 bytes' '' '' fi
 ends 2 'btreekv: refused: huge: buffer is longer than 4294967295 bytes' '' '' last huge
 ends 2 'btreekv: refused: huge: buffer is longer than 4294967295 bytes' '' '' prefix pear huge
 rm huge
+
+# maps of other types: of options and pairs all of a file is read, and of others a part
+printf '%b' "$numbers" > numbers
+printf '%b' "$options" > options
+printf '%b' "$months" > months
+size=$(stat -c %s options)
+ends 0 "btreekv: $size of $size bytes read" '' '7\n' get --stats 10 options
+ends 0 '' '' '10\tTEN\n' prefix 1 numbers
+ends 0 '' '' '2026,9\t-1\n' first months
+ends 0 '' '' '2026,9\t-1\n' range 2025,12 2026,9 months
+ends 0 '' '' '2026,10\t155\n' prefix 2026,1 months
+ends 1 '' '' '10\tTEN\n' get 10 11 numbers
+ends 2 'btreekv: 010 is no u32' '' '' get 9 010 numbers
+ends 2 "btreekv: several keys aren't looked up in a map of type [u32 -> option(u64) / 5]" '' '' get 9 10 options
+ends 0 '' '9\t\n10\n' "$(archive_of '9\t\n' --types 'u32:option(u64)')" update options
+ends 2 'btreekv: line 1: the value is no option(u64)' '9\tx\n' '' update options
+ends 2 'btreekv: line 1: the key is no (u32, u32)' '9\tx\n' '' update months
 
 # Many keys: a line for each that is found, in their order.
 printf 'pear\n\nbanana\nfig\npear' > keys
@@ -826,8 +886,144 @@ refuses 'btreekv: refused: tens: the bytes are of type [u32 -> text / 5], not [t
 refuses 'btreekv: input failed: absent: No such file or directory (os error 2)' '' merge tens absent
 "$program" set 9 NINE tens -o tens && "$program" get 9 tens | cmp -s - <(echo NINE) || fail "a set number: another value"
 refuses 'btreekv: ten is no u32' '' set ten 10 tens
-refuses 'btreekv: refused: hundreds: the bytes are of type [u32 -> text / 5], not [text -> text / 5]' '' get 10 200 hundreds
-refuses "error: the argument '--types <KEY:VALUE>' cannot be used with '[MORE]...'" '' get --types u32:text 10 200 hundreds
+"$program" get 10 200 hundreds | cmp -s - hundreds.lines || fail "get of two numbers: another text"
+
+# values in place: one value's bytes are others, and what is expected is built of other lines
+printf 'apple\t3\nfig\t4294967295\npear\t5\n' > counts.lines
+for type in u8 u16 u32 u64 i32 i64; do
+    sed 's/4294967295/7/' counts.lines | "$program" build --types text:$type > counts
+    sed 's/4294967295/7/; s/pear\t5/pear\t127/' counts.lines | "$program" build --types text:$type > expected
+    "$program" set --in-place pear 127 counts > written 2> said || fail "set --in-place of $type: $(cat said)"
+    cmp -s counts expected && [[ ! -s written && ! -s said ]] || fail "set --in-place of $type: another file"
+done
+for type in i32 i64; do
+    printf 'a\t-1\nb\t2\n' | "$program" build --types text:$type > counts
+    printf 'a\t-1\nb\t-2147483648\n' | "$program" build --types text:$type > expected
+    "$program" set --in-place b -2147483648 counts && cmp -s counts expected || fail "set --in-place of $type: another file"
+done
+"$program" build --types text:u32 --untyped counts.lines > bare_counts
+sed 's/fig\t.*/fig\t0/' counts.lines | "$program" build --types text:u32 --untyped > expected
+"$program" set --in-place --types text:u32 fig 0 bare_counts && cmp -s bare_counts expected || fail "set --in-place without a header: another file"
+awk 'BEGIN { for (i = 0; i < 20000; i++) printf "%d\t%d\n", i, 3 * i }' | "$program" build --types u32:u64 > many_counts
+awk 'BEGIN { for (i = 0; i < 20000; i++) printf "%d\t%s\n", i, i == 12345 ? "18446744073709551615" : 3 * i }' | "$program" build --types u32:u64 > expected
+cp -p many_counts linked_counts; chmod 640 linked_counts; ln linked_counts other_counts
+"$program" set 12345 18446744073709551615 --in-place linked_counts && cmp -s other_counts expected || fail "set --in-place of 20000 numbers: another file"
+[[ $(stat -c %a linked_counts) == 640 ]] || fail "set --in-place: another mode"
+"$program" build --types text:u32 counts.lines > counts
+keeps() {
+    local line=$1 status=$2 file=$3; shift 3; cp "$file" before
+    "$program" set --in-place "$@" > written 2> said && fail "set --in-place $*: status 0"
+    [[ $? == "$status" ]] || fail "set --in-place $*: another status"
+    [[ $(cat said) == "$line" && ! -s written ]] || fail "set --in-place $*: $(cat said)"
+    cmp -s "$file" before || fail "set --in-place $*: another file"
+}
+"$program" build counts.lines > count_texts
+keeps 'btreekv: not written: counts: no entry has the key lime' 1 counts lime 1 counts
+keeps 'btreekv: 4294967296 is no u32' 2 counts pear 4294967296 counts
+keeps 'btreekv: 05 is no u32' 2 counts pear 05 counts
+keeps 'btreekv: x is no u32' 2 many_counts x 5 many_counts
+keeps 'btreekv: not written: count_texts: the values are no numbers' 2 count_texts pear 5 count_texts
+keeps 'btreekv: not written: bare_counts: the values are no numbers' 2 bare_counts pear 5 bare_counts
+keeps 'btreekv: not written: tens: the values are no numbers' 2 tens 9 5 tens
+keeps 'btreekv: refused: counts: the bytes are of type [text -> u32 / 5], not [text -> u64 / 5]' 2 counts --types text:u64 pear 5 counts
+keeps 'btreekv: x:u64 are no types KEY:VALUE' 2 counts --types x:u64 pear 5 counts
+refuses 'btreekv: input failed: absent: No such file or directory (os error 2)' '' set --in-place a 1 absent
+refuses 'btreekv: input failed: .: Is a directory (os error 21)' '' set --in-place a 1 .
+refuses 'btreekv: not written: /dev/null: it is no regular file' '' set --in-place a 1 /dev/null
+refuses 'error: the following required arguments were not provided:' '' set --in-place a 1
+refuses "error: the argument '--in-place' cannot be used with '--output <OUTPUT>'" '' set --in-place a 1 counts -o counts
+# look-ups in maps of other types read a part of a regular file. What is expected is picked of the lines.
+awk 'BEGIN { for (i = 3; i < 60000; i += 3) printf "%d\tvalue %d\n", i, i }' > threes.lines
+"$program" build --types u32:text threes.lines > threes
+"$program" build --types u32:text --untyped threes.lines > bare_threes
+picks() {
+    awk -F '\t' "$1" threes.lines > expected; shift
+    "$program" "$@" > found || fail "$*: status $?"
+    cmp -s found expected || fail "$*: another text"
+}
+for file in threes --types\ u32:text\ bare_threes; do
+    # the words of the types are two
+    picks '$1 == 30000 { print $2 }' get 30000 $file
+    picks '$1 == 3' first $file
+    picks '$1 == 59997' last $file
+    picks '$1 >= 29999 && $1 <= 30100' range 29999 30100 $file
+    picks '$1 == 59997' range 59995 4294967295 $file
+    picks '$1 == 3 || $1 == 30000' get 3 30000 $file
+    picks '$1 == 3 || $1 == 30000' get --validate 3 30000 $file
+    "$program" get 30001 $file > found && fail "get of no key in $file: status 0"
+    test -s found && fail "get of no key in $file: a text"
+done
+cut -f 1 threes.lines > keys
+picks 1 get --keys-from keys threes
+picks 1 get --keys-from - threes < keys
+printf '3\n03\n' > bad_keys
+refuses 'btreekv: line 2 of bad_keys: the key is no u32' '' get --keys-from bad_keys threes
+refuses 'btreekv: 03 is no u32' '' get 3 03 threes
+refuses 'btreekv: 03 is no u32' '' get 03 threes
+refuses 'btreekv: 03 is no u32' '' range 03 4 threes
+refuses 'btreekv: x is no u32' '' range 3 x threes
+refuses 'btreekv: refused: threes: the bytes are of type [u32 -> text / 5], not [text -> u32 / 5]' '' get --types text:u32 3 threes
+refuses 'btreekv: refused: threes: the bytes are of type [u32 -> text / 5], not [text -> u32 / 5]' '' get --types text:u32 3 6 threes
+"$program" get --stats 30000 threes 2>&1 > found | grep -Eq "^btreekv: [0-9]{1,4} of $(stat -c %s threes) bytes read\$" || fail "get --stats of a number: more than 9999 bytes, or no line"
+# an error that isn't on the way is found by --validate alone
+{ head -c 200 threes | tail -c 100 | tr '\0-\377' '\377'; } > bytes
+cp threes broken; dd if=bytes of=broken bs=1 seek=200 conv=notrunc 2> dd.log
+"$program" last broken | cmp -s - <(tail -n 1 threes.lines) || fail "last of a broken file: another entry"
+"$program" last --validate broken > found 2> errors && fail "last --validate of a broken file: status 0"
+grep -q '^btreekv: refused: broken: ' errors || fail "last --validate of a broken file: another line"
+
+# updates of other types than texts, by a header or by words; what is expected is built of the lines that are left
+printf '9\tnine\n10\tten\n100\thundred\n' | "$program" build --types u32:text -o counted
+"$program" list counted | "$program" build --types u32:text --untyped > bare_counted
+printf '9\n10\tTEN\n11\televen\n200\n' > counted.changes
+printf '10\tTEN\n11\televen\n100\thundred\n' | "$program" build --types u32:text > expected
+"$program" update counted counted.changes | cmp -s - expected || fail "update of numbers: another archive"
+"$program" update counted < counted.changes | cmp -s - expected || fail "update of numbers by standard input: another archive"
+"$program" update counted -o recounted counted.changes && cmp -s recounted expected || fail "update of numbers: another file"
+"$program" update --types u32:text counted counted.changes | cmp -s - expected || fail "update of numbers by words: another archive"
+"$program" list expected | "$program" build --types u32:text --untyped > bare_expected
+"$program" update --types u32:text bare_counted counted.changes | cmp -s - bare_expected || fail "update of numbers without a header: another archive"
+printf '11\tx\n10\n9\n10\tTEN\n11\televen\n' > unsorted.changes
+"$program" update --sort counted unsorted.changes | cmp -s - expected || fail "sorted update of numbers: another archive"
+"$program" update counted /dev/null | cmp -s - counted || fail "update of numbers by no lines: another archive"
+refuses 'btreekv: line 2 of unsorted.changes: out of order' '' update counted unsorted.changes
+refuses 'btreekv: line 2: out of order' '10\tx\n10\ty\n' update counted
+refuses 'btreekv: line 1: the key is no u32' 'ten\n10\n' update counted
+refuses 'btreekv: line 2: the key is no u32' '9\n010\tten\n' update --sort counted
+refuses 'btreekv: line 2: byte 4 is not UTF-8' '9\n10\t\xff\n' update counted
+printf 'a\t1\nb\t2\n' | "$program" build --types text:u32 -o counts
+refuses 'btreekv: line 2: the value is no u32' 'a\nb\ttwo\n' update counts
+refuses 'btreekv: refused: short: position 0 is out of range' '' update --types u32:text short counted.changes
+refuses 'btreekv: refused: counts: the bytes are of type [text -> u32 / 5], not [u32 -> text / 5]' '' update --types u32:text counts counted.changes
+
+# differences of other types than texts, by a header or by words; an update by them gives the new archive
+"$program" diff counted expected > differing.lines
+cmp -s differing.lines <(printf '9\n10\tTEN\n11\televen\n') || fail "diff of numbers: other lines"
+"$program" update counted differing.lines | cmp -s - expected || fail "diff of numbers: another archive by it"
+"$program" diff expected counted | cmp -s - <(printf '9\tnine\n10\tten\n11\n') || fail "diff of numbers the other way: other lines"
+"$program" diff counted counted | cmp -s - /dev/null || fail "diff of numbers from themselves: lines"
+"$program" diff --types u32:text bare_counted bare_expected | cmp -s - differing.lines || fail "diff of numbers without a header: other lines"
+"$program" diff counted bare_expected | cmp -s - differing.lines || fail "diff of numbers by the header of the first: other lines"
+"$program" diff --types u32:text bare_counted expected | cmp -s - differing.lines || fail "diff of numbers by words: other lines"
+printf '' | "$program" build --types u32:text -o uncounted
+"$program" diff uncounted counted | cmp -s - <("$program" list counted) || fail "diff of no numbers: other lines"
+"$program" diff counted uncounted | cmp -s - <(printf '9\n10\n100\n') || fail "diff to no numbers: other lines"
+printf '00ff\t-1\nff\t2\n' | "$program" build --types bytes:i64 -o before_bytes
+printf '00ff\t1\n0a\t-3\n' | "$program" build --types bytes:i64 -o after_bytes
+"$program" diff before_bytes after_bytes | cmp -s - <(printf '00ff\t1\n0a\t-3\nff\n') || fail "diff of byte strings: other lines"
+"$program" diff --base64 before_bytes after_bytes | cmp -s - <(printf 'AP8=\t1\nCg==\t-3\n/w==\n') || fail "diff of byte strings in base64: other lines"
+refuses 'btreekv: refused: counts: the bytes are of type [text -> u32 / 5], not [u32 -> text / 5]' '' diff counted counts
+refuses 'btreekv: refused: counted: the bytes are of type [u32 -> text / 5], not [text -> u32 / 5]' '' diff --types text:u32 counted short
+refuses 'btreekv: refused: short: position 0 is out of range' '' diff counted short
+refuses 'btreekv: refused: short: position 0 is out of range' '' diff --types u32:text short short
+refuses 'btreekv: input failed: absent: No such file or directory (os error 2)' '' diff counted absent
+refuses 'btreekv: input failed: absent: No such file or directory (os error 2)' '' diff --types u32:text absent counted
+
+# keys of numbers whose texts begin with a text
+"$program" prefix 10 counted | cmp -s - <(printf '10\tten\n100\thundred\n') || fail "prefix of numbers: other entries"
+"$program" prefix 1 < counted | cmp -s - <(printf '10\tten\n100\thundred\n') || fail "prefix of numbers by standard input: other entries"
+"$program" prefix --types u32:text --ndjson 9 bare_counted | cmp -s - <(printf '{"key":"9","value":"nine"}\n') || fail "prefix of numbers by words: other entries"
+"$program" prefix 2 counted | cmp -s - /dev/null || fail "prefix of no numbers: entries"
 
 # 20000 entries, and some 3000 changes
 awk 'NR % 7 == 3 { print $0 " again" } NR % 11 == 5 { print substr($0, 1, 10) } NR % 13 == 1 { print substr($0, 1, 9) "\tnew" }' many \

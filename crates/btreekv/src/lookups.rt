@@ -1,7 +1,7 @@
 //! Look-ups of one key, and of many. A file isn't read whole.
 
 use crate::progress::Progress;
-use crate::system::{Ended, Names, System};
+use crate::system::{Ended, Named, Names, System};
 use crate::words;
 use btreearc_lines::fault::ProgramFault;
 use btreearc_lines::spool::buffered;
@@ -10,10 +10,14 @@ use btreekv_commands::lines::bad_byte;
 use btreekv_commands::opening::Texts;
 use btreekv_commands::program::run;
 use btreekv_commands::{opening, sourced};
+use btreekv_types::any_type::AnyType;
+use btreekv_types::fault::TypedFault;
+use btreekv_types::plain_type::PlainType;
 use clap::ArgMatches;
 use rkyv_btree_source::cached::CachedSource;
 use rkyv_btree_source::source::ReadAt;
 use rkyv_btree_source::unverified_source::UnverifiedSource;
+use std::alloc::Global;
 use std::fs::{File, metadata};
 use std::io;
 use std::io::{BufRead, Read};
@@ -22,10 +26,10 @@ use std::slice::Iter;
 use std::str::from_utf8;
 
 /// The number of blocks that the look-up of one key keeps, of 4 kilobytes each.
-const FEW_BLOCKS: usize = 16;
+pub(crate) const FEW_BLOCKS: usize = 16;
 
 /// The number of blocks that the look-ups of many keys keep.
-const MANY_BLOCKS: usize = 2048;
+pub(crate) const MANY_BLOCKS: usize = 2048;
 
 /// The most bytes of a regular file that is read whole for many keys.
 const MOST_WHOLE: u64 = 268435456;
@@ -130,6 +134,9 @@ fn get_in_parts(
 trait Keys {
     /// Reads the next key, which has this number, into a buffer, and returns whether there is one.
     fn read(&mut self, system: &System<'_>, number: u64, key: &mut Vec<u8>) -> Result<bool, Ended>;
+
+    /// Writes the line of a key, which has this number and is no text of a type.
+    fn bad_key(&self, system: &System<'_>, number: u64, key: &str, item: AnyType) -> Ended;
 }
 
 /// The lines of keys, with the name of their file.
@@ -150,6 +157,13 @@ impl<'n, R: BufRead> Keys for KeyLines<'n, R> {
             None => Ok(true),
             Some(byte) => Err(system.not_utf8(self.name, number, byte)),
         }
+    }
+
+    fn bad_key(&self, system: &System<'_>, number: u64, _key: &str, item: AnyType) -> Ended {
+        let rt = system.rt;
+        let of = Named(" of ", self.name);
+        let _ = eprintln!(rt; "btreekv: line {number}{of}: the key is no {item}");
+        Ended::failed()
     }
 }
 
@@ -175,24 +189,77 @@ impl<'w> Keys for KeyWords<'w> {
             Err(_) => Err(system.fail(Names::of_input(None), &ProgramFault::Memory)),
         }
     }
+
+    fn bad_key(&self, system: &System<'_>, _number: u64, key: &str, item: AnyType) -> Ended {
+        let rt = system.rt;
+        let _ = eprintln!(rt; "btreekv: {key} is no {item}");
+        Ended::failed()
+    }
+}
+
+/// An archive that is all of a source, in which keys are looked up one after the other.
+pub(crate) trait Archive: Drop {
+    /// Returns the type of the keys.
+    fn key_type(&self) -> AnyType;
+
+    /// Writes the line of a key and its value at the end, if the key is found. Returns whether it is, and the archive.
+    fn push_found(
+        self,
+        alloc: Global,
+        room: &mut Vec<u8>,
+        key: &str,
+        lines: &mut String,
+    ) -> Result<(bool, Self), TypedFault>;
+
+    /// Returns how many bytes were read.
+    fn bytes_read(&self) -> u64;
+}
+
+/// An archive of texts.
+#[derive(Drop)]
+struct ArchiveOfTexts<S> {
+    map: UnverifiedSource<S, Texts>,
+}
+
+impl<S: ReadAt + Drop> Archive for ArchiveOfTexts<S> {
+    fn key_type(&self) -> AnyType {
+        AnyType::Plain(PlainType::Text)
+    }
+
+    fn push_found(
+        mut self,
+        alloc: Global,
+        room: &mut Vec<u8>,
+        key: &str,
+        lines: &mut String,
+    ) -> Result<(bool, ArchiveOfTexts<S>), TypedFault> {
+        match sourced::push_found(alloc, &mut self.map, room, key, lines) {
+            Ok(is_found) => Ok((is_found, self)),
+            Err(fault) => Err(TypedFault::Program(fault)),
+        }
+    }
+
+    fn bytes_read(&self) -> u64 {
+        sourced::BUDGET.saturating_sub(self.map.budget_left())
+    }
 }
 
 /// Where the keys of a call are.
 #[derive(Clone, Copy)]
-enum KeyList<'w> {
+pub(crate) enum KeyList<'w> {
     /// In the file of this name, or in standard input if it is `-`.
     From(&'w str),
     /// Among the words of the command line.
     Words(&'w [&'w str]),
 }
 
-/// Looks up keys in an archive that is all of a source, and writes the line of each that is found. Returns the exit status.
-fn write_keys<S: ReadAt, T: Keys + Drop>(
+/// Looks up keys in an archive, and writes the line of each that is found. Returns the exit status, and the archive.
+fn write_keys<A: Archive, K: Keys + Drop>(
     system: &System<'_>,
     names: Names<'_>,
-    map: &mut UnverifiedSource<S, Texts>,
-    mut keys: T,
-) -> Result<u8, Ended> {
+    mut archive: A,
+    mut keys: K,
+) -> Result<(u8, A), Ended> {
     let alloc = system.alloc();
     let mut room = match sourced::first_room(alloc) {
         Ok(room) => room,
@@ -208,34 +275,64 @@ fn write_keys<S: ReadAt, T: Keys + Drop>(
         let Ok(key) = from_utf8(&line) else {
             break;
         };
-        match sourced::push_found(alloc, map, &mut room, key, &mut lines) {
-            Ok(true) => {}
-            Ok(false) => status = 1,
-            Err(fault) => return Err(system.fail(names, &fault)),
+        let item = archive.key_type();
+        match archive.push_found(alloc, &mut room, key, &mut lines) {
+            Ok((is_found, rest)) => {
+                archive = rest;
+                if !is_found {
+                    status = 1;
+                }
+            }
+            Err(TypedFault::Program(fault)) => return Err(system.fail(names, &fault)),
+            Err(_) => return Err(keys.bad_key(system, number, key, item)),
         }
     }
     match write_all(&mut system.stdout(), lines.as_bytes()) {
-        Ok(()) => Ok(status),
+        Ok(()) => Ok((status, archive)),
         Err(fault) => Err(system.fail(names, &fault)),
     }
 }
 
-/// Looks up the keys that a reader has, in an archive that is all of a source.
-fn write_keys_of<S: ReadAt, R: Read + Drop>(
+/// Looks up the keys that a reader has.
+fn write_keys_of<A: Archive, R: Read + Drop>(
     system: &System<'_>,
     names: Names<'_>,
-    map: &mut UnverifiedSource<S, Texts>,
+    archive: A,
     input: R,
     name: Option<&str>,
-) -> Result<u8, Ended> {
+) -> Result<(u8, A), Ended> {
     match buffered(system.alloc(), Progress::silent(system, input)) {
-        Ok(input) => write_keys(system, names, map, KeyLines { input, name }),
+        Ok(input) => write_keys(system, names, archive, KeyLines { input, name }),
         Err(fault) => Err(system.fail(names, &fault)),
     }
 }
 
-/// Looks up keys in an archive that is all of a source, and has this name.
-fn get_keys_in<S: ReadAt + Drop>(
+/// Looks up keys in an archive of so many bytes, and returns the exit status.
+pub(crate) fn get_keys_in<A: Archive>(
+    system: &System<'_>,
+    matches: &ArgMatches<'_>,
+    names: Names<'_>,
+    size: u64,
+    archive: A,
+    keys: KeyList<'_>,
+) -> Result<u8, Ended> {
+    let (status, archive) = match keys {
+        KeyList::From("-") => write_keys_of(system, names, archive, system.stdin()?, None)?,
+        KeyList::From(keys) => {
+            let file = system.open(keys)?;
+            write_keys_of(system, names, archive, file, Some(keys))?
+        }
+        KeyList::Words(words) => {
+            let words = words.iter();
+            write_keys(system, names, archive, KeyWords { words })?
+        }
+    };
+    write_stats(system, matches, archive.bytes_read(), size);
+    Ok(status)
+}
+
+/// Looks up keys in an archive of texts that is all of a source, and has this name.
+fn get_texts_in<S: ReadAt + Drop>(
     system: &System<'_>,
     matches: &ArgMatches<'_>,
     path: &str,
@@ -246,28 +343,14 @@ fn get_keys_in<S: ReadAt + Drop>(
     let Ok(size) = source.size() else {
         return Err(system.fail(names, &ProgramFault::InputFailed));
     };
-    let mut map = match sourced::open(source) {
-        Ok(map) => map,
-        Err(fault) => return Err(system.fail(names, &fault)),
-    };
-    let status = match keys {
-        KeyList::From("-") => write_keys_of(system, names, &mut map, system.stdin()?, None)?,
-        KeyList::From(keys) => {
-            let file = system.open(keys)?;
-            write_keys_of(system, names, &mut map, file, Some(keys))?
-        }
-        KeyList::Words(words) => {
-            let words = words.iter();
-            write_keys(system, names, &mut map, KeyWords { words })?
-        }
-    };
-    let read = sourced::BUDGET.saturating_sub(map.budget_left());
-    write_stats(system, matches, read, size);
-    Ok(status)
+    match sourced::open(source) {
+        Ok(map) => get_keys_in(system, matches, names, size, ArchiveOfTexts { map }, keys),
+        Err(fault) => Err(system.fail(names, &fault)),
+    }
 }
 
 /// Returns whether there are so many keys that it takes less time to read all of a regular file than what the look-ups need of it.
-fn are_many(system: &System<'_>, file: &File, keys: KeyList<'_>) -> bool {
+pub(crate) fn are_many(system: &System<'_>, file: &File, keys: KeyList<'_>) -> bool {
     let KeyList::From(keys) = keys else {
         return false;
     };
@@ -292,7 +375,7 @@ fn read_archive(
     Ok(bytes)
 }
 
-/// Looks up keys in the archive of this name.
+/// Looks up keys in the archive of texts of this name.
 fn get_keys(
     system: &System<'_>,
     matches: &ArgMatches<'_>,
@@ -303,31 +386,42 @@ fn get_keys(
     let in_parts = is_regular(&file) && !matches.get_flag("validate");
     if in_parts && !are_many(system, &file, keys) {
         return match cached(system, file, MANY_BLOCKS) {
-            Ok(source) => get_keys_in(system, matches, path, source, keys),
+            Ok(source) => get_texts_in(system, matches, path, source, keys),
             Err(fault) => Err(system.fail(Names::of_input(Some(path)), &fault)),
         };
     }
     match read_archive(system, matches, file) {
-        Ok(bytes) => get_keys_in(system, matches, path, bytes.as_slice(), keys),
+        Ok(bytes) => get_texts_in(system, matches, path, bytes.as_slice(), keys),
         Err(fault) => Err(system.fail(Names::of_input(Some(path)), &fault)),
     }
 }
 
-/// Looks up the keys that are all of the words but the last, which is the file. `more` are those after the second.
-fn get_words(
+/// Returns the keys that are all of the words of `get` but the last, which is the file.
+pub(crate) fn key_words<'a>(
     system: &System<'_>,
-    matches: &ArgMatches<'_>,
-    path: &str,
-    more: &[&str],
-) -> Result<u8, Ended> {
+    matches: &ArgMatches<'a>,
+) -> Result<Vec<&'a str>, Ended> {
     let mut keys = Vec::new(system.alloc());
     let first = [
         matches.get_str("KEY").unwrap_or(""),
         matches.get_str("FILE").unwrap_or(""),
     ];
+    let Some((_, more)) = matches.get_strs("MORE").unwrap_or(&[]).split_last() else {
+        return Ok(keys);
+    };
     if keys.extend_from_slice(&first).is_err() || keys.extend_from_slice(more).is_err() {
         return Err(system.fail(Names::of_input(None), &ProgramFault::Memory));
     }
+    Ok(keys)
+}
+
+/// Looks up several keys in the archive of texts that the words name.
+fn get_several(system: &System<'_>, matches: &ArgMatches<'_>) -> Result<u8, Ended> {
+    let path = words::input_of("get", matches).unwrap_or("");
+    if let Some(keys) = matches.get_str("keys-from") {
+        return get_keys(system, matches, path, KeyList::From(keys));
+    }
+    let keys = key_words(system, matches)?;
     get_keys(system, matches, path, KeyList::Words(&keys))
 }
 
@@ -354,13 +448,8 @@ fn get_in_file(
 
 /// Runs `get`, and returns the exit status.
 pub fn get(system: &System<'_>, matches: &ArgMatches<'_>) -> Result<u8, Ended> {
-    if let Some(keys) = matches.get_str("keys-from") {
-        // The words have no key then, so the first of them is the file.
-        let path = matches.get_str("KEY").unwrap_or("");
-        return get_keys(system, matches, path, KeyList::From(keys));
-    }
-    if let Some((path, more)) = matches.get_strs("MORE").unwrap_or(&[]).split_last() {
-        return get_words(system, matches, path, more);
+    if words::has_several_keys("get", matches) {
+        return get_several(system, matches);
     }
     let path = matches.get_str("FILE");
     let done = match path {

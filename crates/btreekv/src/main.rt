@@ -7,10 +7,12 @@ mod files;
 mod listed;
 mod lookups;
 mod output;
+mod overwritten;
 mod progress;
 mod ranges;
 mod system;
 mod typed;
+mod typed_lookups;
 mod words;
 
 use btreearc_lines::fault::ProgramFault;

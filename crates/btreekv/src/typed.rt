@@ -3,20 +3,24 @@
 use crate::lookups::{in_all, is_regular, write_stats};
 use crate::output::Output;
 use crate::progress::Progress;
-use crate::system::{Ended, Named, Names, System};
-use crate::{archives, listed, words};
+use crate::system::{Ended, Named, Names, System, bad_byte_of};
+use crate::typed_lookups::{get_keys, in_parts};
+use crate::{archives, listed, overwritten, words};
 use btreearc_lines::fault::ProgramFault;
 use btreearc_lines::heading::HeadingFault;
 use btreearc_lines::streams::read_all;
 use btreekv_items::item::BytesStyle;
+use btreekv_types::any_type::AnyType;
 use btreekv_types::command::TypedCommand;
 use btreekv_types::fault::TypedFault;
 use btreekv_types::plain_type::PlainType;
 use btreekv_types::program;
 use btreekv_types::source::Source;
-use btreekv_types::types::Types;
+use btreekv_types::types::{PlainTypes, Types};
 use clap::ArgMatches;
 use rkyv_btree_typed::header::type_name_of;
+use rkyv_btree_writer::fault::Fault;
+use std::fs::File;
 use std::io::{Read, Write};
 
 /// The number of bytes that are read to find a header: more than that of each type that the program knows has.
@@ -24,23 +28,50 @@ const HEADER_LEN: u64 = 256;
 
 /// A command over maps of two types.
 #[derive(Drop)]
-struct TypedRun {
-    types: Types,
-    style: BytesStyle,
-    command: TypedCommand,
+pub(crate) struct TypedRun {
+    pub types: Types,
+    pub style: BytesStyle,
+    pub command: TypedCommand,
 }
 
-/// Returns the command of the words of a subcommand over maps of two types. The further archives of `merge` are read for it.
+/// Returns a list of one file.
+fn one_file(system: &System<'_>, file: Vec<u8>) -> Result<Vec<Vec<u8>>, Ended> {
+    let mut files = Vec::new(system.alloc());
+    match files.push(file) {
+        Ok(()) => Ok(files),
+        Err(_) => Err(system.fail(Names::of_input(None), &ProgramFault::Memory)),
+    }
+}
+
+/// Returns the files that a subcommand reads after the first: the further archives of `merge`, the lines of `update`, and the new archive of
+/// `diff`.
+fn other_files(
+    system: &System<'_>,
+    name: &str,
+    matches: &ArgMatches<'_>,
+) -> Result<Vec<Vec<u8>>, Ended> {
+    match name {
+        "merge" => archives::read_each(system, matches.get_strs("OTHERS").unwrap_or(&[])),
+        "update" => {
+            let lines = archives::read(system, matches.get_str("CHANGES"))?;
+            one_file(system, lines)
+        }
+        "diff" => {
+            let new = archives::read(system, matches.get_str("NEW"))?;
+            one_file(system, new)
+        }
+        _ => Ok(Vec::new(system.alloc())),
+    }
+}
+
+/// Returns the command of the words of a subcommand over maps of two types. All files but the first are read for it.
 fn typed_run(
     system: &System<'_>,
     types: Types,
     name: &str,
     matches: &ArgMatches<'_>,
 ) -> Result<TypedRun, Ended> {
-    let others = match name {
-        "merge" => archives::read_each(system, matches.get_strs("OTHERS").unwrap_or(&[]))?,
-        _ => Vec::new(system.alloc()),
-    };
+    let others = other_files(system, name, matches)?;
     match words::typed_command_of(system.alloc(), name, matches, others) {
         Ok(command) => Ok(TypedRun {
             types,
@@ -109,12 +140,23 @@ fn run_over<R: Read>(
     }
 }
 
-/// Returns whether a command has the flag `--stats`.
-fn has_stats(command: &TypedCommand) -> bool {
+/// Returns whether a command looks up entries, and has the flags `--validate` and `--stats`.
+fn is_look_up(command: &TypedCommand) -> bool {
     match command {
         TypedCommand::First(_) | TypedCommand::Last(_) => true,
         TypedCommand::Get(..) | TypedCommand::Range(..) => true,
+        TypedCommand::Prefix(..) => true,
         _ => false,
+    }
+}
+
+/// Returns the types of a map of which a command reads a part, if it is in a regular file: those of a map whose keys and values have no
+/// parts.
+fn types_in_parts(typed: &TypedRun) -> Option<PlainTypes> {
+    match typed.command {
+        TypedCommand::First(_) | TypedCommand::Last(_) => typed.types.plain(),
+        TypedCommand::Get(..) | TypedCommand::Range(..) => typed.types.plain(),
+        _ => None,
     }
 }
 
@@ -129,12 +171,40 @@ fn ended(
 ) -> Result<u8, Ended> {
     match done {
         Ok(status) => {
-            if has_stats(&typed.command) {
+            if is_look_up(&typed.command) {
                 write_stats(system, matches, read, read);
             }
             Ok(status)
         }
         Err(fault) => Err(fail(system, typed, names, matches, &fault)),
+    }
+}
+
+/// Writes the line of an error of an update by lines, which is no error of the archive's.
+fn fail_update(
+    system: &System<'_>,
+    typed: &TypedRun,
+    matches: &ArgMatches<'_>,
+    lines: &[u8],
+    fault: &TypedFault,
+) -> Ended {
+    let name = matches.get_str("CHANGES");
+    let (key, value) = (typed.types.key(), typed.types.value());
+    match fault {
+        TypedFault::BadKey(line) => bad_line(system, name, *line, "key", key),
+        TypedFault::BadValue(line) => bad_line(system, name, *line, "value", value),
+        TypedFault::Program(ProgramFault::Line(line)) => {
+            let byte = bad_byte_of(system.alloc(), &lines, *line).unwrap_or(1);
+            system.not_utf8(name, *line, byte)
+        }
+        TypedFault::Program(ProgramFault::NotBuilt(Fault::OutOfOrder { index })) => {
+            system.out_of_order(name, index.saturating_add(1))
+        }
+        TypedFault::Program(fault) => {
+            let names = Names::of_input(matches.get_str("ARCHIVE"));
+            fail_of(system, typed.types, names, fault)
+        }
+        _ => system.fail(Names::of_input(None), &ProgramFault::Usage),
     }
 }
 
@@ -146,10 +216,14 @@ fn fail(
     matches: &ArgMatches<'_>,
     fault: &TypedFault,
 ) -> Ended {
-    let Types { key, value } = typed.types;
+    let (key, value) = (typed.types.key(), typed.types.value());
+    if let TypedCommand::Update(_, lines) = &typed.command {
+        return fail_update(system, typed, matches, lines.as_slice(), fault);
+    }
     match fault {
         TypedFault::Archive(number, fault) => {
-            fail_of(system, typed, name_at(matches, *number), fault)
+            let names = name_at(&typed.command, matches, *number);
+            fail_of(system, typed.types, names, fault)
         }
         TypedFault::BadKey(number) => match typed.command {
             TypedCommand::Set(..) => bad_word(system, matches, "KEY", key),
@@ -165,22 +239,31 @@ fn fail(
         TypedFault::Program(ProgramFault::Line(number)) => {
             bad_record(system, &typed.command, names, *number)
         }
-        TypedFault::Program(fault) => fail_of(system, typed, names, fault),
+        TypedFault::Program(fault) => fail_of(system, typed.types, names, fault),
     }
 }
 
-/// Returns the name of the archive of `merge` with this number, of which the first is number 0.
-fn name_at<'a>(matches: &ArgMatches<'a>, number: u64) -> Names<'a> {
-    let Some(index) = number.checked_sub(1) else {
-        return Names::of_input(matches.get_str("ARCHIVE"));
+/// Returns the name of the archive with this number, of which the first is number 0: of those of `merge`, or of both of `diff`.
+fn name_at<'a>(command: &TypedCommand, matches: &ArgMatches<'a>, number: u64) -> Names<'a> {
+    let (first, others) = match command {
+        TypedCommand::Diff(_) => ("OLD", "NEW"),
+        _ => ("ARCHIVE", "OTHERS"),
     };
-    let others = matches.get_strs("OTHERS").unwrap_or(&[]);
+    let Some(index) = number.checked_sub(1) else {
+        return Names::of_input(matches.get_str(first));
+    };
+    let others = matches.get_strs(others).unwrap_or(&[]);
     Names::of_input(others.get(index as usize).copied())
 }
 
 /// Writes the line of an error of any command over maps of two types.
-fn fail_of(system: &System<'_>, typed: &TypedRun, names: Names<'_>, fault: &ProgramFault) -> Ended {
-    let Types { key, value } = typed.types;
+pub(crate) fn fail_of(
+    system: &System<'_>,
+    types: Types,
+    names: Names<'_>,
+    fault: &ProgramFault,
+) -> Ended {
+    let (key, value) = (types.key(), types.value());
     match fault {
         ProgramFault::Misheaded(HeadingFault::OtherType(found)) => {
             let rt = system.rt;
@@ -200,7 +283,7 @@ fn bad_entry(
     names: Names<'_>,
     number: u64,
     part: &str,
-    item: PlainType,
+    item: AnyType,
 ) -> Ended {
     let rt = system.rt;
     let of = Named(" of ", names.input);
@@ -208,12 +291,26 @@ fn bad_entry(
     Ended::failed()
 }
 
+/// Writes the line of a change whose key or value is no text of its type.
+fn bad_line(
+    system: &System<'_>,
+    name: Option<&str>,
+    number: u64,
+    part: &str,
+    item: AnyType,
+) -> Ended {
+    let rt = system.rt;
+    let of = Named(" of ", name);
+    let _ = eprintln!(rt; "btreekv: line {number}{of}: the {part} is no {item}");
+    Ended::failed()
+}
+
 /// Writes the line of a word that is no text of the type of keys.
-fn bad_word(
+pub(crate) fn bad_word(
     system: &System<'_>,
     matches: &ArgMatches<'_>,
     argument: &str,
-    item: PlainType,
+    item: AnyType,
 ) -> Ended {
     let rt = system.rt;
     let word = matches.get_str(argument).unwrap_or("");
@@ -241,6 +338,37 @@ fn names_of<'a>(name: &str, matches: &ArgMatches<'a>) -> Names<'a> {
     }
 }
 
+/// Writes the line of a map in which several keys aren't looked up, since its keys or values have parts.
+fn no_keys_in(system: &System<'_>, types: Types) -> Ended {
+    let rt = system.rt;
+    let (key, value) = (types.key(), types.value());
+    let _ = eprintln!(rt;
+        "btreekv: several keys aren't looked up in a map of type [{key} -> {value} / 5]"
+    );
+    Ended::failed()
+}
+
+/// Runs a command over a file, of which a part is read if it can be, and the words don't ask for all.
+fn run_in_file(
+    system: &System<'_>,
+    typed: &TypedRun,
+    names: Names<'_>,
+    matches: &ArgMatches<'_>,
+    file: File,
+) -> Result<u8, Ended> {
+    if let Some(types) = types_in_parts(typed) {
+        if is_regular(&file) && !matches.get_flag("validate") {
+            return match in_parts(system, types, typed, matches, file) {
+                Ok(status) => Ok(status),
+                Err(fault) => Err(fail(system, typed, names, matches, &fault)),
+            };
+        }
+    }
+    let mut input = Progress::of_file(system, file);
+    let done = run_over(system, typed, &mut input, names.output);
+    ended(system, typed, names, matches, done, input.bytes_read())
+}
+
 /// Runs a command over maps of the types that the words name.
 fn run_as(
     system: &System<'_>,
@@ -248,6 +376,12 @@ fn run_as(
     name: &str,
     matches: &ArgMatches<'_>,
 ) -> Result<u8, Ended> {
+    if words::has_several_keys(name, matches) {
+        return match types.plain() {
+            Some(types) => get_keys(system, types, matches),
+            None => Err(no_keys_in(system, types)),
+        };
+    }
     let typed = typed_run(system, types, name, matches)?;
     let names = names_of(name, matches);
     match names.input {
@@ -257,19 +391,15 @@ fn run_as(
             ended(system, &typed, names, matches, done, input.bytes_read())
         }
         Some(path) => {
-            let mut input = Progress::of_file(system, system.open(path)?);
-            let done = run_over(system, &typed, &mut input, names.output);
-            ended(system, &typed, names, matches, done, input.bytes_read())
+            let file = system.open(path)?;
+            run_in_file(system, &typed, names, matches, file)
         }
     }
 }
 
-/// Returns the types of two names.
+/// Returns the types of two names, or `None` if the program has no maps of both.
 fn types_of(key: &str, value: &str) -> Option<Types> {
-    Some(Types {
-        key: PlainType::from_name(key)?,
-        value: PlainType::from_name(value)?,
-    })
+    Types::of(AnyType::from_name(key)?, AnyType::from_name(value)?)
 }
 
 /// Returns the types of words as `u32:text`.
@@ -289,11 +419,11 @@ fn types_of_map(name: &str) -> Option<Types> {
 
 /// Returns whether keys and values are texts.
 fn is_texts(types: Types) -> bool {
-    types.key == PlainType::Text && types.value == PlainType::Text
+    types == Types::PlainKeys(PlainType::Text, AnyType::Plain(PlainType::Text))
 }
 
 /// Returns the types that the header names with which bytes begin, if they are known and aren't texts to texts.
-fn header_types(bytes: &[u8]) -> Option<Types> {
+pub(crate) fn header_types(bytes: &[u8]) -> Option<Types> {
     let Ok(name) = type_name_of(bytes) else {
         return None;
     };
@@ -364,7 +494,8 @@ fn run_stream<R: Read + Drop>(
 }
 
 /// Runs a command that reads an archive as a map of the types that its header names, and returns the exit status. There is none if the
-/// archive is a regular file without such a header, or the first of several and no regular file: nothing is done then.
+/// archive is a regular file without such a header, or no regular file and the first of several, or one in which several keys are
+/// looked up: nothing is done then.
 fn run_by_header(
     system: &System<'_>,
     name: &str,
@@ -375,7 +506,7 @@ fn run_by_header(
     };
     let file = system.open(path)?;
     if !is_regular(&file) {
-        if name == "merge" {
+        if words::reads_several(name) || words::has_several_keys(name, matches) {
             return Ok(None);
         }
         return Ok(Some(run_stream(system, name, matches, file)?));
@@ -390,24 +521,42 @@ fn run_by_header(
     }
 }
 
-/// Runs a command over maps of other types than texts, if the words or the header of its input name them, and returns the exit status.
-/// There is none if they are texts: nothing is done then.
-pub fn run(system: &System<'_>, name: &str, matches: &ArgMatches<'_>) -> Result<Option<u8>, Ended> {
-    if !words::takes_types(name, matches) {
-        return Ok(None);
-    }
+/// Returns the types that the words name, if they do.
+///
+/// # Errors
+///
+/// If they are no types that the program knows: the line of the error is written.
+pub(crate) fn named_types(
+    system: &System<'_>,
+    matches: &ArgMatches<'_>,
+) -> Result<Option<Types>, Ended> {
     let Some(word) = matches.get_str("types") else {
-        if name == "build" {
-            return Ok(None);
-        }
-        return run_by_header(system, name, matches);
+        return Ok(None);
     };
     let Some(types) = types_of_words(word) else {
         let rt = system.rt;
         let _ = eprintln!(rt; "btreekv: {word} are no types KEY:VALUE");
         return Err(Ended::failed());
     };
-    if is_texts(types) {
+    Ok(Some(types))
+}
+
+/// Runs a command over maps of other types than texts, if the words or the header of its input name them, and returns the exit status.
+/// There is none if they are texts: nothing is done then. `build` archives texts too, if the words name them: it sorts then.
+pub fn run(system: &System<'_>, name: &str, matches: &ArgMatches<'_>) -> Result<Option<u8>, Ended> {
+    if !words::takes_types(name) {
+        return Ok(None);
+    }
+    if words::is_in_place(name, matches) {
+        return Ok(Some(overwritten::run(system, matches)?));
+    }
+    let Some(types) = named_types(system, matches)? else {
+        if name == "build" {
+            return Ok(None);
+        }
+        return run_by_header(system, name, matches);
+    };
+    if is_texts(types) && name != "build" {
         return Ok(None);
     }
     Ok(Some(run_as(system, types, name, matches)?))

@@ -31,7 +31,8 @@ const BUILD_EXAMPLES: &str = "Examples:
 /// Examples of `set`.
 const SET_EXAMPLES: &str = "Examples:
   btreekv set fig green -o fruits fruits
-  btreekv set fig green fruits > changed";
+  btreekv set fig green fruits > changed
+  btreekv set 17 42 --in-place counts";
 
 /// Examples of `list`.
 const LIST_EXAMPLES: &str = "Examples:
@@ -235,8 +236,10 @@ fn update<'a>(alloc: Global) -> Result<Command<'a>, AllocError> {
     let changes = Arg::new(alloc, "CHANGES")
         .help("the lines to read, if not standard input")
         .action(ArgAction::Set);
-    Command::new(alloc, "update")
-        .about("write an archive after changes: lines KEY TAB VALUE put, and lines KEY delete")
+    let command = Command::new(alloc, "update").about(
+        "write an archive after changes: lines KEY TAB VALUE put, and lines KEY delete",
+    );
+    with_archive_types(alloc, command)?
         .arg(sort)?
         .arg(output(alloc))?
         .arg(required(alloc, "ARCHIVE", "the archive to change"))?
@@ -245,10 +248,16 @@ fn update<'a>(alloc: Global) -> Result<Command<'a>, AllocError> {
 
 /// Returns the words of `set`.
 fn set<'a>(alloc: Global) -> Result<Command<'a>, AllocError> {
+    let in_place = flag(
+        alloc,
+        "in-place",
+        "write a number over that of a key in FILE, of which no other byte is changed",
+    );
     let command = Command::new(alloc, "set")
         .about("write an archive with the value of one key, which it may lack")
         .after_help(SET_EXAMPLES);
     with_archive_types(alloc, command)?
+        .arg(in_place.conflicts_with("OUTPUT")?.requires_arg("FILE")?)?
         .arg(output(alloc))?
         .arg(word(alloc, "KEY"))?
         .arg(word(alloc, "VALUE"))?
@@ -273,8 +282,10 @@ fn merge<'a>(alloc: Global) -> Result<Command<'a>, AllocError> {
 
 /// Returns the words of `diff`.
 fn diff<'a>(alloc: Global) -> Result<Command<'a>, AllocError> {
-    Command::new(alloc, "diff")
-        .about("write the lines by which update makes one archive of another")
+    let command = Command::new(alloc, "diff").about(
+        "write the lines by which update makes one archive of another",
+    );
+    with_archive_types(alloc, command)?
         .arg(required(alloc, "OLD", "the archive to change"))?
         .arg(required(alloc, "NEW", "the archive that it becomes"))
 }
@@ -379,7 +390,6 @@ fn more<'a>(alloc: Global) -> Result<Arg<'a>, AllocError> {
         .conflicts_with("json")?
         .conflicts_with("escape")?
         .conflicts_with("null")?
-        .conflicts_with("types")?
         .conflicts_with("keys-from")
 }
 
@@ -402,8 +412,7 @@ fn get<'a>(alloc: Global) -> Result<Command<'a>, AllocError> {
         .arg(
             keys.conflicts_with("json")?
                 .conflicts_with("escape")?
-                .conflicts_with("null")?
-                .conflicts_with("types")?,
+                .conflicts_with("null")?,
         )?
         .arg(word(alloc, "KEY"))?
         .arg(file(alloc).conflicts_with("keys-from")?)?
@@ -427,6 +436,7 @@ fn prefix<'a>(alloc: Global) -> Result<Command<'a>, AllocError> {
     let command = Command::new(alloc, "prefix").about(
         "write the lines of the keys that begin with TEXT",
     );
+    let command = with_archive_types(alloc, command)?;
     with_reading(alloc, with_json_lines(alloc, with_forms(alloc, command)?)?)?
         .arg(word(alloc, "TEXT"))?
         .arg(file(alloc))
@@ -574,19 +584,47 @@ pub fn output_of<'a>(name: &str, matches: &ArgMatches<'a>) -> Option<&'a str> {
     }
 }
 
-/// Returns whether a command takes maps of other types than texts, with these words.
-pub fn takes_types(name: &str, matches: &ArgMatches<'_>) -> bool {
+/// Returns whether a command takes maps of other types than texts.
+pub fn takes_types(name: &str) -> bool {
     match name {
-        "build" | "list" | "check" | "first" | "last" | "range" | "set" | "merge" => true,
-        "get" => matches.get_str("keys-from").is_none() && matches.get_strs("MORE").is_none(),
+        "build" | "list" | "check" | "first" | "last" => true,
+        "get" | "range" | "prefix" | "set" | "merge" | "update" | "diff" => true,
         _ => false,
+    }
+}
+
+/// Returns whether a command reads more files than one, whatever its words are.
+pub fn reads_several(name: &str) -> bool {
+    name == "merge" || name == "update" || name == "diff"
+}
+
+/// Returns whether a command writes into its input.
+pub fn is_in_place(name: &str, matches: &ArgMatches<'_>) -> bool {
+    name == "set" && matches.get_flag("in-place")
+}
+
+/// Returns whether a command looks up several keys.
+pub fn has_several_keys(name: &str, matches: &ArgMatches<'_>) -> bool {
+    name == "get" && (matches.get_str("keys-from").is_some() || matches.get_strs("MORE").is_some())
+}
+
+/// Returns the file in which `get` looks up keys. With `--keys-from` the words have no key, so the first of them is the file.
+fn file_of_get<'a>(matches: &ArgMatches<'a>) -> Option<&'a str> {
+    if matches.get_str("keys-from").is_some() {
+        return matches.get_str("KEY");
+    }
+    match matches.get_strs("MORE").unwrap_or(&[]).last() {
+        Some(path) => Some(*path),
+        None => matches.get_str("FILE"),
     }
 }
 
 /// Returns the file that a command reads first, if it isn't standard input.
 pub fn input_of<'a>(name: &str, matches: &ArgMatches<'a>) -> Option<&'a str> {
     match name {
-        "merge" => matches.get_str("ARCHIVE"),
+        "merge" | "update" => matches.get_str("ARCHIVE"),
+        "diff" => matches.get_str("OLD"),
+        "get" => file_of_get(matches),
         _ => matches.get_str("FILE"),
     }
 }
@@ -638,16 +676,32 @@ fn list_form_of(matches: &ArgMatches<'_>) -> ListForm {
     }
 }
 
-/// Returns the command over typed maps of the matches of a subcommand. `others` are the further archives of `merge`.
+/// Returns the command over typed maps of the words of `update`, and of the bytes of its lines.
+fn typed_update(matches: &ArgMatches<'_>, lines: Vec<u8>) -> TypedCommand {
+    let order = if matches.get_flag("sort") {
+        Order::Any
+    } else {
+        Order::Increasing
+    };
+    TypedCommand::Update(order, lines)
+}
+
+/// Returns the command over typed maps of the matches of a subcommand. `others` are the files that it reads after the first: the further
+/// archives of `merge`, the lines of `update`, and the new archive of `diff`.
 pub fn typed_command_of(
     alloc: Global,
     name: &str,
     matches: &ArgMatches<'_>,
-    others: Vec<Vec<u8>>,
+    mut others: Vec<Vec<u8>>,
 ) -> Result<TypedCommand, AllocError> {
     match name {
         "build" => Ok(typed_build(matches)),
         "merge" => Ok(TypedCommand::Merge(others)),
+        "update" => {
+            let lines = others.pop().unwrap_or(Vec::new(alloc));
+            Ok(typed_update(matches, lines))
+        }
+        "diff" => Ok(TypedCommand::Diff(others.pop().unwrap_or(Vec::new(alloc)))),
         "check" if matches.get_flag("strict") => Ok(TypedCommand::CheckStrict),
         "check" => Ok(TypedCommand::Check),
         "first" => Ok(TypedCommand::First(form_of(matches))),
@@ -665,6 +719,10 @@ pub fn typed_command_of(
             let low = owned(alloc, matches, "LOW")?;
             let high = owned(alloc, matches, "HIGH")?;
             Ok(TypedCommand::Range(low, high, form_of(matches)))
+        }
+        "prefix" => {
+            let text = owned(alloc, matches, "TEXT")?;
+            Ok(TypedCommand::Prefix(text, form_of(matches)))
         }
         _ => Ok(TypedCommand::List(list_form_of(matches))),
     }

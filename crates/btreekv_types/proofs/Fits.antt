@@ -1,13 +1,16 @@
 -- Nodes of maps of two types of items fit.
-use Rattle.std.proofs.Common.{◌≡◌, ℕ, ◌+◌, ◌*◌, ◌<◌, ◌≤◌, ◌&&◌, Bool, true, IsTrue, refl, arith, max, nat_le}
+use Rattle.std.proofs.Common.{◌≡◌, ℕ, ◌+◌, ◌*◌, ◌<◌, ◌≤◌, ◌&&◌, Bool, IsTrue, refl, arith, nat_le}
 use Rattle.std.proofs.lemmas.Bool.Decides.{nat_tests}
 use Rattle.rkyv_btree_format.specs.Layout.{NodeLayout, are_fitting, inner_size, layout_of, len_at, node_size, values_at, keys_at, align, node_align}
 use Rattle.rkyv_btree_portable.specs.Kind.{Kind}
 use Rattle.rkyv_btree_portable.specs.Rounding.{IsAlignment, one, two, four, eight, sixteen, round_up}
 use Rattle.rkyv_btree_portable.specs.laws.Rounding.{alignment_positive, max_alignment, round_up-lt}
-use Rattle.btreekv_types.specs.Types.{kind_at}
-use Rattle.btreekv_types.specs.declared.plain_type.PlainType.{PlainType}
-use Rattle.btreekv_types.specs.declared.plain_type.PlainType.TheVariants.{U8, U16, U32, U64, I32, I64, Text, Bytes}
+use Rattle.btreekv_types.specs.AnyTypes.{kind_at}
+use Rattle.btreekv_types.specs.declared.any_type.AnyType.{AnyType}
+use Rattle.btreekv_types.specs.declared.any_type.AnyType.TheVariants.{Optional, Pair, Plain}
+use Rattle.btreekv_types.specs.declared.option_type.OptionType.TheVariants as option
+use Rattle.btreekv_types.specs.declared.pair_type.PairType.TheVariants as pair
+use Rattle.btreekv_types.specs.declared.plain_type.PlainType.TheVariants as plain
 
 sixteen_at_most : {a : ℕ} → IsAlignment a → a ≤ 16
 sixteen_at_most one = omega arith
@@ -65,15 +68,22 @@ small_fit K V key value =
     let small : IsTrue (nat_le (inner_size (layout_of K V 5)) 4294967295) = grind (arith, nat_tests, low) in
     all_true _ _ _ _ key.fits value.fits refl small
 
-small : (i : PlainType) → IsSmall (kind_at i)
-small U8 = record { fits = refl; few = omega arith; aligned = one }
-small U16 = record { fits = refl; few = omega arith; aligned = two }
-small U32 = record { fits = refl; few = omega arith; aligned = four }
-small U64 = record { fits = refl; few = omega arith; aligned = eight }
-small I32 = record { fits = refl; few = omega arith; aligned = four }
-small I64 = record { fits = refl; few = omega arith; aligned = eight }
-small Text = record { fits = refl; few = omega arith; aligned = four }
-small Bytes = record { fits = refl; few = omega arith; aligned = four }
+small : (i : AnyType) → IsSmall (kind_at i)
+unfolding round_up
+small (Plain plain.U8) = record { fits = refl; few = omega arith; aligned = one }
+small (Plain plain.U16) = record { fits = refl; few = omega arith; aligned = two }
+small (Plain plain.U32) = record { fits = refl; few = omega arith; aligned = four }
+small (Plain plain.U64) = record { fits = refl; few = omega arith; aligned = eight }
+small (Plain plain.I32) = record { fits = refl; few = omega arith; aligned = four }
+small (Plain plain.I64) = record { fits = refl; few = omega arith; aligned = eight }
+small (Plain plain.Text) = record { fits = refl; few = omega arith; aligned = four }
+small (Plain plain.Bytes) = record { fits = refl; few = omega arith; aligned = four }
+small (Optional option.U32) = record { fits = refl; few = omega arith; aligned = four }
+small (Optional option.U64) = record { fits = refl; few = omega arith; aligned = eight }
+small (Optional option.I64) = record { fits = refl; few = omega arith; aligned = eight }
+small (Pair pair.U32U32) = record { fits = refl; few = omega arith; aligned = four }
+small (Pair pair.U64U64) = record { fits = refl; few = omega arith; aligned = eight }
+small (Pair pair.U32Text) = record { fits = refl; few = omega arith; aligned = four }
 
-pub all_fit : (key value : PlainType) → IsTrue (are_fitting (kind_at key) (kind_at value) 5)
+pub all_fit : (key value : AnyType) → IsTrue (are_fitting (kind_at key) (kind_at value) 5)
 all_fit key value = small_fit (kind_at key) (kind_at value) (small key) (small value)

@@ -1,7 +1,17 @@
+pub mod AnyTypes
 pub mod Archiving
+pub mod Changes
 pub mod Commands
+pub mod Differing
 pub mod Listing
 pub mod Natives
+pub mod Overwriting
+pub mod OverwritingTypes
+pub mod Ranged
+pub mod Sought
+pub mod Sourced
+pub mod SourcedTypes
 pub mod Sources
 pub mod Typed
 pub mod Types
+pub mod mirror

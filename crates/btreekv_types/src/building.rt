@@ -41,7 +41,7 @@ fn first_out_of_order<K: Ord, V>(entries: &[(K, V)]) -> Option<usize>
 }
 
 /// Returns the same if entries must come in order, and else `None`.
-fn disorder<K: Ord, V>(order: Order, entries: &[(K, V)]) -> Option<usize>
+pub(crate) fn disorder<K: Ord, V>(order: Order, entries: &[(K, V)]) -> Option<usize>
     ensures none { IfNone result (order ≡ Order.Increasing → Increasing K.cmp entries.now) }
     ensures ordered { IfSome result (λ index. order ≡ Order.Increasing) }
     ensures some { IfSome result (IsOutOfOrder K.cmp entries.now) }
@@ -57,7 +57,7 @@ fn disorder<K: Ord, V>(order: Order, entries: &[(K, V)]) -> Option<usize>
 /// # Errors
 ///
 /// `Memory` if an allocation fails.
-fn insert<K: Ord + Drop, V: Drop>(
+pub(crate) fn insert<K: Ord + Drop, V: Drop>(
     map: &mut BTreeMap<K, V>,
     key: K,
     value: V,
@@ -77,7 +77,7 @@ fn insert<K: Ord + Drop, V: Drop>(
 /// # Errors
 ///
 /// `Memory` if an allocation fails.
-fn sorted<K: Ord + Drop, V: Drop>(
+pub(crate) fn sorted<K: Ord + Drop, V: Drop>(
     alloc: Global,
     entries: Vec<(K, V)>,
 ) -> Result<BTreeMap<K, V>, TypedFault>
@@ -96,7 +96,7 @@ fn sorted<K: Ord + Drop, V: Drop>(
 /// # Errors
 ///
 /// Those of building an archive, and of its header.
-fn map_file<K: Item, V: Item>(
+pub(crate) fn map_file<K: Item, V: Item>(
     alloc: Global,
     heading: Heading,
     sorted: &BTreeMap<K::Native, V::Native>,
@@ -122,6 +122,7 @@ fn map_file<K: Item, V: Item>(
 ///
 /// Those of `natives`. `NotBuilt` with the index of the first entry out of order, if they must come in order, or with the error of
 /// building the archive or its header. `Memory` if an allocation fails.
+#[inline(never)]
 pub(crate) fn archive<K: Item, V: Item>(
     alloc: Global,
     style: BytesStyle,

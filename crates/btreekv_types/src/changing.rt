@@ -92,7 +92,7 @@ fn push_texts<K: Item, V: Item>(
 /// # Errors
 ///
 /// `Memory` if an allocation fails. The entries before may have been appended then.
-fn push_all<'a, K: Item, V: Item, I: Iterator<Item = (View<'a, K>, View<'a, V>)>>(
+pub(crate) fn push_all<'a, K: Item, V: Item, I: Iterator<Item = (View<'a, K>, View<'a, V>)>>(
     alloc: Global,
     style: BytesStyle,
     mut entries: I,
@@ -119,7 +119,8 @@ fn push_all<'a, K: Item, V: Item, I: Iterator<Item = (View<'a, K>, View<'a, V>)>
 /// # Errors
 ///
 /// Those of `strict_count`, and `Memory` if an allocation fails. Entries may have been appended then.
-fn push_entries<K: Item, V: Item>(
+#[inline(never)]
+pub(crate) fn push_entries<K: Item, V: Item>(
     alloc: Global,
     style: BytesStyle,
     archive: &[u8],
@@ -155,6 +156,7 @@ fn push_entries<K: Item, V: Item>(
 }
 
 /// Returns the file of an archive's entries with one put: the key has the value. It has a header if the old file has one.
+#[inline(never)]
 pub(crate) fn set<K: Item, V: Item>(
     alloc: Global,
     style: BytesStyle,
@@ -233,6 +235,7 @@ fn push_others<K: Item, V: Item>(
 
 /// Returns the file of the entries of several archives. Of a key that several have the last value counts. It has a header if the first has
 /// one.
+#[inline(never)]
 pub(crate) fn merge<K: Item, V: Item>(
     alloc: Global,
     style: BytesStyle,

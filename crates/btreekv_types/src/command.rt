@@ -37,4 +37,11 @@ pub enum TypedCommand {
     Set(String, String),
     /// Archive the entries of the input's archive and of these. Their keys must increase. Of a key that several have the last value counts.
     Merge(Vec<Vec<u8>>),
+    /// Archive the entries of the input's archive, whose keys must increase, after the changes of these lines, which are made in turn. The
+    /// keys of the lines must come in this order.
+    Update(Order, Vec<u8>),
+    /// Write the lines of the changes that lead from the entries of the input's archive to those of this one. The keys of both must increase.
+    Diff(Vec<u8>),
+    /// Write the entries whose keys' texts begin with this text.
+    Prefix(String, Form),
 }

@@ -2,17 +2,30 @@
 //! known when it runs.
 #![tactic(auto)]
 
+pub mod any_type;
+mod at_type;
 mod building;
+mod change_lines;
 mod changing;
 pub mod command;
+mod differing;
 pub mod fault;
 pub mod list_form;
 mod natives;
+pub mod option_type;
 mod output;
+pub mod overwriting;
+pub mod overwriting_types;
+pub mod pair_type;
 pub mod plain_type;
+mod prefixed;
 pub mod program;
+pub mod ranged;
 mod reading;
+mod sought;
 pub mod source;
+pub mod sourced;
 #[cfg(test)]
 mod tests;
 pub mod types;
+mod updating;

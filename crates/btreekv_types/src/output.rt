@@ -10,9 +10,12 @@ ghost use Rattle.btreekv_types.specs.declared.command.TypedCommand.TheVariants.{
 use crate::building::archive;
 use crate::changing::{merge, set};
 use crate::command::{Order, TypedCommand};
+use crate::differing::diff;
 use crate::fault::TypedFault;
+use crate::prefixed::prefix;
 use crate::reading::{check, check_strict, first, get, last, list, range};
 use crate::source::{Source, parse_entries};
+use crate::updating::update;
 use btreearc_lines::fault::ProgramFault;
 use btreearc_lines::heading::Heading;
 use btreekv_items::item::{BytesStyle, Item};
@@ -49,6 +52,7 @@ fn build<K: Item, V: Item>(
 }
 
 /// Returns what a command over maps of two types writes of an input, and its status.
+#[inline(never)]
 pub(crate) fn output_of<K: Item, V: Item>(
     alloc: Global,
     style: BytesStyle,
@@ -104,6 +108,20 @@ pub(crate) fn output_of<K: Item, V: Item>(
         TypedCommand::Merge(others) => match merge::<K, V>(alloc, style, others.as_slice(), input) {
             Ok(bytes) => Ok((bytes, 0)),
             Err(fault) => Err(fault),
+        },
+        TypedCommand::Update(order, lines) => {
+            match update::<K, V>(alloc, style, *order, lines.as_slice(), input) {
+                Ok(bytes) => Ok((bytes, 0)),
+                Err(fault) => Err(fault),
+            }
+        }
+        TypedCommand::Diff(other) => match diff::<K, V>(alloc, style, other.as_slice(), input) {
+            Ok(text) => Ok((text, 0)),
+            Err(fault) => Err(fault),
+        },
+        TypedCommand::Prefix(text, form) => match prefix::<K, V>(alloc, style, text, *form, input) {
+            Ok(text) => Ok((text, 0)),
+            Err(fault) => Err(TypedFault::Program(fault)),
         },
         TypedCommand::Range(low, high, form) => {
             match range::<K, V>(alloc, style, low, high, *form, input) {

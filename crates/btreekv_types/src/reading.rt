@@ -38,6 +38,7 @@ use std::ops::Bound;
 ///
 /// `Misheaded` if another header than that of the map's type comes first, and `Refused` with the first error of bytes that are no
 /// archive.
+#[inline(never)]
 pub(crate) fn open<K: Item, V: Item>(
     archive: &[u8],
 ) -> Result<View<'_, ArchivedBTreeMap<K, V, 5>>, ProgramFault>
@@ -65,6 +66,7 @@ pub(crate) fn open<K: Item, V: Item>(
 /// # Errors
 ///
 /// As of `open`, and `Refused` with the first entry whose key isn't greater than the key before it.
+#[inline(never)]
 pub(crate) fn strict_count<K: Item, V: Item>(archive: &[u8]) -> Result<usize, ProgramFault>
     requires { IsTrue (are_fitting K.kind V.kind 5) }
     ensures ok { IfOk result (CountsTyped K.kind V.kind (name_of (term.map K.term V.term 5)) archive.now) }
@@ -136,6 +138,7 @@ fn write_entry<K: Item, V: Item>(
 /// # Errors
 ///
 /// `Memory` if an allocation fails.
+#[inline(never)]
 fn written<'a, K: Item, V: Item, I: Iterator<Item = (View<'a, K>, View<'a, V>)>>(
     alloc: Global,
     style: BytesStyle,
@@ -162,6 +165,7 @@ fn written<'a, K: Item, V: Item, I: Iterator<Item = (View<'a, K>, View<'a, V>)>>
 }
 
 /// Returns the entries of an archive as they are written.
+#[inline(never)]
 pub(crate) fn list<K: Item, V: Item>(
     alloc: Global,
     style: BytesStyle,
@@ -194,6 +198,7 @@ pub(crate) fn list<K: Item, V: Item>(
 /// # Errors
 ///
 /// `Memory` if an allocation fails.
+#[inline(never)]
 fn written_entry<K: Item, V: Item>(
     alloc: Global,
     style: BytesStyle,
@@ -224,6 +229,7 @@ fn written_entry<K: Item, V: Item>(
 }
 
 /// Returns the first entry as it is written, or nothing and the status 1.
+#[inline(never)]
 pub(crate) fn first<K: Item, V: Item>(
     alloc: Global,
     style: BytesStyle,
@@ -252,6 +258,7 @@ pub(crate) fn first<K: Item, V: Item>(
 }
 
 /// Returns the last entry as it is written, or nothing and the status 1.
+#[inline(never)]
 pub(crate) fn last<K: Item, V: Item>(
     alloc: Global,
     style: BytesStyle,
@@ -280,6 +287,7 @@ pub(crate) fn last<K: Item, V: Item>(
 }
 
 /// Returns a key's value as it is written, or nothing and the status 1.
+#[inline(never)]
 pub(crate) fn get<K: Item, V: Item>(
     alloc: Global,
     style: BytesStyle,
@@ -326,6 +334,7 @@ pub(crate) fn get<K: Item, V: Item>(
 }
 
 /// Returns the entries of the keys from one to another as they are written.
+#[inline(never)]
 pub(crate) fn range<K: Item, V: Item>(
     alloc: Global,
     style: BytesStyle,
@@ -387,6 +396,7 @@ fn total(alloc: Global, count: usize) -> Result<Vec<u8>, ProgramFault>
 }
 
 /// Returns the line of an archive.
+#[inline(never)]
 pub(crate) fn check<K: Item, V: Item>(
     alloc: Global,
     style: BytesStyle,
@@ -415,6 +425,7 @@ pub(crate) fn check<K: Item, V: Item>(
 }
 
 /// Returns the line of an archive whose keys increase.
+#[inline(never)]
 pub(crate) fn check_strict<K: Item, V: Item>(
     alloc: Global,
     style: BytesStyle,

@@ -1,6 +1,5 @@
 -- One more key is compared with the one before it.
-use Rattle.std.proofs.Common.{◌≡◌, ◌≤◌, ◌∙◌, sym, arith, rules}
-use Rattle.std.specs.declared.cmp.Ordering.TheVariants.{Less}
+use Rattle.std.proofs.Common.{◌∙◌, sym, arith}
 use Rattle.btreekv_types.proofs.Ordered.{compared, first_ordered, ordered_more, out_of_order}
 use Rattle.btreekv_types.proofs.building.first_out_of_order.Goals as goal
 

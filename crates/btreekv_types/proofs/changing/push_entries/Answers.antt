@@ -1,11 +1,9 @@
 -- The entries of the map are appended as texts, or the cause is passed on.
 use Rattle.std.proofs.Common.{◌++◌, ◌∙◌, List, ap, map, refl}
-use Rattle.rkyv_btree_typed.specs.TypeNames.{name_of}
-use Rattle.rkyv_btree_typed.specs.TypeNames as term
 use Rattle.rkyv_btree_view.specs.View.{entries_of}
 use Rattle.btreekv_commands.specs.Lines.{Entry}
 use Rattle.btreekv_commands.specs.Texts.{texts_of}
-use Rattle.btreekv_types.specs.Typed.{RefusesTypedStrict, items_by, spelled, spelled_entry}
+use Rattle.btreekv_types.specs.Typed.{items_by, spelled, spelled_entry}
 use Rattle.btreekv_types.proofs.Shown.{all_shown}
 use Rattle.btreekv_types.proofs.changing.push_entries.Goals as goal
 

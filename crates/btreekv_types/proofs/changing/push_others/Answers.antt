@@ -1,9 +1,8 @@
 -- The texts of one file more, or the first that isn't read.
-use Rattle.std.proofs.Common.{◌≡◌, ◌∙◌, ◌++◌, ◌∷◌, ◌+◌, [], ap, append-nil, drop, get_or, map, refl, rules, subst, sym, take}
+use Rattle.std.proofs.Common.{◌≡◌, ◌++◌, ◌∷◌, ◌+◌, [], append-nil, drop, get_or, map, refl, rules, subst, sym, take}
 use Rattle.rkyv_btree_typed.specs.TypeNames.{name_of}
 use Rattle.rkyv_btree_typed.specs.TypeNames as term
 use Rattle.btreearc_lines.specs.Grammar.{AreEach}
-use Rattle.btreekv_commands.specs.Texts.{texts_of}
 use Rattle.btreekv_types.specs.Commands.{FailsToRead, HasTexts}
 use Rattle.btreekv_types.specs.Typed.{RefusesTypedStrict, items_by}
 use Rattle.btreekv_types.specs.declared.fault.TypedFault.TheVariants.{Program}

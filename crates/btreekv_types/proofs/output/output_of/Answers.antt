@@ -61,3 +61,21 @@ returns-in-Ok-merge-clause-ok g c = rw c.in-Merge.is (λ key_to value_to keys va
 
 pub returns-in-Err-merge-clause-err : goal.returns-in-Err-merge-clause-err
 returns-in-Err-merge-clause-err g c = rw c.in-Merge.is (rw c.as_slice.ensures.value at c.in-Err-merge.ensures.err)
+
+pub returns-in-Ok-update-clause-ok : goal.returns-in-Ok-update-clause-ok
+returns-in-Ok-update-clause-ok g c = rw c.in-Update.is (λ key_to value_to keys values maps. (refl, rw c.as_slice-in-Update.ensures.value at (c.in-Ok-update.ensures.ok key_to value_to keys values maps)))
+
+pub returns-in-Err-update-clause-err : goal.returns-in-Err-update-clause-err
+returns-in-Err-update-clause-err g c = rw c.in-Update.is (rw c.as_slice-in-Update.ensures.value at c.in-Err-update.ensures.err)
+
+pub returns-in-Ok-prefix-clause-ok : goal.returns-in-Ok-prefix-clause-ok
+returns-in-Ok-prefix-clause-ok g c = rw c.in-Prefix.is c.in-Ok-prefix.ensures.ok
+
+pub returns-in-Err-prefix-clause-err : goal.returns-in-Err-prefix-clause-err
+returns-in-Err-prefix-clause-err g c = rw c.in-Prefix.is c.in-Err-prefix.ensures.err
+
+pub returns-in-Ok-diff-clause-ok : goal.returns-in-Ok-diff-clause-ok
+returns-in-Ok-diff-clause-ok g c = rw c.in-Diff.is (λ key_to value_to keys values maps. (refl, rw c.as_slice-in-Diff.ensures.value at (c.in-Ok-diff.ensures.ok key_to value_to keys values maps)))
+
+pub returns-in-Err-diff-clause-err : goal.returns-in-Err-diff-clause-err
+returns-in-Err-diff-clause-err g c = rw c.in-Diff.is (rw c.as_slice-in-Diff.ensures.value at c.in-Err-diff.ensures.err)

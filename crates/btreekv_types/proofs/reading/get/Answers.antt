@@ -1,6 +1,6 @@
 -- The value of the key that is found is written.
 use Rattle.std.proofs.Common.{◌≡◌, ◌∙◌, ap, rules}
-use Rattle.rkyv_btree_view.specs.View.{entries_of, view_entry}
+use Rattle.rkyv_btree_view.specs.View.{entries_of}
 use Rattle.btreekv_commands.specs.Forms.{value_line}
 use Rattle.btreekv_types.specs.Typed.{items_by, spelled_entry}
 use Rattle.btreekv_types.proofs.Meant.{key_meant, key_text_meant}

@@ -1,0 +1,2 @@
+-- Functions that follow the code.
+pub mod Differing
