@@ -25,7 +25,5 @@ mod reading;
 mod sought;
 pub mod source;
 pub mod sourced;
-#[cfg(test)]
-mod tests;
 pub mod types;
 mod updating;
