@@ -25,11 +25,15 @@ use std::os::unix::fs::FileExt;
 use std::slice::Iter;
 use std::str::from_utf8;
 
-/// The number of blocks that the look-up of one key keeps, of 4 kilobytes each.
-pub(crate) const FEW_BLOCKS: usize = 16;
+/// The number of blocks, of 4 kilobytes each, that the look-up of one entry keeps: it goes down the tree, and never comes back to one that it has
+/// left.
+pub(crate) const FEW_BLOCKS: usize = 4;
 
 /// The number of blocks that the look-ups of many keys keep.
-pub(crate) const MANY_BLOCKS: usize = 2048;
+const MANY_BLOCKS: usize = 2048;
+
+/// The number of blocks that the look-ups of a few keys keep for each of them.
+const BLOCKS_FOR_A_KEY: usize = 16;
 
 /// The most bytes of a regular file that is read whole for many keys.
 const MOST_WHOLE: u64 = 268435456;
@@ -375,6 +379,17 @@ fn read_archive(
     Ok(bytes)
 }
 
+/// Returns how many blocks the look-ups of keys keep.
+pub(crate) fn blocks_for(keys: KeyList<'_>) -> usize {
+    match keys {
+        KeyList::From(_) => MANY_BLOCKS,
+        KeyList::Words(words) => {
+            let blocks = words.len().saturating_mul(BLOCKS_FOR_A_KEY);
+            blocks.min(MANY_BLOCKS)
+        }
+    }
+}
+
 /// Looks up keys in the archive of texts of this name.
 fn get_keys(
     system: &System<'_>,
@@ -385,7 +400,7 @@ fn get_keys(
     let file = system.open(path)?;
     let in_parts = is_regular(&file) && !matches.get_flag("validate");
     if in_parts && !are_many(system, &file, keys) {
-        return match cached(system, file, MANY_BLOCKS) {
+        return match cached(system, file, blocks_for(keys)) {
             Ok(source) => get_texts_in(system, matches, path, source, keys),
             Err(fault) => Err(system.fail(Names::of_input(Some(path)), &fault)),
         };

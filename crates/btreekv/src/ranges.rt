@@ -1,6 +1,6 @@
 //! The first and the last entry, ranges of keys, and keys that begin with a text. A regular file isn't read whole.
 
-use crate::lookups::{cached, in_all, is_regular, write_stats};
+use crate::lookups::{FEW_BLOCKS, cached, in_all, is_regular, write_stats};
 use crate::progress::Progress;
 use crate::system::{Ended, Names, System};
 use crate::words;
@@ -74,7 +74,11 @@ fn in_parts(
     matches: &ArgMatches<'_>,
     file: File,
 ) -> Result<u8, ProgramFault> {
-    let mut source = cached(system, file, BLOCKS)?;
+    let blocks = match name {
+        "first" | "last" => FEW_BLOCKS,
+        _ => BLOCKS,
+    };
+    let mut source = cached(system, file, blocks)?;
     let Ok(size) = source.size() else {
         return Err(ProgramFault::InputFailed);
     };

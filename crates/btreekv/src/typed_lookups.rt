@@ -1,8 +1,8 @@
 //! Look-ups in maps of other types than texts. A regular file isn't read whole.
 
 use crate::lookups::{
-    Archive, FEW_BLOCKS, KeyList, MANY_BLOCKS, SizedFile, are_many, cached, get_keys_in,
-    is_regular, key_words, write_stats,
+    Archive, FEW_BLOCKS, KeyList, SizedFile, are_many, blocks_for, cached, get_keys_in, is_regular,
+    key_words, write_stats,
 };
 use crate::progress::Progress;
 use crate::system::{Ended, Names, System};
@@ -27,6 +27,9 @@ use std::alloc::Global;
 use std::fs::File;
 use std::io;
 use std::io::ErrorKind;
+
+/// The number of blocks that a range keeps.
+const BLOCKS: usize = 16;
 
 /// What look-ups read, so that there is one copy of them for both.
 #[derive(Drop)]
@@ -117,7 +120,11 @@ pub(crate) fn in_parts(
     matches: &ArgMatches<'_>,
     file: File,
 ) -> Result<u8, TypedFault> {
-    let mut source = Input::Blocks(typed(cached(system, file, FEW_BLOCKS))?);
+    let blocks = match &run.command {
+        TypedCommand::Range(_, _, _) => BLOCKS,
+        _ => FEW_BLOCKS,
+    };
+    let mut source = Input::Blocks(typed(cached(system, file, blocks))?);
     let Ok(size) = source.size() else {
         return Err(TypedFault::Program(ProgramFault::InputFailed));
     };
@@ -192,7 +199,7 @@ fn input_of(
 ) -> Result<Input, TypedFault> {
     let in_parts = is_regular(&file) && !matches.get_flag("validate");
     if in_parts && !are_many(system, &file, keys) {
-        return Ok(Input::Blocks(typed(cached(system, file, MANY_BLOCKS))?));
+        return Ok(Input::Blocks(typed(cached(system, file, blocks_for(keys)))?));
     }
     let bytes = typed(read_all(system.alloc(), &mut Progress::of_file(system, file)))?;
     if !in_parts {

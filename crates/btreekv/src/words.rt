@@ -58,6 +58,12 @@ const GET_EXAMPLES: &str = "Examples:
   btreekv get fig pear apple fruits
   btreekv get --keys-from keys fruits";
 
+/// The names of the commands, in the order of the help.
+const COMMANDS: [&str; 15] = [
+    "build", "update", "set", "merge", "diff", "top", "list", "check", "stat", "explain", "first",
+    "last", "get", "range", "prefix",
+];
+
 /// Returns a flag of a command.
 fn flag<'a>(alloc: Global, name: &'a str, help: &'a str) -> Arg<'a> {
     Arg::new(alloc, name)
@@ -442,44 +448,61 @@ fn prefix<'a>(alloc: Global) -> Result<Command<'a>, AllocError> {
         .arg(file(alloc))
 }
 
-/// Adds the commands that make archives, and the one that compares two.
-fn with_makers<'a>(alloc: Global, command: Command<'a>) -> Result<Command<'a>, AllocError> {
-    command
-        .subcommand(build(alloc)?)?
-        .subcommand(update(alloc)?)?
-        .subcommand(set(alloc)?)?
-        .subcommand(merge(alloc)?)?
-        .subcommand(diff(alloc)?)?
-        .subcommand(top(alloc)?)
+/// Returns the words of the command of this name, if there is one.
+fn command_named<'a>(alloc: Global, name: &str) -> Result<Option<Command<'a>>, AllocError> {
+    let command = match name {
+        "build" => build(alloc),
+        "update" => update(alloc),
+        "set" => set(alloc),
+        "merge" => merge(alloc),
+        "diff" => diff(alloc),
+        "top" => top(alloc),
+        "list" => list(alloc),
+        "check" => check(alloc),
+        "stat" => stat(alloc),
+        "explain" => explain(alloc),
+        "first" => first(alloc),
+        "last" => last(alloc),
+        "get" => get(alloc),
+        "range" => range(alloc),
+        "prefix" => prefix(alloc),
+        _ => return Ok(None),
+    };
+    Ok(Some(command?))
 }
 
-/// Adds the commands that read one archive.
-fn with_readers<'a>(alloc: Global, command: Command<'a>) -> Result<Command<'a>, AllocError> {
-    command
-        .subcommand(list(alloc)?)?
-        .subcommand(check(alloc)?)?
-        .subcommand(stat(alloc)?)?
-        .subcommand(explain(alloc)?)?
-        .subcommand(first(alloc)?)?
-        .subcommand(last(alloc)?)?
-        .subcommand(get(alloc)?)?
-        .subcommand(range(alloc)?)?
-        .subcommand(prefix(alloc)?)
+/// Adds all commands.
+fn with_commands<'a>(alloc: Global, program: Command<'a>) -> Result<Command<'a>, AllocError> {
+    let mut program = program;
+    for name in &COMMANDS {
+        if let Some(command) = command_named(alloc, name)? {
+            program = program.subcommand(command)?;
+        }
+    }
+    Ok(program)
 }
 
-/// Returns what the program understands.
-fn grammar<'a>(alloc: Global) -> Result<Command<'a>, AllocError> {
-    let command = Command::new(alloc, "btreekv")
+/// Returns what the program understands after this first word. If it is the name of a command, no other command is made: to make all of
+/// them takes longer than a look-up.
+fn grammar<'a>(alloc: Global, first: &str) -> Result<Command<'a>, AllocError> {
+    let program = Command::new(alloc, "btreekv")
         .about("Builds, validates, queries and changes archived maps of texts")
         .version("0.1.0")
         .after_help(EXAMPLES)
         .subcommand_required(true);
-    with_readers(alloc, with_makers(alloc, command)?)
+    match command_named(alloc, first)? {
+        Some(command) => program.subcommand(command),
+        None => with_commands(alloc, program),
+    }
 }
 
 /// Reads the words of the command line.
 pub fn parse<'a>(alloc: Global, words: &'a [String]) -> Result<ArgMatches<'a>, Error> {
-    grammar(alloc)?.try_get_matches_from(words)
+    let first = match words.get(1) {
+        Some(word) => word.as_str(),
+        None => "",
+    };
+    grammar(alloc, first)?.try_get_matches_from(words)
 }
 
 /// Returns a word as a text of its own.
