@@ -25,7 +25,7 @@ use std::os::unix::fs::FileExt;
 use std::slice::Iter;
 use std::str::from_utf8;
 
-/// The number of blocks, of 4 kilobytes each, that the look-up of one entry keeps: it goes down the tree, and never comes back to one that it has
+/// The number of blocks, of 4 kilobytes each, that the look-up of one entry keeps: it goes down the tree, and seldom comes back to one that it has
 /// left.
 pub(crate) const FEW_BLOCKS: usize = 4;
 
