@@ -165,10 +165,11 @@ ends 2 'btreekv: u32 are no types KEY:VALUE'       ''                          '
 ends 2 'btreekv: u32:number are no types KEY:VALUE' ''                         ''                            build --types u32:number
 ends 0 ''                                          'b\t1\na\t2\n'              "$(archive_of 'a\t2\nb\t1\n')" build --types text:text
 
-# options and pairs
+# options, pairs and triples
 options=$(archive_of '10\t7\n9\t\n' --types 'u32:option(u64)')
 stops=$(archive_of 'b\t45,Bern, Wankdorf\na\t30,\n' --types 'text:(u32, text)')
-months=$(archive_of '2026,10\t155\n2026,9\t-1\n' --types '(u32, u32):i64')
+months=$(archive_of '2026,10\t155\n2026,9\t1\n' --types '(u32, u32):u64')
+days=$(archive_of '2026,10,1\tThursday\n2026,9,30\tWednesday\n' --types '(u32, u32, u32):text')
 ends 0 ''                                          "$options"                  '9\t\n10\t7\n'             list
 ends 0 ''                                          "$options"                  '{"9":"","10":"7"}\n'        list --json
 ends 0 ''                                          "$options"                  '\n'                         get 9
@@ -180,23 +181,35 @@ ends 2 'btreekv: refused: the bytes are of type [u32 -> option(u64) / 5], not [u
 ends 0 ''                                          "$stops"                    'a\t30,\nb\t45,Bern, Wankdorf\n' list
 ends 0 ''                                          "$stops"                    '45,Bern, Wankdorf\n'        get b
 ends 2 'btreekv: 45 is no (u32, text)'             "$stops"                    ''                           set b 45
-ends 0 ''                                          "$months"                   '2026,9\t-1\n2026,10\t155\n' list
+ends 0 ''                                          "$months"                   '2026,9\t1\n2026,10\t155\n' list
 ends 0 ''                                          "$months"                   '2026,10\t155\n'            last
-ends 0 ''                                          "$months"                   '2026,9\t-1\n'              range 2025,12 2026,9
+ends 0 ''                                          "$months"                   '2026,9\t1\n'               range 2025,12 2026,9
 ends 2 'btreekv: 2026, 9 is no (u32, u32)'         "$months"                   ''                           get '2026, 9'
-ends 2 'btreekv: entry 2: the key is no (u32, u32)' '1,2\t3\n1\t2\n'          ''                           build --types '(u32, u32):u8'
-ends 2 'btreekv: entry 1: the value is no option(i64)' '1\t-0\n'              ''                           build --types 'u8:option(i64)'
+ends 2 'btreekv: entry 2: the key is no (u32, u32)' '1,2\t3\n1\t2\n'          ''                           build --types '(u32, u32):u32'
+ends 2 'btreekv: entry 1: the value is no option(i64)' '1\t-0\n'              ''                           build --types 'u32:option(i64)'
+ends 0 ''                                          "$days"                     'Thursday\n'                get 2026,10,1
+ends 0 ''                                          "$days"                     '2026,9,30\tWednesday\n'   prefix 2026,9
+ends 2 'btreekv: 2026,10 is no (u32, u32, u32)'    "$days"                     ''                           get 2026,10
+ends 2 'btreekv: 2026,10,1,0 is no (u32, u32, u32)' "$days"                    ''                           get 2026,10,1,0
+ends 2 'btreekv: u16:option(u32) are no types KEY:VALUE' ''                    ''                           build --types 'u16:option(u32)'
 
-# each type that the program has maps of: the lesser of two entries comes first; a pair as key goes with no option and no pair, and an
-# option is no key
+# each type that the program has maps of: the lesser of two entries comes first. A type with parts goes with a common type, and an option is
+# no key
 plain=(u8 u16 u32 u64 i32 i64 text bytes)
 numbered=('option(u32)' 'option(u64)' 'option(i64)')
-paired=('(u32, u32)' '(u64, u64)' '(u32, text)')
-declare -A low=([i32]=-10 [i64]=-10 [text]=10 [bytes]=0f ['option(u32)']='' ['option(u64)']='' ['option(i64)']=-3 ['(u32, u32)']=9,10 ['(u64, u64)']=9,10 ['(u32, text)']=9,b)
-declare -A high=([i32]=-9 [i64]=9 [text]=9 [bytes]=1e ['option(u32)']=0 ['option(u64)']=4 ['option(i64)']=5 ['(u32, u32)']=10,9 ['(u64, u64)']=10,9 ['(u32, text)']=10,a)
-for key in "${plain[@]}" "${paired[@]}" "${numbered[@]}"; do
-    for value in "${plain[@]}" "${numbered[@]}" "${paired[@]}"; do
-        if [[ $key == option* || $key == *,* && $value == *'('* ]]; then
+tuples=('(u32, u32)' '(u64, u64)' '(u32, text)' '(u32, u32, u32)' '(u64, u64, u64)')
+declare -A low=([i32]=-10 [i64]=-10 [text]=10 [bytes]=0f ['option(u32)']='' ['option(u64)']='' ['option(i64)']=-3 ['(u32, u32)']=9,10 ['(u64, u64)']=9,10 ['(u32, text)']=9,b ['(u32, u32, u32)']=9,9,10 ['(u64, u64, u64)']=9,9,10)
+declare -A high=([i32]=-9 [i64]=9 [text]=9 [bytes]=1e ['option(u32)']=0 ['option(u64)']=4 ['option(i64)']=5 ['(u32, u32)']=10,9 ['(u64, u64)']=10,9 ['(u32, text)']=10,a ['(u32, u32, u32)']=9,10,9 ['(u64, u64, u64)']=9,10,9)
+# whether the program has maps of two types
+go_together() {
+    [[ $1 == option* ]] && return 1
+    [[ $2 == *'('* && $1 != u32 && $1 != u64 && $1 != text ]] && return 1
+    [[ $1 == '('* && $2 != u32 && $2 != u64 && $2 != text ]] && return 1
+    return 0
+}
+for key in "${plain[@]}" "${tuples[@]}" "${numbered[@]}"; do
+    for value in "${plain[@]}" "${numbered[@]}" "${tuples[@]}"; do
+        if ! go_together "$key" "$value"; then
             ends 2 "btreekv: $key:$value are no types KEY:VALUE" '' '' build --types "$key:$value"
             continue
         fi
@@ -458,8 +471,8 @@ printf '%b' "$months" > months
 size=$(stat -c %s options)
 ends 0 "btreekv: $size of $size bytes read" '' '7\n' get --stats 10 options
 ends 0 '' '' '10\tTEN\n' prefix 1 numbers
-ends 0 '' '' '2026,9\t-1\n' first months
-ends 0 '' '' '2026,9\t-1\n' range 2025,12 2026,9 months
+ends 0 '' '' '2026,9\t1\n' first months
+ends 0 '' '' '2026,9\t1\n' range 2025,12 2026,9 months
 ends 0 '' '' '2026,10\t155\n' prefix 2026,1 months
 ends 1 '' '' '10\tTEN\n' get 10 11 numbers
 ends 2 'btreekv: 010 is no u32' '' '' get 9 010 numbers
@@ -667,6 +680,19 @@ python3 resident.py $held "$program" list --json large 2>> said | tail -c 32 | g
 python3 resident.py $held "$program" list --tsv large 2>> said | cmp -s - <(printf 'key\tvalue\n' && cat million) ||
     fail "a million lines: another table"
 [[ $(python3 resident.py $held "$program" check --strict large 2>> said) == 'ok 1000000 entries' ]] || fail "a million lines: not checked"
+[[ $(python3 resident.py $held "$program" explain large 2>> said | tail -n 1) == *'  1000000 entries in the map' ]] || fail "a million lines: not explained"
+# And so do list, range, prefix and check of a map of other types.
+"$program" build --types u32:text million > numbered
+held=$(($(stat -c %s numbered) / 1024 + 8192))
+python3 resident.py $held "$program" list numbered 2>> said | cmp -s - million || fail "a million numbers: listed otherwise"
+python3 resident.py $held "$program" list --json numbered 2>> said | tail -c 32 | grep -q '^.*,"1999999":"value of 1999999"}$' ||
+    fail "a million numbers: another JSON object"
+python3 resident.py $held "$program" list --tsv numbered 2>> said | cmp -s - <(printf 'key\tvalue\n' && cat million) ||
+    fail "a million numbers: another table"
+python3 resident.py $held "$program" range --validate 1000001 1999999 numbered 2>> said | cmp -s - <(tail -n +2 million) ||
+    fail "a million numbers: another range"
+python3 resident.py $held "$program" prefix 1 numbered 2>> said | cmp -s - million || fail "a million numbers: other entries with a prefix"
+[[ $(python3 resident.py $held "$program" check --strict numbered 2>> said) == 'ok 1000000 entries' ]] || fail "a million numbers: not checked"
 [[ ! -s said ]] || fail "a million lines: on standard error: $(cat said)"
 [[ $(resident get --stats 1500000 large 2> said) == 'value of 1500000' ]] || fail "a million lines: another value: $(cat said)"
 read -r _ count of size words < said

@@ -1,15 +1,13 @@
 //! The command `list`.
 
 use crate::archives::read;
+use crate::sink::WRITE_LEN;
 use crate::system::{Ended, Names, System};
 use crate::words::{form_of, table_of};
 use btreearc_lines::fault::ProgramFault;
 use btreekv_commands::list::{list, list_object, list_table};
 use clap::ArgMatches;
 use std::io::BufWriter;
-
-/// The number of bytes that one write of entries has.
-const WRITE_LEN: usize = 65536;
 
 /// Writes the entries of an archive, as its words say.
 fn write_entries(

@@ -10,6 +10,7 @@ mod output;
 mod overwritten;
 mod progress;
 mod ranges;
+mod sink;
 mod system;
 mod typed;
 mod typed_lookups;

@@ -3,6 +3,7 @@
 use crate::lookups::{in_all, is_regular, write_stats};
 use crate::output::Output;
 use crate::progress::Progress;
+use crate::sink::Sink;
 use crate::system::{Ended, Named, Names, System, bad_byte_of};
 use crate::typed_lookups::{get_keys, in_parts};
 use crate::{archives, listed, overwritten, words};
@@ -82,21 +83,28 @@ fn typed_run(
     }
 }
 
-/// Runs a command over an input and an output.
-fn run_to<R: Read, W: Write>(
+/// Runs a command over an input and an output, and flushes that.
+fn run_to<R: Read>(
     system: &System<'_>,
     typed: &TypedRun,
     input: &mut R,
-    output: &mut W,
+    mut output: Sink<'_, '_>,
 ) -> Result<u8, TypedFault> {
-    program::run(
+    let status = match program::run(
         system.alloc(),
         typed.types,
         typed.style,
         &typed.command,
         input,
-        output,
-    )
+        &mut output,
+    ) {
+        Ok(status) => status,
+        Err(fault) => return Err(fault),
+    };
+    match output.flush() {
+        Ok(()) => Ok(status),
+        Err(_) => Err(TypedFault::Program(ProgramFault::OutputFailed)),
+    }
 }
 
 /// Runs a command over an input, into a file that takes the place of an old one.
@@ -111,7 +119,7 @@ fn run_into<R: Read>(
         Err(fault) => return Err(TypedFault::Program(fault)),
     };
     let done = match output.file() {
-        Ok(file) => run_to(system, typed, input, &mut system.writing(file)),
+        Ok(file) => run_to(system, typed, input, Sink::File(system.writing(file))),
         Err(fault) => Err(TypedFault::Program(fault)),
     };
     match done {
@@ -134,9 +142,12 @@ fn run_over<R: Read>(
     input: &mut R,
     output: Option<&str>,
 ) -> Result<u8, TypedFault> {
-    match output {
-        Some(path) => run_into(system, typed, input, path),
-        None => run_to(system, typed, input, &mut system.stdout()),
+    if let Some(path) = output {
+        return run_into(system, typed, input, path);
+    }
+    match Sink::stdout(system) {
+        Ok(output) => run_to(system, typed, input, output),
+        Err(fault) => Err(TypedFault::Program(fault)),
     }
 }
 
@@ -419,7 +430,11 @@ fn types_of_map(name: &str) -> Option<Types> {
 
 /// Returns whether keys and values are texts.
 fn is_texts(types: Types) -> bool {
-    types == Types::PlainKeys(PlainType::Text, AnyType::Plain(PlainType::Text))
+    types
+        == Types::Plain(PlainTypes {
+            key: PlainType::Text,
+            value: PlainType::Text,
+        })
 }
 
 /// Returns the types that the header names with which bytes begin, if they are known and aren't texts to texts.

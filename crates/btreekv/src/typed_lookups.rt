@@ -5,6 +5,7 @@ use crate::lookups::{
     key_words, write_stats,
 };
 use crate::progress::Progress;
+use crate::sink::Sink;
 use crate::system::{Ended, Names, System};
 use crate::typed::{TypedRun, fail_of};
 use crate::words;
@@ -175,14 +176,13 @@ fn validate(
 ) -> Result<(), TypedFault> {
     let alloc = system.alloc();
     let mut input = bytes;
-    let mut line = Vec::new(alloc);
     match program::run(
         alloc,
         types,
         style,
         &TypedCommand::Check,
         &mut input,
-        &mut line,
+        &mut Sink::Nothing,
     ) {
         Ok(_) => Ok(()),
         Err(fault) => Err(fault),
@@ -226,9 +226,9 @@ fn get_keys_of(
 ) -> Result<u8, Ended> {
     let names = Names::of_input(Some(path));
     let file = system.open(path)?;
-    let mut source = match input_of(system, types.types(), matches, file, keys) {
+    let mut source = match input_of(system, Types::Plain(types), matches, file, keys) {
         Ok(source) => source,
-        Err(fault) => return Err(fail(system, types.types(), names, &fault)),
+        Err(fault) => return Err(fail(system, Types::Plain(types), names, &fault)),
     };
     let Ok(size) = source.size() else {
         return Err(system.fail(names, &ProgramFault::InputFailed));
@@ -239,7 +239,7 @@ fn get_keys_of(
             let archive = TypedArchive { style, archive };
             get_keys_in(system, matches, names, size, archive, keys)
         }
-        Err(fault) => Err(fail_of(system, types.types(), names, &fault)),
+        Err(fault) => Err(fail_of(system, Types::Plain(types), names, &fault)),
     }
 }
 

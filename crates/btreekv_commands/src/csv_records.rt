@@ -214,12 +214,7 @@ pub fn write_pair(writer: &mut Writer<Vec<u8>>, key: &str, value: &str) -> Resul
 /// # Errors
 ///
 /// `Memory` if an allocation fails.
-pub(crate) fn row_of(
-    alloc: Global,
-    table: Table,
-    key: &str,
-    value: &str,
-) -> Result<Vec<u8>, ProgramFault>
+pub fn row_of(alloc: Global, table: Table, key: &str, value: &str) -> Result<Vec<u8>, ProgramFault>
     ensures ok { IfOk result (λ row. row.items ≡ entry_row table (key.now, value.now)) }
     ensures err { IfErr result (λ fault. fault ≡ ProgramFault.Memory) }
 {

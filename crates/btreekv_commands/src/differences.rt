@@ -28,7 +28,7 @@ pub fn differences_are_read()
 /// # Errors
 ///
 /// Where the line finds no room.
-fn write_change(out: &mut String, key: &str, change: Change<&str>) -> Result<(), AllocError>
+pub fn write_change(out: &mut String, key: &str, change: Change<&str>) -> Result<(), AllocError>
     ensures { OnOk result (string_bytes out.new ≡ string_bytes out.old
         ++ change_line (key.now, change_meant (λ value. value.now) change.entry)) }
 {

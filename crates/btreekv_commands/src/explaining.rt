@@ -4,6 +4,7 @@ ghost use Rattle.btreekv_commands.specs.Explaining.{FailsToExplain, IsOutputFaul
 ghost use Rattle.btreekv_commands.specs.Lines.{Entry};
 ghost use Rattle.btreekv_commands.specs.Opening.{IsInput};
 
+use crate::hexadecimal::{byte_digits, digits_of};
 use crate::meaning::{Link, Meaning, Part};
 use crate::opening::{Texts, open};
 use btreearc_lines::fault::ProgramFault;
@@ -20,8 +21,11 @@ pub(crate) const ENTRIES: usize = 5;
 /// How many bytes a line has at most.
 const ROW: usize = 8;
 
-/// The digits of hexadecimal numbers.
-const DIGITS: [u8; 16] = *b"0123456789abcdef";
+/// Where a line has the digits of its first byte: after a position and two spaces.
+const DIGITS_AT: usize = 10;
+
+/// Where a line has the meaning: after a space and two digits for each byte, and two spaces more.
+const MEANING_AT: usize = 9 + 3 * ROW + 2;
 
 /// After so many bytes the lines are written.
 const BLOCK: usize = 65536;
@@ -35,13 +39,36 @@ const NAME_AT: u32 = 12;
 /// The pointer to no node.
 const NO_NODE: u32 = 1;
 
-/// An archive, the lines of it that aren't written yet, memory for a meaning, and the first position that no line explains.
+/// An archive, the lines of it that aren't written yet, and the first position that no line explains.
 #[derive(Drop)]
 struct Explanation<'a> {
     archive: &'a [u8],
     lines: Vec<u8>,
-    meaning: String,
     next: u32,
+}
+
+/// Why lines aren't written. It is smaller than the program's fault, since each line's result has room for one.
+#[derive(Clone, Copy)]
+enum WriteFault {
+    Memory,
+    Output,
+}
+
+impl From<AllocError> for WriteFault {
+    fn from(_error: AllocError) -> WriteFault {
+        WriteFault::Memory
+    }
+}
+
+impl From<WriteFault> for ProgramFault {
+    ghost from_gives = { λ _ fault. IsOutputFault fault };
+
+    fn from(fault: WriteFault) -> ProgramFault {
+        match fault {
+            WriteFault::Memory => ProgramFault::Memory,
+            WriteFault::Output => ProgramFault::OutputFailed,
+        }
+    }
 }
 
 /// Returns the bytes of a range, or none if they aren't all there.
@@ -75,36 +102,39 @@ pub(crate) fn is_leaf(archive: &[u8], node: u32) -> bool {
     }
 }
 
-/// Writes the two digits of a byte at the end.
-fn push_digits(line: &mut Vec<u8>, byte: u8) -> Result<(), AllocError> {
-    let high = DIGITS[usize::from(byte / 16)];
-    let low = DIGITS[usize::from(byte % 16)];
-    line.extend_from_slice(&[high, low])
+/// Writes what comes before the meaning in a line at the end: a position, and the first eight bytes of a row.
+fn push_margin(lines: &mut Vec<u8>, pos: u32, row: &[u8]) -> Result<(), AllocError> {
+    let start = lines.len();
+    lines.extend_from_slice(&[b' '; MEANING_AT])?;
+    let margin = &mut lines[start..];
+    margin[..8].copy_from_slice(&digits_of(pos));
+    for (index, byte) in row.iter().take(ROW).enumerate() {
+        let [high, low] = byte_digits(*byte);
+        margin[DIGITS_AT + 3 * index] = high;
+        margin[DIGITS_AT + 3 * index + 1] = low;
+    }
+    Ok(())
 }
 
-/// Writes a line at the end: a position, up to eight bytes, and their meaning.
-fn push_row(lines: &mut Vec<u8>, pos: u32, bytes: &[u8], meaning: &str) -> Result<(), AllocError> {
-    for byte in &pos.to_be_bytes() {
-        push_digits(lines, *byte)?;
+/// Writes a line at the end: a position, up to eight bytes, and their meaning, if it isn't written yet.
+fn push_row(
+    lines: &mut Vec<u8>,
+    pos: u32,
+    row: &[u8],
+    meaning: Option<Meaning>,
+) -> Result<(), AllocError> {
+    push_margin(lines, pos, row)?;
+    if let Some(meaning) = meaning {
+        meaning.push(lines)?;
     }
-    lines.extend_from_slice(b" ")?;
-    for byte in bytes {
-        lines.extend_from_slice(b" ")?;
-        push_digits(lines, *byte)?;
-    }
-    for _ in bytes.len()..ROW {
-        lines.extend_from_slice(b"   ")?;
-    }
-    lines.extend_from_slice(b"  ")?;
-    lines.extend_from_slice(meaning.as_bytes())?;
     lines.extend_from_slice(b"\n")
 }
 
 /// Writes the lines to the output, and holds none.
-fn flush<W: Write>(out: &mut Explanation<'_>, output: &mut W) -> Result<(), ProgramFault>
-    ensures { IfErr result IsOutputFault }
-{
-    write_all(output, &out.lines)?;
+fn flush<W: Write>(out: &mut Explanation<'_>, output: &mut W) -> Result<(), WriteFault> {
+    if write_all(output, &out.lines).is_err() {
+        return Err(WriteFault::Output);
+    }
     out.lines.clear();
     Ok(())
 }
@@ -115,13 +145,9 @@ fn write_row<W: Write>(
     output: &mut W,
     pos: u32,
     row: &[u8],
-) -> Result<(), ProgramFault>
-    ensures { IfErr result IsOutputFault }
-{
-    if push_row(&mut out.lines, pos, row, out.meaning.as_str()).is_err() {
-        return Err(ProgramFault::Memory);
-    }
-    out.meaning.clear();
+    meaning: Option<Meaning>,
+) -> Result<(), WriteFault> {
+    push_row(&mut out.lines, pos, row, meaning)?;
     if out.lines.len() < BLOCK {
         return Ok(());
     }
@@ -135,17 +161,12 @@ fn write<W: Write>(
     pos: u32,
     len: u32,
     meaning: Meaning,
-) -> Result<(), ProgramFault>
-    ensures { IfErr result IsOutputFault }
-{
-    out.meaning.clear();
-    if write!(out.meaning, "{meaning}").is_err() {
-        return Err(ProgramFault::Memory);
-    }
+) -> Result<(), WriteFault> {
     let mut at = pos;
+    let mut meaning = Some(meaning);
     let archive = out.archive;
     for row in bytes_at(archive, pos, len).chunks(ROW) {
-        write_row(out, output, at, row)?;
+        write_row(out, output, at, row, meaning.take())?;
         at = at.wrapping_add(row.len() as u32);
     }
     out.next = pos.wrapping_add(len);
@@ -157,9 +178,7 @@ fn skip_to<W: Write>(
     out: &mut Explanation<'_>,
     output: &mut W,
     pos: u32,
-) -> Result<(), ProgramFault>
-    ensures { IfErr result IsOutputFault }
-{
+) -> Result<(), WriteFault> {
     let next = out.next;
     if next >= pos {
         return Ok(());
@@ -174,9 +193,7 @@ fn write_at<W: Write>(
     pos: u32,
     len: u32,
     meaning: Meaning,
-) -> Result<(), ProgramFault>
-    ensures { IfErr result IsOutputFault }
-{
+) -> Result<(), WriteFault> {
     skip_to(out, output, pos)?;
     write(out, output, pos, len, meaning)
 }
@@ -189,9 +206,7 @@ fn write_text<W: Write>(
     part: Part,
     index: usize,
     node: u32,
-) -> Result<(), ProgramFault>
-    ensures { IfErr result IsOutputFault }
-{
+) -> Result<(), WriteFault> {
     let start = target_at(out.archive, slot);
     let len = number_at(out.archive, slot.wrapping_add(4));
     write_at(out, output, start, len, Meaning::Text(part, index, node))
@@ -204,9 +219,7 @@ fn write_slot<W: Write>(
     slot: u32,
     part: Part,
     index: usize,
-) -> Result<(), ProgramFault>
-    ensures { IfErr result IsOutputFault }
-{
+) -> Result<(), WriteFault> {
     let start = target_at(out.archive, slot);
     let len_slot = slot.wrapping_add(4);
     let len = number_at(out.archive, len_slot);
@@ -251,9 +264,8 @@ fn write_entries<W: Write>(
     node: u32,
     kind: Meaning,
     count: usize,
-) -> Result<(), ProgramFault>
+) -> Result<(), WriteFault>
     requires { count ≤ 5 }
-    ensures { IfErr result IsOutputFault }
 {
     for index in 0..count {
         write_text(out, output, key_slot(node, index), Part::Key, index, node)?;
@@ -281,9 +293,7 @@ fn write_leaf<W: Write>(
     out: &mut Explanation<'_>,
     output: &mut W,
     node: u32,
-) -> Result<(), ProgramFault>
-    ensures { IfErr result IsOutputFault }
-{
+) -> Result<(), WriteFault> {
     let slot = count_slot(node);
     let count = number_at(out.archive, slot);
     write_entries(
@@ -310,9 +320,7 @@ fn write_pointer<W: Write>(
     output: &mut W,
     slot: u32,
     link: Link,
-) -> Result<(), ProgramFault>
-    ensures { IfErr result IsOutputFault }
-{
+) -> Result<(), WriteFault> {
     let node = node_of(out.archive, slot);
     write_at(out, output, slot, 4, Meaning::Pointer(link, node))
 }
@@ -322,9 +330,7 @@ fn write_inner<W: Write>(
     out: &mut Explanation<'_>,
     output: &mut W,
     node: u32,
-) -> Result<(), ProgramFault>
-    ensures { IfErr result IsOutputFault }
-{
+) -> Result<(), WriteFault> {
     write_entries(out, output, node, Meaning::InnerNode, ENTRIES)?;
     for index in 0..ENTRIES + 1 {
         write_pointer(out, output, child_slot(node, index), Link::Child(index))?;
@@ -337,9 +343,7 @@ fn write_tree<W: Write>(
     out: &mut Explanation<'_>,
     output: &mut W,
     node: u32,
-) -> Result<(), ProgramFault>
-    ensures { IfErr result IsOutputFault }
-{
+) -> Result<(), WriteFault> {
     if is_leaf(out.archive, node) {
         return write_leaf(out, output, node);
     }
@@ -355,9 +359,7 @@ fn write_tree<W: Write>(
 }
 
 /// Writes the lines of the header of a typed file.
-fn write_header<W: Write>(out: &mut Explanation<'_>, output: &mut W) -> Result<(), ProgramFault>
-    ensures { IfErr result IsOutputFault }
-{
+fn write_header<W: Write>(out: &mut Explanation<'_>, output: &mut W) -> Result<(), WriteFault> {
     let len = number_at(out.archive, NAME_LEN_AT);
     write(out, output, 0, NAME_LEN_AT, Meaning::Header)?;
     write(out, output, NAME_LEN_AT, 4, Meaning::NameLen(len))?;
@@ -383,7 +385,8 @@ fn write_archive<W: Write>(
     }
     write_pointer(out, output, pos, Link::Root)?;
     write(out, output, len_slot, 4, Meaning::MapLen(count))?;
-    flush(out, output)
+    flush(out, output)?;
+    Ok(())
 }
 
 /// Writes the lines of an archive: the position of each part, its bytes, and their meaning.
@@ -401,7 +404,6 @@ pub fn explain<W: Write>(alloc: Global, archive: &[u8], output: &mut W) -> Resul
     let mut out = Explanation {
         archive,
         lines: Vec::new(alloc),
-        meaning: String::new(alloc),
         next: 0,
     };
     write_archive(&mut out, output, map.pos)

@@ -12,6 +12,7 @@ pub mod escapes;
 pub mod explaining;
 pub mod figures;
 pub mod forms;
+mod hexadecimal;
 pub mod json_objects;
 mod json_records;
 pub mod json_text;

@@ -5,18 +5,20 @@ use Rattle.std.specs.Prelude.{ℕ, List, []}
 use Rattle.btreekv_items.specs.Bytes.{bytes_text}
 use Rattle.btreekv_items.specs.Optional.{optional_text}
 use Rattle.btreekv_items.specs.Pairs.{pair_text}
+use Rattle.btreekv_items.specs.Triples.{triple_text}
 use Rattle.btreekv_items.specs.Words.{bool_text}
 use Rattle.btreekv_items.specs.declared.item.BytesStyle.{BytesStyle}
 use Rattle.btreekv_items.specs.declared.item_type.ItemType.{ItemType}
-use Rattle.btreekv_items.specs.declared.item_type.ItemType.TheVariants.{U8, U16, U32, U64, U128, I8, I16, I32, I64, I128, Bool, Char, Text, Bytes, Empty, OptionU32, OptionU64, OptionI64, PairU32U32, PairU64U64, PairU32Text}
+use Rattle.btreekv_items.specs.declared.item_type.ItemType.TheVariants.{U8, U16, U32, U64, U128, I8, I16, I32, I64, I128, Bool, Char, Text, Bytes, Empty, OptionU32, OptionU64, OptionI64, PairU32U32, PairU64U64, PairU32Text, TripleU32, TripleU64}
 use Rattle.rkyv_btree_compound.specs.Option.{option_kind}
+use Rattle.rkyv_btree_compound.specs.Tuples.{tuple3_kind}
 use Rattle.rkyv_btree_compound.specs.Wide.{i128_kind, u128_kind}
 use Rattle.rkyv_btree_portable.specs.ByteStrings.{bytes_kind}
 use Rattle.rkyv_btree_portable.specs.Entry.{entry_kind}
 use Rattle.rkyv_btree_portable.specs.Kind.{Kind}
 use Rattle.rkyv_btree_portable.specs.Scalars.{u8_kind, u16_kind, u32_kind, u64_kind, i8_kind, i16_kind, i32_kind, i64_kind, bool_kind, char_kind, unit_kind}
 use Rattle.rkyv_btree_portable.specs.Text.{text_kind}
-use Rattle.rkyv_btree_typed.specs.TypeNames.{TypeTerm, name_of, u8, u16, u32, u64, u128, i8, i16, i32, i64, i128, bool, char, text, byte_string, unit_type, option, pair}
+use Rattle.rkyv_btree_typed.specs.TypeNames.{TypeTerm, name_of, u8, u16, u32, u64, u128, i8, i16, i32, i64, i128, bool, char, text, byte_string, unit_type, option, pair, triple}
 
 -- the archived type as a typed file names it
 abbrev pub term_at : ItemType → TypeTerm
@@ -41,6 +43,8 @@ term_at OptionI64 = option i64
 term_at PairU32U32 = pair u32 u32
 term_at PairU64U64 = pair u64 u64
 term_at PairU32Text = pair u32 text
+term_at TripleU32 = triple u32 u32 u32
+term_at TripleU64 = triple u64 u64 u64
 
 abbrev pub name_at : ItemType → List ℕ
 name_at t = name_of (term_at t)
@@ -67,6 +71,8 @@ kind_at OptionI64 = option_kind i64_kind
 kind_at PairU32U32 = entry_kind u32_kind u32_kind
 kind_at PairU64U64 = entry_kind u64_kind u64_kind
 kind_at PairU32Text = entry_kind u32_kind text_kind
+kind_at TripleU32 = tuple3_kind u32_kind u32_kind u32_kind
+kind_at TripleU64 = tuple3_kind u64_kind u64_kind u64_kind
 
 -- the text of a value
 abbrev pub spelling_at : (t : ItemType) → BytesStyle → (kind_at t).Value → List ℕ
@@ -91,3 +97,5 @@ spelling_at OptionI64 style value = optional_text (λ style z. signed_decimal z)
 spelling_at PairU32U32 style value = pair_text (λ style n. decimal n) (λ style n. decimal n) style value
 spelling_at PairU64U64 style value = pair_text (λ style n. decimal n) (λ style n. decimal n) style value
 spelling_at PairU32Text style value = pair_text (λ style n. decimal n) (λ style text. text) style value
+spelling_at TripleU32 style value = triple_text (λ style n. decimal n) (λ style n. decimal n) (λ style n. decimal n) style value
+spelling_at TripleU64 style value = triple_text (λ style n. decimal n) (λ style n. decimal n) (λ style n. decimal n) style value

@@ -3,5 +3,6 @@ pub mod ItemTypes
 pub mod Items
 pub mod Optional
 pub mod Pairs
+pub mod Triples
 pub mod Words
 pub mod laws

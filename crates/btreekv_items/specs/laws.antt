@@ -1,11 +1,13 @@
 pub mod ByteStrings
 pub mod Decimals
 pub mod Forms
+pub mod Joined
 pub mod Optional
 pub mod OwnBytes
 pub mod Pairs
 pub mod Signed
 pub mod Texts
+pub mod Triples
 pub mod Units
 pub mod Unsigned
 pub mod Words

@@ -29,6 +29,8 @@ macro_rules! at_item {
             $crate::item_type::ItemType::PairU32U32 => $call::<$($before,)* $crate::archived::PairU32U32>($($argument),*),
             $crate::item_type::ItemType::PairU64U64 => $call::<$($before,)* $crate::archived::PairU64U64>($($argument),*),
             $crate::item_type::ItemType::PairU32Text => $call::<$($before,)* $crate::archived::PairU32Text>($($argument),*),
+            $crate::item_type::ItemType::TripleU32 => $call::<$($before,)* $crate::archived::TripleU32>($($argument),*),
+            $crate::item_type::ItemType::TripleU64 => $call::<$($before,)* $crate::archived::TripleU64>($($argument),*),
         }
     };
 }

@@ -28,6 +28,8 @@ pub enum ItemType {
     PairU32U32,
     PairU64U64,
     PairU32Text,
+    TripleU32,
+    TripleU64,
 }
 
 impl ItemType {
@@ -58,6 +60,8 @@ impl ItemType {
             "(u32, u32)" => Some(ItemType::PairU32U32),
             "(u64, u64)" => Some(ItemType::PairU64U64),
             "(u32, text)" => Some(ItemType::PairU32Text),
+            "(u32, u32, u32)" => Some(ItemType::TripleU32),
+            "(u64, u64, u64)" => Some(ItemType::TripleU64),
             _ => None,
         }
     }
@@ -88,6 +92,8 @@ impl ItemType {
             ItemType::PairU32U32 => "(u32, u32)",
             ItemType::PairU64U64 => "(u64, u64)",
             ItemType::PairU32Text => "(u32, text)",
+            ItemType::TripleU32 => "(u32, u32, u32)",
+            ItemType::TripleU64 => "(u64, u64, u64)",
         }
     }
 }

@@ -15,6 +15,7 @@ mod signed;
 mod tests;
 mod text_forms;
 mod texts;
+pub mod triples;
 mod unit;
 mod unsigned;
 mod wide;

@@ -11,13 +11,13 @@ use rkyv_btree_view::view::View;
 use std::alloc::{AllocError, Global};
 use std::cmp::Ordering;
 
-/// An item whose text has no comma, so that it can be the first of a pair.
+/// An item whose text has no comma, so that one can follow it in a pair or a triple.
 pub trait CommaFree: Item {
     ghost no_comma: { IsWithoutComma Self.Item.IsValue Self.Item.spelling };
 }
 
 /// Returns the parts of a text before and after its first comma, or `None` if it has none.
-fn at_comma(text: &str) -> Option<(&str, &str)>
+pub(crate) fn at_comma(text: &str) -> Option<(&str, &str)>
     ensures parts { IfSome result (λ parts. text.now ≡ parts.0.now ++ 44 ∷ parts.1.now) }
     ensures first { (xs ys : List ℕ) → HasNoComma xs → text.now ≡ xs ++ 44 ∷ ys
         → MatchOption result ⊥ (λ parts. (parts.0.now ≡ xs) × (parts.1.now ≡ ys)) }

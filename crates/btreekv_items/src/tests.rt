@@ -106,6 +106,8 @@ fn each_type_writes_what_it_reads(rt: HostRuntime) -> Result<(), AllocError> {
         ("(u32, u32)", "1,2"),
         ("(u64, u64)", "3,4"),
         ("(u32, text)", "5,six, seven"),
+        ("(u32, u32, u32)", "1,2,3"),
+        ("(u64, u64, u64)", "4,5,18446744073709551615"),
     ];
     for (name, text) in cases {
         let Some(item_type) = ItemType::from_name(name) else {

@@ -7,10 +7,10 @@ use Rattle.rkyv_btree_portable.specs.Rounding.{IsAlignment, one, two, four, eigh
 use Rattle.rkyv_btree_portable.specs.laws.Rounding.{alignment_positive, max_alignment, round_up-lt}
 use Rattle.btreekv_types.specs.AnyTypes.{kind_at}
 use Rattle.btreekv_types.specs.declared.any_type.AnyType.{AnyType}
-use Rattle.btreekv_types.specs.declared.any_type.AnyType.TheVariants.{Optional, Pair, Plain}
+use Rattle.btreekv_types.specs.declared.any_type.AnyType.TheVariants.{Optional, Plain, Tuple}
 use Rattle.btreekv_types.specs.declared.option_type.OptionType.TheVariants as option
-use Rattle.btreekv_types.specs.declared.pair_type.PairType.TheVariants as pair
 use Rattle.btreekv_types.specs.declared.plain_type.PlainType.TheVariants as plain
+use Rattle.btreekv_types.specs.declared.tuple_type.TupleType.TheVariants as tuple
 
 sixteen_at_most : {a : ℕ} → IsAlignment a → a ≤ 16
 sixteen_at_most one = omega arith
@@ -81,9 +81,11 @@ small (Plain plain.Bytes) = record { fits = refl; few = omega arith; aligned = f
 small (Optional option.U32) = record { fits = refl; few = omega arith; aligned = four }
 small (Optional option.U64) = record { fits = refl; few = omega arith; aligned = eight }
 small (Optional option.I64) = record { fits = refl; few = omega arith; aligned = eight }
-small (Pair pair.U32U32) = record { fits = refl; few = omega arith; aligned = four }
-small (Pair pair.U64U64) = record { fits = refl; few = omega arith; aligned = eight }
-small (Pair pair.U32Text) = record { fits = refl; few = omega arith; aligned = four }
+small (Tuple tuple.PairU32U32) = record { fits = refl; few = omega arith; aligned = four }
+small (Tuple tuple.PairU64U64) = record { fits = refl; few = omega arith; aligned = eight }
+small (Tuple tuple.PairU32Text) = record { fits = refl; few = omega arith; aligned = four }
+small (Tuple tuple.TripleU32) = record { fits = refl; few = omega arith; aligned = four }
+small (Tuple tuple.TripleU64) = record { fits = refl; few = omega arith; aligned = eight }
 
 pub all_fit : (key value : AnyType) → IsTrue (are_fitting (kind_at key) (kind_at value) 5)
 all_fit key value = small_fit (kind_at key) (kind_at value) (small key) (small value)

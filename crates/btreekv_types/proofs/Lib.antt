@@ -16,4 +16,5 @@ pub mod Shown
 pub mod SoughtParts
 pub mod SoughtWords
 pub mod Stored
+pub mod Streams
 pub mod Updates

@@ -1,5 +1,5 @@
 -- What each command over typed maps writes of known input, and when it fails.
-use Rattle.std.specs.Prelude.{◌≡◌, ◌⊎◌, ℕ, ◌+◌, List, [], ◌∷◌, ◌++◌, Option, IfSome, Result, Ok, Err, filter, flat_map, length, map, string_bytes}
+use Rattle.std.specs.Prelude.{◌≡◌, ◌⊎◌, ℕ, ◌+◌, List, [], ◌∷◌, ◌++◌, Option, IfSome, Result, Ok, Err, flat_map, length, map, string_bytes}
 use Rattle.std.specs.Io.KnownBytes.{Appends}
 use Rattle.std.specs.Option.{option_map}
 use Rattle.std.specs.declared.ops.Bound.TheVariants.{Included}
@@ -7,7 +7,6 @@ use Rattle.rkyv_btree_format.specs.Increasing.{Increasing, IsOutOfOrder}
 use Rattle.rkyv_btree_format.specs.OwnBytes.{own_at}
 use Rattle.rkyv_btree_portable.specs.Kind.{Kind}
 use Rattle.rkyv_btree_portable.specs.declared.refusal.Refusal.{Refusal}
-use Rattle.rkyv_btree_strict.specs.Prefix.{begins_with}
 use Rattle.rkyv_btree_update.specs.declared.change.Change.{Change}
 use Rattle.rkyv_btree_verify.specs.Map.{map_kind}
 use Rattle.rkyv_btree_view.specs.Lookup.{found_at}
@@ -25,7 +24,7 @@ use Rattle.btreekv_commands.specs.Lines.{Entry}
 use Rattle.btreekv_types.specs.Archiving.{IsUnarchived, archived_entries}
 use Rattle.btreekv_types.specs.Changes.{AreTypedChanges, IsFirstBadKey, IsFirstBadValue, changed_texts}
 use Rattle.btreekv_types.specs.Differing.{IsDiffOf}
-use Rattle.btreekv_types.specs.Listing.{list_text}
+use Rattle.btreekv_types.specs.Listing.{list_text, prefixed_text}
 use Rattle.btreekv_types.specs.Natives.{IsNativeFault, IsNoText}
 use Rattle.btreekv_types.specs.Sources.{AreTexts, IsTextFault}
 use Rattle.btreekv_types.specs.Typed.{AreTyped, IsTypedFile, IsTypedInput, IsTypedOpenFault, Items, RefusesTyped, RefusesTypedStrict, spelled, spelled_entry}
@@ -117,7 +116,7 @@ module _ (K V : Kind) (name : List ℕ) (keys : Items K.Value) (values : Items V
   Outputs (Update order lines) input text status = (status ≡ 0) × IsUpdateOf order input lines.items text
   Outputs (Diff other) input text status = (status ≡ 0) × IsDiffOf K V name keys values input other.items text
   Outputs (Prefix prefix form) input text status =
-      (status ≡ 0) × ((texts : List Entry) × ListsTexts input texts × (text ≡ text_in form (filter (begins_with (string_bytes prefix)) texts)))
+      (status ≡ 0) × ((texts : List Entry) × ListsTexts input texts × (text ≡ prefixed_text (string_bytes prefix) form texts))
   Outputs (Get word form) input text status =
       ((entries : List (K.Value × V.Value)) × IsTypedInput K V name input entries)
       × ((key : K.Value) × IsKey (string_bytes word) key × FoundValue (value_line form) (found_texts input key) text status)
@@ -226,3 +225,10 @@ module _ (K V : Kind) (name : List ℕ) (keys : Items K.Value) (values : Items V
     Does command input old new (Err (Program OutputFailed)) =
         IfSome input (λ bytes. (text : List ℕ) × (status : ℕ) × Outputs command bytes text status)
     Does command input old new (Err fault) = IfSome input (λ bytes. Fails command bytes fault) × (new ≡ old)
+
+-- a command makes its output before it writes some, and doesn't write entry by entry
+abbrev pub IsMadeFirst : TypedCommand → Type 0
+IsMadeFirst (ListEntries form) = ⊥
+IsMadeFirst (Range low high form) = ⊥
+IsMadeFirst (Prefix prefix form) = ⊥
+IsMadeFirst _ = Unit {0}

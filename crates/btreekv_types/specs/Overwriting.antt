@@ -71,24 +71,23 @@ module _ (K V : Kind) (name : List ℕ) (keys : Items K.Value) (values : Items V
       pub stays : IsHeaded name new heading
       pub puts : PutsText place.start place.len new
 
-    -- what is there of the file after a write of a value that was found, or of none
+    -- what becomes of the file: a value is put over one that was found, or none was found, and no byte is another
     abbrev pub EndsWith : Option Place → List ℕ → Type 0
-    EndsWith None new = FindsNone
+    EndsWith None new = FindsNone × (new ≡ input)
     EndsWith (Some place) new = Overwrites place new
 
     -- the file would have another header
-    pub record IsInHeader : Type 0 where
+    pub record IsInHeader (new : List ℕ) : Type 0 where
       pub heading : Heading
       pub headed : IsHeaded name input heading
       pub start : ℕ
-      pub new : List ℕ
       pub puts : PutsText start V.size new
       pub reheaded : IsReheaded name heading new
 
-    -- why no value is written over, of values that are if they have a fixed size
-    abbrev pub FailsToOverwrite : Type 0 → OverwriteFault → Type 0
-    FailsToOverwrite HasFixedSize NoKey = IsNoText keys key
-    FailsToOverwrite HasFixedSize NoValue = IsNoText values value
-    FailsToOverwrite HasFixedSize InHeader = IsInHeader
-    FailsToOverwrite HasFixedSize NotOverwritten = ¬ HasFixedSize
-    FailsToOverwrite HasFixedSize (Program fault) = FailsToRead K V name keys values (RefusesTyped K V name) input (typed.Program fault)
+    -- why no value is written over, of values that are if they have a fixed size. No byte is another, but if the header would be
+    abbrev pub FailsToOverwrite : Type 0 → List ℕ → OverwriteFault → Type 0
+    FailsToOverwrite HasFixedSize new InHeader = IsInHeader new
+    FailsToOverwrite HasFixedSize new NoKey = IsNoText keys key × (new ≡ input)
+    FailsToOverwrite HasFixedSize new NoValue = IsNoText values value × (new ≡ input)
+    FailsToOverwrite HasFixedSize new NotOverwritten = (¬ HasFixedSize) × (new ≡ input)
+    FailsToOverwrite HasFixedSize new (Program fault) = FailsToRead K V name keys values (RefusesTyped K V name) input (typed.Program fault) × (new ≡ input)

@@ -31,11 +31,11 @@ module _ (types : Types) (style : BytesStyle) (input key value : List ℕ) where
   EndsWithAt found new =
       EndsWith (kind_at (key_of types)) (kind_at (value_of types)) (map_name types) (items_at (key_of types) style) (items_at (value_of types) style) input key value found new
 
-  -- why no value is written over
-  abbrev pub FailsToOverwriteAt : OverwriteFault → Type 0
-  FailsToOverwriteAt fault =
+  -- why no value is written over, and what is there of the file then
+  abbrev pub FailsToOverwriteAt : List ℕ → OverwriteFault → Type 0
+  FailsToOverwriteAt new fault =
       FailsToOverwrite (kind_at (key_of types)) (kind_at (value_of types)) (map_name types) (items_at (key_of types) style) (items_at (value_of types) style) input key value
-      (IsNumber (value_of types)) fault
+      (IsNumber (value_of types)) new fault
 
 -- the same of maps to values of a type, whose keys are values of any type of items
 module _ {X R A : Type 0} (KA : Archival X R) (K : Kind) (order : A → A → Ordering) (read : List ℕ → ℕ → A) (native : X → A) (key_term : TypeTerm)
@@ -45,7 +45,7 @@ module _ {X R A : Type 0} (KA : Archival X R) (K : Kind) (order : A → A → Or
       ByKeyValues KA K order read native (archival_at to) (kind_at to) (itself_at to) (λ key_to.
       EndsWith K (kind_at to) (name_of (term.map key_term (term_at (item_of to)) 5)) (items_by IsValue spelling key_to) (items_at to style) input key value found new)
 
-  abbrev pub FailsToOverwriteTo : OverwriteFault → Type 0
-  FailsToOverwriteTo fault =
+  abbrev pub FailsToOverwriteTo : List ℕ → OverwriteFault → Type 0
+  FailsToOverwriteTo new fault =
       ByKeyValues KA K order read native (archival_at to) (kind_at to) (itself_at to) (λ key_to.
-      FailsToOverwrite K (kind_at to) (name_of (term.map key_term (term_at (item_of to)) 5)) (items_by IsValue spelling key_to) (items_at to style) input key value (IsNumber to) fault)
+      FailsToOverwrite K (kind_at to) (name_of (term.map key_term (term_at (item_of to)) 5)) (items_by IsValue spelling key_to) (items_at to style) input key value (IsNumber to) new fault)

@@ -4,8 +4,8 @@ ghost use Rattle.btreekv_types.specs.AnyTypes.{item_of, type_name};
 ghost use Rattle.btreekv_types.specs.declared.any_type.AnyType.{AnyType as AnyTypeOf};
 
 use crate::option_type::OptionType;
-use crate::pair_type::PairType;
 use crate::plain_type::PlainType;
+use crate::tuple_type::TupleType;
 use btreekv_items::item_type::ItemType;
 use std::fmt;
 
@@ -16,8 +16,8 @@ pub enum AnyType {
     Plain(PlainType),
     /// That of values that may be none.
     Optional(OptionType),
-    /// That of pairs.
-    Pair(PairType),
+    /// That of tuples.
+    Tuple(TupleType),
 }
 
 impl AnyType {
@@ -38,9 +38,11 @@ impl AnyType {
             ItemType::OptionU32 => Some(AnyType::Optional(OptionType::U32)),
             ItemType::OptionU64 => Some(AnyType::Optional(OptionType::U64)),
             ItemType::OptionI64 => Some(AnyType::Optional(OptionType::I64)),
-            ItemType::PairU32U32 => Some(AnyType::Pair(PairType::U32U32)),
-            ItemType::PairU64U64 => Some(AnyType::Pair(PairType::U64U64)),
-            ItemType::PairU32Text => Some(AnyType::Pair(PairType::U32Text)),
+            ItemType::PairU32U32 => Some(AnyType::Tuple(TupleType::PairU32U32)),
+            ItemType::PairU64U64 => Some(AnyType::Tuple(TupleType::PairU64U64)),
+            ItemType::PairU32Text => Some(AnyType::Tuple(TupleType::PairU32Text)),
+            ItemType::TripleU32 => Some(AnyType::Tuple(TupleType::TripleU32)),
+            ItemType::TripleU64 => Some(AnyType::Tuple(TupleType::TripleU64)),
             _ => None,
         }
     }
@@ -72,9 +74,11 @@ impl AnyType {
             AnyType::Optional(OptionType::U32) => ItemType::OptionU32,
             AnyType::Optional(OptionType::U64) => ItemType::OptionU64,
             AnyType::Optional(OptionType::I64) => ItemType::OptionI64,
-            AnyType::Pair(PairType::U32U32) => ItemType::PairU32U32,
-            AnyType::Pair(PairType::U64U64) => ItemType::PairU64U64,
-            AnyType::Pair(PairType::U32Text) => ItemType::PairU32Text,
+            AnyType::Tuple(TupleType::PairU32U32) => ItemType::PairU32U32,
+            AnyType::Tuple(TupleType::PairU64U64) => ItemType::PairU64U64,
+            AnyType::Tuple(TupleType::PairU32Text) => ItemType::PairU32Text,
+            AnyType::Tuple(TupleType::TripleU32) => ItemType::TripleU32,
+            AnyType::Tuple(TupleType::TripleU64) => ItemType::TripleU64,
         }
     }
 

@@ -32,17 +32,31 @@ macro_rules! at_option {
     };
 }
 
-/// Calls a function at the archived type of a type of pairs. It comes after the type arguments of the call.
+/// Calls a function at the archived type of a type of tuples. It comes after the type arguments of the call.
 #[macro_export]
-macro_rules! at_pair {
-    ($pair:expr, $call:ident($($argument:expr),*)) => {
-        at_pair!($pair, $call::<>($($argument),*))
+macro_rules! at_tuple {
+    ($tuple:expr, $call:ident($($argument:expr),*)) => {
+        at_tuple!($tuple, $call::<>($($argument),*))
     };
-    ($pair:expr, $call:ident::<$($before:ident),*>($($argument:expr),*)) => {
-        match $pair {
-            PairType::U32U32 => $call::<$($before,)* PairU32U32>($($argument),*),
-            PairType::U64U64 => $call::<$($before,)* PairU64U64>($($argument),*),
-            PairType::U32Text => $call::<$($before,)* PairU32Text>($($argument),*),
+    ($tuple:expr, $call:ident::<$($before:ident),*>($($argument:expr),*)) => {
+        match $tuple {
+            TupleType::PairU32U32 => $call::<$($before,)* PairU32U32>($($argument),*),
+            TupleType::PairU64U64 => $call::<$($before,)* PairU64U64>($($argument),*),
+            TupleType::PairU32Text => $call::<$($before,)* PairU32Text>($($argument),*),
+            TupleType::TripleU32 => $call::<$($before,)* TripleU32>($($argument),*),
+            TupleType::TripleU64 => $call::<$($before,)* TripleU64>($($argument),*),
+        }
+    };
+}
+
+/// Calls a function at the archived type of a common type. It comes after the type arguments of the call.
+#[macro_export]
+macro_rules! at_common {
+    ($common:expr, $call:ident::<$($before:ident),*>($($argument:expr),*)) => {
+        match $common {
+            CommonType::U32 => $call::<$($before,)* ArchivedU32>($($argument),*),
+            CommonType::U64 => $call::<$($before,)* ArchivedU64>($($argument),*),
+            CommonType::Text => $call::<$($before,)* ArchivedText>($($argument),*),
         }
     };
 }

@@ -17,6 +17,7 @@ use crate::fault::TypedFault;
 use crate::natives::native_of;
 use crate::updating::are_bytes;
 use btreearc_lines::fault::ProgramFault;
+use btreekv_commands::differences::write_change;
 use btreekv_items::item::{BytesStyle, Item};
 use rkyv_btree_update::change::Change;
 use std::alloc::Global;
@@ -62,15 +63,9 @@ fn push_line(out: &mut String, key: &str, change: Change<&str>) -> Result<(), Ty
         ++ change_line (key.now, change_meant (λ v. v.now) change.entry)) }
     ensures err { IfErr result (λ fault. fault ≡ TypedFault.Program ProgramFault.Memory) }
 {
-    match change {
-        Change::Put(text) => match writeln!(out, "{key}\t{text}") {
-            Ok(()) => Ok(()),
-            Err(_) => Err(TypedFault::Program(ProgramFault::Memory)),
-        },
-        Change::Delete => match writeln!(out, "{key}") {
-            Ok(()) => Ok(()),
-            Err(_) => Err(TypedFault::Program(ProgramFault::Memory)),
-        },
+    match write_change(out, key, change) {
+        Ok(()) => Ok(()),
+        Err(_) => Err(TypedFault::Program(ProgramFault::Memory)),
     }
 }
 

@@ -1,15 +1,12 @@
 //! Lists of entries as they are written: in lines, as a JSON object, or as a table.
-ghost use Rattle.std.specs.Prelude.{◌≡◌, ◌++◌, ◌∷◌, [], List, IfOk, IfErr, OnOk};
-ghost use Rattle.btreekv_commands.specs.Lines.{Entry};
-ghost use Rattle.btreekv_types.specs.Listing.{HasListed, comma, list_text};
+ghost use Rattle.std.specs.Prelude.{◌≡◌, ◌++◌, OnOk};
+ghost use Rattle.btreekv_commands.specs.CsvRecords.{entry_row};
 ghost use Rattle.btreekv_commands.specs.Json.{member};
-ghost use Rattle.btreekv_types.specs.declared.list_form.ListForm.{ListForm as ListFormOf};
+ghost use Rattle.btreekv_types.specs.Listing.{comma, list_end, list_item, list_start};
 
-use btreearc_lines::fault::ProgramFault;
-use btreekv_commands::csv_records::{Table, write_pair, writer_of};
+use btreekv_commands::csv_records::{Table, row_of};
 use btreekv_commands::forms::{Form, push_entry};
 use btreekv_commands::json_text::push_member;
-use csv::Writer;
 use std::alloc::{AllocError, Global};
 
 /// How a list of entries is written.
@@ -21,17 +18,6 @@ pub enum ListForm {
     Object,
     /// A header, and a record an entry.
     Table(Table),
-}
-
-/// A list of entries that is being written.
-#[derive(Drop)]
-pub enum ListWriter {
-    /// The entries so far.
-    Lines(Form, Vec<u8>),
-    /// The object so far, without its end, and whether it has no member yet.
-    Object(Vec<u8>, bool),
-    /// The records so far.
-    Table(Writer<Vec<u8>>),
 }
 
 /// Writes a member of a JSON object at the end, after a comma if it isn't the first.
@@ -50,85 +36,61 @@ fn push_next_member(
     push_member(out, key, value)
 }
 
-impl ListWriter {
-    /// Returns a writer of a list in a form, which has no entry yet.
-    ///
-    /// # Errors
-    ///
-    /// `Memory` if an allocation fails.
-    pub fn new(alloc: Global, form: ListForm) -> Result<ListWriter, ProgramFault>
-        ensures ok { IfOk result (λ writer. HasListed form writer []) }
-        ensures err { IfErr result (λ fault. fault ≡ ProgramFault.Memory) }
+/// Writes the record of two texts at the end.
+fn push_row(
+    alloc: Global,
+    out: &mut Vec<u8>,
+    table: Table,
+    key: &str,
+    value: &str,
+) -> Result<(), AllocError>
+    ensures { OnOk result
+        (out.new.items ≡ out.old.items ++ entry_row table (key.now, value.now)) }
+{
+    let Ok(row) = row_of(alloc, table, key, value) else {
+        return Err(AllocError);
+    };
+    out.extend_from_slice(&row)
+}
+
+impl ListForm {
+    /// Writes what a list begins with at the end.
+    pub(crate) fn push_start(self, alloc: Global, out: &mut Vec<u8>) -> Result<(), AllocError>
+        ensures { OnOk result (out.new.items ≡ out.old.items ++ list_start self) }
     {
-        match form {
-            ListForm::Lines(form) => Ok(ListWriter::Lines(form, Vec::new(alloc))),
-            ListForm::Object => {
-                let mut out = Vec::new(alloc);
-                match out.extend_from_slice(b"{") {
-                    Ok(()) => Ok(ListWriter::Object(out, true)),
-                    Err(_) => Err(ProgramFault::Memory),
-                }
-            }
-            ListForm::Table(table) => {
-                let mut writer = writer_of(alloc, table);
-                match write_pair(&mut writer, "key", "value") {
-                    Ok(()) => Ok(ListWriter::Table(writer)),
-                    Err(fault) => Err(fault),
-                }
-            }
+        match self {
+            ListForm::Lines(_) => Ok(()),
+            ListForm::Object => out.extend_from_slice(b"{"),
+            ListForm::Table(table) => push_row(alloc, out, table, "key", "value"),
         }
     }
 
-    /// Writes one more entry.
-    ///
-    /// # Errors
-    ///
-    /// `Memory` if an allocation fails. A beginning of the entry may be written then.
-    pub fn push(&mut self, key: &str, value: &str) -> Result<(), ProgramFault>
-        ensures ok { OnOk result ((form : ListFormOf) (entries : List Entry) → HasListed form self.old entries
-            → HasListed form self.new (entries ++ (key.now, value.now) ∷ [])) }
-        ensures err { IfErr result (λ fault. fault ≡ ProgramFault.Memory) }
+    /// Writes one more entry at the end, with what separates it from the one before.
+    pub(crate) fn push_item(
+        self,
+        alloc: Global,
+        out: &mut Vec<u8>,
+        is_first: bool,
+        key: &str,
+        value: &str,
+    ) -> Result<(), AllocError>
+        ensures { OnOk result
+            (out.new.items ≡ out.old.items ++ list_item self is_first (key.now, value.now)) }
     {
         match self {
-            ListWriter::Lines(form, out) => match push_entry(out, *form, key, value) {
-                Ok(()) => Ok(()),
-                Err(_) => Err(ProgramFault::Memory),
-            },
-            ListWriter::Object(out, is_first) => {
-                let first = *is_first;
-                *is_first = false;
-                match push_next_member(out, first, key, value) {
-                    Ok(()) => Ok(()),
-                    Err(_) => Err(ProgramFault::Memory),
-                }
-            }
-            ListWriter::Table(writer) => match write_pair(writer, key, value) {
-                Ok(()) => Ok(()),
-                Err(fault) => Err(fault),
-            },
+            ListForm::Lines(form) => push_entry(out, form, key, value),
+            ListForm::Object => push_next_member(out, is_first, key, value),
+            ListForm::Table(table) => push_row(alloc, out, table, key, value),
         }
     }
 
-    /// Returns the text of the list.
-    ///
-    /// # Errors
-    ///
-    /// `Memory` if an allocation fails.
-    pub fn finish(self) -> Result<Vec<u8>, ProgramFault>
-        ensures ok { IfOk result (λ text. (form : ListFormOf) (entries : List Entry) → HasListed form self entries
-            → text.items ≡ list_text form entries) }
-        ensures err { IfErr result (λ fault. fault ≡ ProgramFault.Memory) }
+    /// Returns what a list ends with.
+    pub(crate) fn end(self) -> &'static [u8]
+        ensures { result.now ≡ list_end self }
     {
         match self {
-            ListWriter::Lines(_, out) => Ok(out),
-            ListWriter::Object(mut out, _) => match out.extend_from_slice(b"}\n") {
-                Ok(()) => Ok(out),
-                Err(_) => Err(ProgramFault::Memory),
-            },
-            ListWriter::Table(writer) => match writer.into_inner() {
-                Ok(text) => Ok(text),
-                Err(_) => Err(ProgramFault::Memory),
-            },
+            ListForm::Object => b"}\n",
+            _ => b"",
         }
     }
 }

@@ -1,9 +1,9 @@
-//! What the commands over typed maps write.
-ghost use Rattle.std.specs.Prelude.{◌≡◌, IfErr, IfOk, IsTrue, map};
+//! What the commands over typed maps write of known bytes.
+ghost use Rattle.std.specs.Prelude.{◌≡◌, IfErr, IfOk, IsTrue, Some, map};
 ghost use Rattle.rkyv_btree_format.specs.Layout.{are_fitting};
 ghost use Rattle.rkyv_btree_typed.specs.TypeNames.{name_of};
 ghost use Rattle.rkyv_btree_typed.specs.TypeNames as term;
-ghost use Rattle.btreekv_types.specs.Commands.{Fails, Outputs};
+ghost use Rattle.btreekv_types.specs.Commands.{Does, Fails, IsMadeFirst, Outputs};
 ghost use Rattle.btreekv_types.specs.Typed.{ByValues, items_by};
 ghost use Rattle.btreekv_types.specs.declared.command.TypedCommand.TheVariants.{Build};
 
@@ -12,14 +12,17 @@ use crate::changing::{merge, set};
 use crate::command::{Order, TypedCommand};
 use crate::differing::diff;
 use crate::fault::TypedFault;
+use crate::listing::{list, range};
 use crate::prefixed::prefix;
-use crate::reading::{check, check_strict, first, get, last, list, range};
+use crate::reading::{check, check_strict, first, get, last};
 use crate::source::{Source, parse_entries};
 use crate::updating::update;
 use btreearc_lines::fault::ProgramFault;
 use btreearc_lines::heading::Heading;
+use btreearc_lines::streams::write_all;
 use btreekv_items::item::{BytesStyle, Item};
 use std::alloc::Global;
+use std::io::Write;
 
 /// Returns the archive of the entries of a text.
 fn build<K: Item, V: Item>(
@@ -51,15 +54,16 @@ fn build<K: Item, V: Item>(
     archive::<K, V>(alloc, style, order, heading, entries.as_slice())
 }
 
-/// Returns what a command over maps of two types writes of an input, and its status.
+/// Returns what a command over maps of two types writes of an input, and its status, if it makes its output first.
 #[inline(never)]
-pub(crate) fn output_of<K: Item, V: Item>(
+fn output_of<K: Item, V: Item>(
     alloc: Global,
     style: BytesStyle,
     command: &TypedCommand,
     input: &[u8],
 ) -> Result<(Vec<u8>, u8), TypedFault>
-    requires { IsTrue (are_fitting K.kind V.kind 5) }
+    requires fit { IsTrue (are_fitting K.kind V.kind 5) }
+    requires made { IsMadeFirst command.now }
     ensures ok { IfOk result (λ r.
         ByValues K.Native.archival K.kind K.order K.value_at K.native_value
         V.Native.archival V.kind V.order V.value_at V.native_value (λ key_to value_to.
@@ -80,10 +84,6 @@ pub(crate) fn output_of<K: Item, V: Item>(
                 Err(fault) => Err(fault),
             }
         }
-        TypedCommand::List(form) => match list::<K, V>(alloc, style, *form, input) {
-            Ok(text) => Ok((text, 0)),
-            Err(fault) => Err(TypedFault::Program(fault)),
-        },
         TypedCommand::Check => match check::<K, V>(alloc, style, input) {
             Ok(text) => Ok((text, 0)),
             Err(fault) => Err(TypedFault::Program(fault)),
@@ -119,15 +119,63 @@ pub(crate) fn output_of<K: Item, V: Item>(
             Ok(text) => Ok((text, 0)),
             Err(fault) => Err(fault),
         },
-        TypedCommand::Prefix(text, form) => match prefix::<K, V>(alloc, style, text, *form, input) {
-            Ok(text) => Ok((text, 0)),
-            Err(fault) => Err(TypedFault::Program(fault)),
-        },
+        TypedCommand::List(_) | TypedCommand::Range(..) | TypedCommand::Prefix(..) =>
+            unreachable!(),
+    }
+}
+
+/// Runs a command that makes its output first over an input, as a map of two types, and returns the exit status.
+fn write_output<W: Write, K: Item, V: Item>(
+    alloc: Global,
+    style: BytesStyle,
+    command: &TypedCommand,
+    input: &[u8],
+    output: &mut W,
+) -> Result<u8, TypedFault>
+    requires fit { IsTrue (are_fitting K.kind V.kind 5) }
+    requires made { IsMadeFirst command.now }
+    ensures { ByValues K.Native.archival K.kind K.order K.value_at K.native_value
+        V.Native.archival V.kind V.order V.value_at V.native_value (λ key_to value_to.
+        Does K.kind V.kind (name_of (term.map K.term V.term 5))
+        (items_by K.IsValue (K.spelling style) key_to) (items_by V.IsValue (V.spelling style) value_to)
+        K.Native.archival V.Native.archival command.now (Some input.now)
+        (W.contents output.old) (W.contents output.new) result) }
+{
+    let (text, status) = match output_of::<K, V>(alloc, style, command, input) {
+        Ok(made) => made,
+        Err(fault) => return Err(fault),
+    };
+    match write_all(output, &text) {
+        Ok(()) => Ok(status),
+        Err(fault) => Err(TypedFault::Program(fault)),
+    }
+}
+
+/// Runs a command over an input, as a map of two types, and returns the exit status.
+#[inline(never)]
+pub(crate) fn run_of<W: Write, K: Item, V: Item>(
+    alloc: Global,
+    style: BytesStyle,
+    command: &TypedCommand,
+    input: &[u8],
+    output: &mut W,
+) -> Result<u8, TypedFault>
+    requires { IsTrue (are_fitting K.kind V.kind 5) }
+    ensures { ByValues K.Native.archival K.kind K.order K.value_at K.native_value
+        V.Native.archival V.kind V.order V.value_at V.native_value (λ key_to value_to.
+        Does K.kind V.kind (name_of (term.map K.term V.term 5))
+        (items_by K.IsValue (K.spelling style) key_to) (items_by V.IsValue (V.spelling style) value_to)
+        K.Native.archival V.Native.archival command.now (Some input.now)
+        (W.contents output.old) (W.contents output.new) result) }
+{
+    match command {
+        TypedCommand::List(form) => list::<W, K, V>(alloc, style, *form, input, output),
         TypedCommand::Range(low, high, form) => {
-            match range::<K, V>(alloc, style, low, high, *form, input) {
-                Ok(text) => Ok((text, 0)),
-                Err(fault) => Err(fault),
-            }
+            range::<W, K, V>(alloc, style, low, high, *form, input, output)
         }
+        TypedCommand::Prefix(text, form) => {
+            prefix::<W, K, V>(alloc, style, text, *form, input, output)
+        }
+        _ => write_output::<W, K, V>(alloc, style, command, input, output),
     }
 }

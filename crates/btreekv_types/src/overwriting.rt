@@ -157,6 +157,8 @@ fn write_over<K: Item, V: Overwrite>(
     ensures none { IfOk result (λ found. IfNone found
         (ByNative K.kind (λ native b at. K.order (K.native_value native) (K.value_at b at)) key.now
         (HasNone K.kind V.kind archive.old))) }
+    ensures absent { IfOk result (λ found. IfNone found (archive.new ≡ archive.old)) }
+    ensures refused { IfErr result (λ _. archive.new ≡ archive.old) }
     ensures err { IfErr result (IsTypedOpenFault K.kind V.kind (name_of (term.map K.term V.term 5))
         (RefusesTyped K.kind V.kind (name_of (term.map K.term V.term 5))) archive.old) }
 {
@@ -199,7 +201,7 @@ pub(crate) fn overwrite_value<K: Item, V: Overwrite>(
         ⟦<<V as Item>::Native as Archive>⟧.archival V.kind V.order V.value_at V.native_value (λ key_to value_to.
         FailsToOverwrite K.kind V.kind (name_of (term.map K.term V.term 5))
         (items_by K.IsValue (K.spelling style) key_to) (items_by V.IsValue (V.spelling style) value_to)
-        file.old key.now value.now (Unit {0}) fault)) }
+        file.old key.now value.now (Unit {0}) file.new fault)) }
 {
     let heading = match heading_of::<ArchivedBTreeMap<K, V, 5>>(file) {
         Ok(heading) => heading,

@@ -1,18 +1,18 @@
 //! Values that are written over in maps of two types, which are known when the program runs.
 ghost use Rattle.std.specs.Prelude.{IfErr, IfOk, IsTrue};
 ghost use Rattle.rkyv_btree_format.specs.Layout.{are_fitting};
-ghost use Rattle.btreekv_types.specs.AnyTypes.{kind_at};
+ghost use Rattle.btreekv_types.specs.AnyTypes.{kind_at, plain_of};
 ghost use Rattle.btreekv_types.specs.OverwritingTypes.{EndsWithAt, EndsWithTo, FailsToOverwriteAt, FailsToOverwriteTo};
 ghost use Rattle.btreekv_types.specs.declared.any_type.AnyType.TheVariants.{Plain};
-ghost use Rattle.btreekv_types.specs.declared.types.Types.TheVariants.{PairKeys, PlainKeys};
+ghost use Rattle.btreekv_types.specs.declared.types.Types.TheVariants.{Plain as PlainTo, TupleKeys};
 
-use crate::any_type::AnyType;
+use crate::common_type::CommonType;
 use crate::overwriting::{OverwriteFault, Place, overwrite_value};
-use crate::pair_type::PairType;
 use crate::plain_type::PlainType;
-use crate::types::Types;
-use crate::{at_pair, at_plain};
-use btreekv_items::archived::{PairU32Text, PairU32U32, PairU64U64};
+use crate::tuple_type::TupleType;
+use crate::types::{PlainTypes, Types};
+use crate::{at_plain, at_tuple};
+use btreekv_items::archived::{PairU32Text, PairU32U32, PairU64U64, TripleU32, TripleU64};
 use btreekv_items::item::{BytesStyle, Item};
 use rkyv_btree_portable::byte_string::ArchivedBytes;
 use rkyv_btree_portable::numbers::{ArchivedU16, ArchivedU32, ArchivedU64};
@@ -35,7 +35,7 @@ fn overwrite_plain<K: Item>(
         (K.spelling style) (Plain plain) style file.old key.now value.now found file.new) }
     ensures err { IfErr result
         (FailsToOverwriteTo K.Native.archival K.kind K.order K.value_at K.native_value K.term K.IsValue
-        (K.spelling style) (Plain plain) style file.old key.now value.now) }
+        (K.spelling style) (Plain plain) style file.old key.now value.now file.new) }
 {
     match plain {
         PlainType::U8 => overwrite_value::<K, u8>(alloc, style, key, value, file),
@@ -49,10 +49,33 @@ fn overwrite_plain<K: Item>(
     }
 }
 
-/// Does the same in maps whose keys have no parts.
-fn overwrite_plain_keys(
-    key_type: PlainType,
-    plain: PlainType,
+/// Does the same in maps to values of a common type.
+fn overwrite_common<K: Item>(
+    common: CommonType,
+    alloc: Global,
+    style: BytesStyle,
+    key: &str,
+    value: &str,
+    file: &mut [u8],
+) -> Result<Option<Place>, OverwriteFault>
+    requires { IsTrue (are_fitting K.kind (kind_at (Plain (plain_of common))) 5) }
+    ensures ok { IfOk result (λ found.
+        EndsWithTo K.Native.archival K.kind K.order K.value_at K.native_value K.term K.IsValue
+        (K.spelling style) (Plain (plain_of common)) style file.old key.now value.now found file.new) }
+    ensures err { IfErr result
+        (FailsToOverwriteTo K.Native.archival K.kind K.order K.value_at K.native_value K.term K.IsValue
+        (K.spelling style) (Plain (plain_of common)) style file.old key.now value.now file.new) }
+{
+    match common {
+        CommonType::U32 => overwrite_value::<K, ArchivedU32>(alloc, style, key, value, file),
+        CommonType::U64 => overwrite_value::<K, ArchivedU64>(alloc, style, key, value, file),
+        CommonType::Text => Err(OverwriteFault::NotOverwritten),
+    }
+}
+
+/// Does the same in maps of two types that have no parts.
+fn overwrite_plain_types(
+    types: PlainTypes,
     alloc: Global,
     style: BytesStyle,
     key: &str,
@@ -60,20 +83,21 @@ fn overwrite_plain_keys(
     file: &mut [u8],
 ) -> Result<Option<Place>, OverwriteFault>
     ensures ok { IfOk result (λ found.
-        EndsWithAt (PlainKeys key_type (Plain plain)) style file.old key.now value.now found file.new) }
+        EndsWithAt (PlainTo types) style file.old key.now value.now found file.new) }
     ensures err { IfErr result
-        (FailsToOverwriteAt (PlainKeys key_type (Plain plain)) style file.old key.now value.now) }
+        (FailsToOverwriteAt (PlainTo types) style file.old key.now value.now file.new) }
 {
+    let to = types.value;
     at_plain!(
-        key_type,
-        overwrite_plain(plain, alloc, style, key, value, file)
+        types.key,
+        overwrite_plain(to, alloc, style, key, value, file)
     )
 }
 
-/// Does the same in maps whose keys are pairs.
-fn overwrite_pair_keys(
-    pair: PairType,
-    to: PlainType,
+/// Does the same in maps whose keys are tuples.
+fn overwrite_tuple_keys(
+    tuple: TupleType,
+    to: CommonType,
     alloc: Global,
     style: BytesStyle,
     key: &str,
@@ -81,11 +105,11 @@ fn overwrite_pair_keys(
     file: &mut [u8],
 ) -> Result<Option<Place>, OverwriteFault>
     ensures ok { IfOk result (λ found.
-        EndsWithAt (PairKeys pair to) style file.old key.now value.now found file.new) }
+        EndsWithAt (TupleKeys tuple to) style file.old key.now value.now found file.new) }
     ensures err { IfErr result
-        (FailsToOverwriteAt (PairKeys pair to) style file.old key.now value.now) }
+        (FailsToOverwriteAt (TupleKeys tuple to) style file.old key.now value.now file.new) }
 {
-    at_pair!(pair, overwrite_plain(to, alloc, style, key, value, file))
+    at_tuple!(tuple, overwrite_common(to, alloc, style, key, value, file))
 }
 
 /// Writes the value of a text over that of a key in the bytes of a file, and returns where it is, or `None` if a look-up of the key finds none.
@@ -106,18 +130,14 @@ pub fn overwrite_at(
 ) -> Result<Option<Place>, OverwriteFault>
     ensures ok { IfOk result (λ found.
         EndsWithAt types style file.old key.now value.now found file.new) }
-    ensures err { IfErr result (FailsToOverwriteAt types style file.old key.now value.now) }
+    ensures err { IfErr result
+        (FailsToOverwriteAt types style file.old key.now value.now file.new) }
 {
     match types {
-        Types::PairKeys(pair, plain) => {
-            overwrite_pair_keys(pair, plain, alloc, style, key, value, file)
+        Types::Plain(plain) => overwrite_plain_types(plain, alloc, style, key, value, file),
+        Types::TupleKeys(tuple, to) => {
+            overwrite_tuple_keys(tuple, to, alloc, style, key, value, file)
         }
-        Types::PlainKeys(key_type, of) => match of {
-            AnyType::Plain(plain) => {
-                overwrite_plain_keys(key_type, plain, alloc, style, key, value, file)
-            }
-            AnyType::Optional(_) => Err(OverwriteFault::NotOverwritten),
-            AnyType::Pair(_) => Err(OverwriteFault::NotOverwritten),
-        },
+        _ => Err(OverwriteFault::NotOverwritten),
     }
 }

@@ -1,57 +1,26 @@
-//! The entries of an archive whose keys' texts begin with a text.
-ghost use Rattle.std.specs.Prelude.{◌≡◌, ◌++◌, ◌∷◌, [], IfErr, IfOk, IsTrue, OnOk, filter, map};
+//! The entries of an archive whose keys' texts begin with a text, written one by one.
+ghost use Rattle.std.specs.Iterator.{IsFinite};
+ghost use Rattle.std.specs.Prelude.{◌≡◌, ◌++◌, ◌∷◌, [], IfErr, IfOk, IsTrue, OnOk, Some, string_bytes};
 ghost use Rattle.rkyv_btree_format.specs.Layout.{are_fitting};
-ghost use Rattle.rkyv_btree_strict.specs.Prefix.{begins_with};
 ghost use Rattle.rkyv_btree_typed.specs.TypeNames.{name_of};
 ghost use Rattle.rkyv_btree_typed.specs.TypeNames as term;
-ghost use Rattle.btreekv_commands.specs.Forms.{text_in};
-ghost use Rattle.btreekv_commands.specs.Texts.{texts_of};
-ghost use Rattle.btreekv_types.specs.Commands.{Fails, FailsToRead, ListsTexts, Outputs};
-ghost use Rattle.btreekv_types.specs.Typed.{ByValues, RefusesTyped, items_by};
+ghost use Rattle.btreearc_lines.specs.Faults.{IsWriteFault};
+ghost use Rattle.btreekv_commands.specs.List.{StreamsEntries};
+ghost use Rattle.btreekv_types.specs.Commands.{Does};
+ghost use Rattle.btreekv_types.specs.Listing.{prefixed_text};
+ghost use Rattle.btreekv_types.specs.Typed.{ByValues, items_by, texts_shown};
 ghost use Rattle.btreekv_types.specs.declared.command.TypedCommand.TheVariants.{Prefix};
-ghost use Rattle.btreekv_types.specs.declared.fault.TypedFault.TheVariants.{Program};
 
-use crate::changing::push_all;
+use crate::fault::TypedFault;
+use crate::listing::{Buffers, make_texts, no_buffers};
 use crate::reading::open;
 use btreearc_lines::fault::ProgramFault;
+use btreearc_lines::streams::write_all;
 use btreekv_commands::forms::{Form, push_entry};
 use btreekv_items::item::{BytesStyle, Item};
+use rkyv_btree_view::view::View;
 use std::alloc::{AllocError, Global};
-
-/// Returns the texts of the entries of an archive.
-///
-/// # Errors
-///
-/// Those of `open`, and `Memory` if an allocation fails.
-fn all_texts<K: Item, V: Item>(
-    alloc: Global,
-    style: BytesStyle,
-    archive: &[u8],
-) -> Result<Vec<(String, String)>, ProgramFault>
-    requires { IsTrue (are_fitting K.kind V.kind 5) }
-    ensures ok { IfOk result (λ texts.
-        ByValues K.Native.archival K.kind K.order K.value_at K.native_value
-        V.Native.archival V.kind V.order V.value_at V.native_value (λ key_to value_to.
-        ListsTexts K.kind V.kind (name_of (term.map K.term V.term 5))
-        (items_by K.IsValue (K.spelling style) key_to) (items_by V.IsValue (V.spelling style) value_to)
-        archive.now (map texts_of texts.items))) }
-    ensures err { IfErr result (λ fault.
-        ByValues K.Native.archival K.kind K.order K.value_at K.native_value
-        V.Native.archival V.kind V.order V.value_at V.native_value (λ key_to value_to.
-        FailsToRead K.kind V.kind (name_of (term.map K.term V.term 5))
-        (items_by K.IsValue (K.spelling style) key_to) (items_by V.IsValue (V.spelling style) value_to)
-        (RefusesTyped K.kind V.kind (name_of (term.map K.term V.term 5))) archive.now (Program fault))) }
-{
-    let map = match open::<K, V>(archive) {
-        Ok(map) => map,
-        Err(fault) => return Err(fault),
-    };
-    let mut texts = Vec::new(alloc);
-    match push_all::<K, V, _>(alloc, style, map.iter(), &mut texts) {
-        Ok(()) => Ok(texts),
-        Err(fault) => Err(fault),
-    }
-}
+use std::io::Write;
 
 /// Writes an entry at the end, if its key begins with a text.
 ///
@@ -66,7 +35,7 @@ fn push_prefixed(
     value: &str,
 ) -> Result<(), AllocError>
     ensures { OnOk result (out.new.items ≡ out.old.items
-        ++ text_in form (filter (begins_with prefix.now) ((key.now, value.now) ∷ []))) }
+        ++ prefixed_text prefix.now form ((key.now, value.now) ∷ [])) }
 {
     if !key.as_bytes().starts_with(prefix.as_bytes()) {
         return Ok(());
@@ -74,57 +43,107 @@ fn push_prefixed(
     push_entry(out, form, key, value)
 }
 
-/// Returns the entries whose keys begin with a text, as they are written.
+/// Makes what is written of an entry whose texts are made, in place of the one before: nothing if its key doesn't begin with a text.
 ///
 /// # Errors
 ///
-/// `Memory` if an allocation fails.
-fn written_prefix(
-    alloc: Global,
-    prefix: &str,
-    form: Form,
-    entries: &[(String, String)],
-) -> Result<Vec<u8>, ProgramFault>
-    ensures ok { IfOk result (λ text. text.items
-        ≡ text_in form (filter (begins_with prefix.now) (map texts_of entries.now))) }
-    ensures err { IfErr result (λ fault. fault ≡ ProgramFault.Memory) }
+/// Where it finds no room.
+fn make_prefixed(prefix: &str, form: Form, buffers: &mut Buffers) -> Result<(), AllocError>
+    ensures { OnOk result (buffers.new.item.items
+        ≡ prefixed_text prefix.now form ((string_bytes buffers.old.key, string_bytes buffers.old.value) ∷ [])) }
 {
-    let mut out = Vec::new(alloc);
-    'entries: for index in 0..entries.len() {
-        let entry = &entries[index];
-        match push_prefixed(&mut out, prefix, form, entry.0.as_str(), entry.1.as_str()) {
-            Ok(()) => {}
-            Err(_) => return Err(ProgramFault::Memory),
-        }
-    }
-    Ok(out)
+    buffers.item.clear();
+    let (key, value) = (buffers.key.as_str(), buffers.value.as_str());
+    push_prefixed(&mut buffers.item, prefix, form, key, value)
 }
 
-/// Returns the entries whose keys' texts begin with a text, as they are written, in the order of the archive.
-pub(crate) fn prefix<K: Item, V: Item>(
+/// Writes each entry of an iterator whose key's text begins with a text, in memory for one of them.
+///
+/// # Errors
+///
+/// `OutputFailed` if the writer fails, or there is no memory for an entry.
+fn stream<'a, W: Write, K: Item, V: Item, I: Iterator<Item = (View<'a, K>, View<'a, V>)>>(
+    alloc: Global,
+    style: BytesStyle,
+    prefix: &str,
+    form: Form,
+    mut entries: I,
+    output: &mut W,
+) -> Result<(), ProgramFault>
+    requires can { I.can_next entries }
+    requires ends { IsFinite (I.remaining entries) }
+    ensures ok { OnOk result (StreamsEntries (prefixed_text prefix.now form) I.next_gives
+        (texts_shown (K.spelling style) K.value_at (V.spelling style) V.value_at) entries
+        (W.contents output.old) (W.contents output.new)) }
+    ensures err { IfErr result IsWriteFault }
+{
+    let mut buffers = no_buffers(alloc);
+    while let Some((key, value)) = entries.next() {
+        match make_texts::<K, V>(style, &key, &value, &mut buffers) {
+            Ok(()) => {}
+            Err(_) => return Err(ProgramFault::OutputFailed),
+        }
+        match make_prefixed(prefix, form, &mut buffers) {
+            Ok(()) => {}
+            Err(_) => return Err(ProgramFault::OutputFailed),
+        }
+        write_all(output, &buffers.item)?;
+    }
+    Ok(())
+}
+
+/// Writes each entry of an iterator whose key's text begins with a text, and returns the exit status.
+///
+/// # Errors
+///
+/// As of `stream`.
+#[inline(never)]
+fn write_prefixed<'a, W: Write, K: Item, V: Item, I: Iterator<Item = (View<'a, K>, View<'a, V>)>>(
+    alloc: Global,
+    style: BytesStyle,
+    prefix: &str,
+    form: Form,
+    entries: I,
+    output: &mut W,
+) -> Result<u8, TypedFault>
+    requires can { I.can_next entries }
+    requires ends { IsFinite (I.remaining entries) }
+    ensures ok { IfOk result (λ status. (status ≡ 0) × StreamsEntries (prefixed_text prefix.now form) I.next_gives
+        (texts_shown (K.spelling style) K.value_at (V.spelling style) V.value_at) entries
+        (W.contents output.old) (W.contents output.new)) }
+    ensures err { IfErr result (λ fault. fault ≡ TypedFault.Program ProgramFault.OutputFailed) }
+{
+    match stream::<W, K, V, I>(alloc, style, prefix, form, entries, output) {
+        Ok(()) => Ok(0),
+        Err(_) => Err(TypedFault::Program(ProgramFault::OutputFailed)),
+    }
+}
+
+/// Writes the entries whose keys' texts begin with a text, in the order of the archive, and returns the exit status. In memory is one of
+/// them at a time.
+///
+/// # Errors
+///
+/// As of a list.
+pub(crate) fn prefix<W: Write, K: Item, V: Item>(
     alloc: Global,
     style: BytesStyle,
     prefix: &String,
     form: Form,
     archive: &[u8],
-) -> Result<Vec<u8>, ProgramFault>
+    output: &mut W,
+) -> Result<u8, TypedFault>
     requires { IsTrue (are_fitting K.kind V.kind 5) }
-    ensures ok { IfOk result (λ text.
-        ByValues K.Native.archival K.kind K.order K.value_at K.native_value
+    ensures { ByValues K.Native.archival K.kind K.order K.value_at K.native_value
         V.Native.archival V.kind V.order V.value_at V.native_value (λ key_to value_to.
-        Outputs K.kind V.kind (name_of (term.map K.term V.term 5))
+        Does K.kind V.kind (name_of (term.map K.term V.term 5))
         (items_by K.IsValue (K.spelling style) key_to) (items_by V.IsValue (V.spelling style) value_to)
-        (Prefix prefix.now form) archive.now text.items 0)) }
-    ensures err { IfErr result (λ fault.
-        ByValues K.Native.archival K.kind K.order K.value_at K.native_value
-        V.Native.archival V.kind V.order V.value_at V.native_value (λ key_to value_to.
-        Fails K.kind V.kind (name_of (term.map K.term V.term 5))
-        (items_by K.IsValue (K.spelling style) key_to) (items_by V.IsValue (V.spelling style) value_to)
-        K.Native.archival V.Native.archival (Prefix prefix.now form) archive.now (Program fault))) }
+        K.Native.archival V.Native.archival (Prefix prefix.now form) (Some archive.now)
+        (W.contents output.old) (W.contents output.new) result) }
 {
-    let texts = match all_texts::<K, V>(alloc, style, archive) {
-        Ok(texts) => texts,
-        Err(fault) => return Err(fault),
+    let map = match open::<K, V>(archive) {
+        Ok(map) => map,
+        Err(fault) => return Err(TypedFault::Program(fault)),
     };
-    written_prefix(alloc, prefix.as_str(), form, texts.as_slice())
+    write_prefixed::<W, K, V, _>(alloc, style, prefix.as_str(), form, map.iter(), output)
 }

@@ -12,14 +12,11 @@ ghost use Rattle.rkyv_btree_view.specs.View.{entries_of};
 ghost use Rattle.btreekv_commands.specs.Commands.{WrittenEntry, total};
 ghost use Rattle.btreekv_commands.specs.Lines.{Entry};
 ghost use Rattle.btreekv_types.specs.Commands.{Fails, Outputs};
-ghost use Rattle.btreekv_types.specs.Listing.{HasListed, ShowsList};
 ghost use Rattle.btreekv_types.specs.Typed.{ByValues, CountsTyped, IsTypedInput, IsTypedOpenFault, RefusesTyped, RefusesTypedStrict, items_by, texts_shown};
 ghost use Rattle.btreekv_types.specs.declared.command.TypedCommand.TheVariants.{Check, CheckStrict, First, Get, Last, List as ListEntries, Range};
 ghost use Rattle.btreekv_types.specs.declared.fault.TypedFault.TheVariants.{Program};
-ghost use Rattle.btreekv_types.specs.declared.list_form.ListForm.{ListForm as ListFormOf};
 
 use crate::fault::TypedFault;
-use crate::list_form::{ListForm, ListWriter};
 use crate::natives::native_of;
 use btreearc_lines::fault::ProgramFault;
 use btreearc_lines::heading::heading_of;
@@ -30,7 +27,6 @@ use rkyv_btree_strict::strict::open_strict;
 use rkyv_btree_types::map::ArchivedBTreeMap;
 use rkyv_btree_view::view::View;
 use std::alloc::Global;
-use std::ops::Bound;
 
 /// Returns the map of an archive.
 ///
@@ -103,94 +99,6 @@ pub(crate) fn text_of<T: Item>(
         Ok(()) => Ok(text),
         Err(_) => Err(ProgramFault::Memory),
     }
-}
-
-/// Writes one more entry of a list.
-///
-/// # Errors
-///
-/// `Memory` if an allocation fails.
-fn write_entry<K: Item, V: Item>(
-    alloc: Global,
-    style: BytesStyle,
-    list: &mut ListWriter,
-    key: &View<'_, K>,
-    value: &View<'_, V>,
-) -> Result<(), ProgramFault>
-    ensures ok { OnOk result ((form : ListFormOf) (entries : List Entry) → HasListed form list.old entries →
-        HasListed form list.new (entries ++ texts_shown (K.spelling style) K.value_at (V.spelling style)
-        V.value_at (key.now, value.now) ∷ [])) }
-    ensures err { IfErr result (λ fault. fault ≡ ProgramFault.Memory) }
-{
-    let key = match text_of::<K>(alloc, style, key) {
-        Ok(key) => key,
-        Err(fault) => return Err(fault),
-    };
-    let value = match text_of::<V>(alloc, style, value) {
-        Ok(value) => value,
-        Err(fault) => return Err(fault),
-    };
-    list.push(key.as_str(), value.as_str())
-}
-
-/// Returns the list of the entries of an iterator as it is written.
-///
-/// # Errors
-///
-/// `Memory` if an allocation fails.
-#[inline(never)]
-fn written<'a, K: Item, V: Item, I: Iterator<Item = (View<'a, K>, View<'a, V>)>>(
-    alloc: Global,
-    style: BytesStyle,
-    form: ListForm,
-    mut entries: I,
-) -> Result<Vec<u8>, ProgramFault>
-    requires can { I.can_next entries }
-    requires ends { IsFinite (I.remaining entries) }
-    ensures ok { IfOk result (λ text. ShowsList form I.next_gives
-        (texts_shown (K.spelling style) K.value_at (V.spelling style) V.value_at) entries text.items) }
-    ensures err { IfErr result (λ fault. fault ≡ ProgramFault.Memory) }
-{
-    let mut list = match ListWriter::new(alloc, form) {
-        Ok(list) => list,
-        Err(fault) => return Err(fault),
-    };
-    while let Some((key, value)) = entries.next() {
-        match write_entry::<K, V>(alloc, style, &mut list, &key, &value) {
-            Ok(()) => {}
-            Err(fault) => return Err(fault),
-        }
-    }
-    list.finish()
-}
-
-/// Returns the entries of an archive as they are written.
-#[inline(never)]
-pub(crate) fn list<K: Item, V: Item>(
-    alloc: Global,
-    style: BytesStyle,
-    form: ListForm,
-    archive: &[u8],
-) -> Result<Vec<u8>, ProgramFault>
-    requires { IsTrue (are_fitting K.kind V.kind 5) }
-    ensures ok { IfOk result (λ text.
-        ByValues K.Native.archival K.kind K.order K.value_at K.native_value
-        V.Native.archival V.kind V.order V.value_at V.native_value (λ key_to value_to.
-        Outputs K.kind V.kind (name_of (term.map K.term V.term 5))
-        (items_by K.IsValue (K.spelling style) key_to) (items_by V.IsValue (V.spelling style) value_to)
-        (ListEntries form) archive.now text.items 0)) }
-    ensures err { IfErr result (λ fault.
-        ByValues K.Native.archival K.kind K.order K.value_at K.native_value
-        V.Native.archival V.kind V.order V.value_at V.native_value (λ key_to value_to.
-        Fails K.kind V.kind (name_of (term.map K.term V.term 5))
-        (items_by K.IsValue (K.spelling style) key_to) (items_by V.IsValue (V.spelling style) value_to)
-        K.Native.archival V.Native.archival (ListEntries form) archive.now (Program fault))) }
-{
-    let map = match open::<K, V>(archive) {
-        Ok(map) => map,
-        Err(fault) => return Err(fault),
-    };
-    written::<K, V, _>(alloc, style, form, map.iter())
 }
 
 /// Returns an entry as it is written, or nothing and the status 1 if there is none.
@@ -330,52 +238,6 @@ pub(crate) fn get<K: Item, V: Item>(
     match push_value(&mut out, form, text.as_str()) {
         Ok(()) => Ok((out, 0)),
         Err(_) => Err(TypedFault::Program(ProgramFault::Memory)),
-    }
-}
-
-/// Returns the entries of the keys from one to another as they are written.
-#[inline(never)]
-pub(crate) fn range<K: Item, V: Item>(
-    alloc: Global,
-    style: BytesStyle,
-    low: &String,
-    high: &String,
-    form: Form,
-    archive: &[u8],
-) -> Result<Vec<u8>, TypedFault>
-    requires { IsTrue (are_fitting K.kind V.kind 5) }
-    ensures ok { IfOk result (λ text.
-        ByValues K.Native.archival K.kind K.order K.value_at K.native_value
-        V.Native.archival V.kind V.order V.value_at V.native_value (λ key_to value_to.
-        Outputs K.kind V.kind (name_of (term.map K.term V.term 5))
-        (items_by K.IsValue (K.spelling style) key_to) (items_by V.IsValue (V.spelling style) value_to)
-        (Range low.now high.now form) archive.now text.items 0)) }
-    ensures err { IfErr result (λ fault.
-        ByValues K.Native.archival K.kind K.order K.value_at K.native_value
-        V.Native.archival V.kind V.order V.value_at V.native_value (λ key_to value_to.
-        Fails K.kind V.kind (name_of (term.map K.term V.term 5))
-        (items_by K.IsValue (K.spelling style) key_to) (items_by V.IsValue (V.spelling style) value_to)
-        K.Native.archival V.Native.archival (Range low.now high.now form) archive.now fault)) }
-{
-    let low = match native_of::<K>(alloc, style, low.as_str()) {
-        Ok(Some(key)) => key,
-        Ok(None) => return Err(TypedFault::NoLow),
-        Err(fault) => return Err(fault),
-    };
-    let high = match native_of::<K>(alloc, style, high.as_str()) {
-        Ok(Some(key)) => key,
-        Ok(None) => return Err(TypedFault::NoHigh),
-        Err(fault) => return Err(fault),
-    };
-    let map = match open::<K, V>(archive) {
-        Ok(map) => map,
-        Err(fault) => return Err(TypedFault::Program(fault)),
-    };
-    let compare = |key: &K::Native, view: View<K>| K::compare_native(key, &view);
-    let entries = map.range_with(Bound::Included(&low), Bound::Included(&high), compare);
-    match written::<K, V, _>(alloc, style, ListForm::Lines(form), entries) {
-        Ok(text) => Ok(text),
-        Err(fault) => Err(TypedFault::Program(fault)),
     }
 }
 

@@ -373,6 +373,7 @@ pub fn line_of<S: ReadAt + Drop>(
 ) -> Result<(Vec<u8>, u8, TypedSource<S>), TypedFault>
     ensures ok { (b : List ℕ) → IsSourceOf S.known archive b → IfOk result (λ r.
         WritesFoundAt archive.types style b word.now form r.0.items r.1) }
+    ensures same { IfOk result (λ r. IsSameArchive S.known archive r.2) }
     ensures err { (b : List ℕ) → IsSourceOf S.known archive b →
         IfErr result (FailsToFindAt archive.types style b (string_bytes word.now)) }
 {

@@ -8,12 +8,6 @@ returns-in-Ok-clause-ok g c = rw c.in-Build.is c.in-Ok.ensures.ok
 pub returns-in-Err-clause-err : goal.returns-in-Err-clause-err
 returns-in-Err-clause-err g c = rw c.in-Build.is c.in-Err.ensures.err
 
-pub returns-in-Ok-list-clause-ok : goal.returns-in-Ok-list-clause-ok
-returns-in-Ok-list-clause-ok g c = rw c.in-List.is c.in-Ok-list.ensures.ok
-
-pub returns-in-Err-list-clause-err : goal.returns-in-Err-list-clause-err
-returns-in-Err-list-clause-err g c = rw c.in-List.is c.in-Err-list.ensures.err
-
 pub returns-in-Ok-check-clause-ok : goal.returns-in-Ok-check-clause-ok
 returns-in-Ok-check-clause-ok g c = rw c.in-Check.is c.in-Ok-check.ensures.ok
 
@@ -31,12 +25,6 @@ returns-in-Ok-first-clause-ok g c = rw c.in-First.is c.in-Ok-first.ensures.ok
 
 pub returns-in-Err-first-clause-err : goal.returns-in-Err-first-clause-err
 returns-in-Err-first-clause-err g c = rw c.in-First.is c.in-Err-first.ensures.err
-
-pub returns-in-Ok-range-clause-ok : goal.returns-in-Ok-range-clause-ok
-returns-in-Ok-range-clause-ok g c = rw c.in-Range.is c.in-Ok-range.ensures.ok
-
-pub returns-in-Err-range-clause-err : goal.returns-in-Err-range-clause-err
-returns-in-Err-range-clause-err g c = rw c.in-Range.is c.in-Err-range.ensures.err
 
 pub returns-in-Get-clause-ok : goal.returns-in-Get-clause-ok
 returns-in-Get-clause-ok g c = rw c.in-Get.is c.get.ensures.ok
@@ -67,12 +55,6 @@ returns-in-Ok-update-clause-ok g c = rw c.in-Update.is (λ key_to value_to keys 
 
 pub returns-in-Err-update-clause-err : goal.returns-in-Err-update-clause-err
 returns-in-Err-update-clause-err g c = rw c.in-Update.is (rw c.as_slice-in-Update.ensures.value at c.in-Err-update.ensures.err)
-
-pub returns-in-Ok-prefix-clause-ok : goal.returns-in-Ok-prefix-clause-ok
-returns-in-Ok-prefix-clause-ok g c = rw c.in-Prefix.is c.in-Ok-prefix.ensures.ok
-
-pub returns-in-Err-prefix-clause-err : goal.returns-in-Err-prefix-clause-err
-returns-in-Err-prefix-clause-err g c = rw c.in-Prefix.is c.in-Err-prefix.ensures.err
 
 pub returns-in-Ok-diff-clause-ok : goal.returns-in-Ok-diff-clause-ok
 returns-in-Ok-diff-clause-ok g c = rw c.in-Diff.is (λ key_to value_to keys values maps. (refl, rw c.as_slice-in-Diff.ensures.value at (c.in-Ok-diff.ensures.ok key_to value_to keys values maps)))

@@ -10,17 +10,19 @@ returns-in-Ok-None-write_over-clause-ok g c = λ key_to value_to keys values map
     let K = g.K.Portable.kind in
     let word : g.K.Item.spelling c.args.style (g.K.Item.native_value c.in-Ok-Some.key) ≡ c.args.key.now = rw c.in-Ok-Some.field-0-is at c.in-Ok-Some.ensures.text in
     let is_key : g.K.Item.IsValue (g.K.Item.native_value c.in-Ok-Some.key) = rw c.in-Ok-Some.field-0-is at c.in-Ok-Some.ensures.value in
-    let none = (rw c.in-Ok-None-write_over.field-0-is at c.in-Ok-None-write_over.ensures.none) (λ (n : g.row.K-Native.Denot) (k : K.Value). K.order (keys.same.to (g.K.Native.Archive.archival.meaning n)) k) (λ n b at. compared_so key_to keys n b at) in
-    record {
-      entries = none.0.0;
-      file = ((c.in-Ok.heading, c.in-Ok.ensures.ok), none.0.1);
-      asked = keys.same.to (g.K.Native.Archive.archival.meaning c.in-Ok-Some.key);
-      is_key = (
-        key_meant key_to value_to keys values g.K.Item.IsValue (g.K.Item.spelling c.args.style) g.V.Item.IsValue (g.V.Item.spelling c.args.style) c.in-Ok-Some.key is_key,
-        key_text_meant key_to value_to keys values g.K.Item.IsValue (g.K.Item.spelling c.args.style) g.V.Item.IsValue (g.V.Item.spelling c.args.style) c.in-Ok-Some.key _ word,
-      );
-      none = none.1;
-    }
+    let none = (rw c.in-Ok-None-write_over.field-0-is at c.in-Ok-None-write_over.ensures.none) (λ (n : g.row.K-Native.Denot) (k : K.Value). K.order (keys.same.to (g.K.Native.Archive.archival.meaning n)) k) (λ n b at. compared_so key_to keys n b at) in (
+      record {
+        entries = none.0.0;
+        file = ((c.in-Ok.heading, c.in-Ok.ensures.ok), none.0.1);
+        asked = keys.same.to (g.K.Native.Archive.archival.meaning c.in-Ok-Some.key);
+        is_key = (
+          key_meant key_to value_to keys values g.K.Item.IsValue (g.K.Item.spelling c.args.style) g.V.Item.IsValue (g.V.Item.spelling c.args.style) c.in-Ok-Some.key is_key,
+          key_text_meant key_to value_to keys values g.K.Item.IsValue (g.K.Item.spelling c.args.style) g.V.Item.IsValue (g.V.Item.spelling c.args.style) c.in-Ok-Some.key _ word,
+        );
+        none = none.1;
+      },
+      rw c.in-Ok-None-write_over.field-0-is at c.in-Ok-None-write_over.ensures.absent,
+    )
 
 pub returns-then-keeps_heading-clause-ok : goal.returns-then-keeps_heading-clause-ok
 returns-then-keeps_heading-clause-ok g c = λ key_to value_to keys values maps.
@@ -52,7 +54,6 @@ returns-clause-err g c = λ key_to value_to keys values maps.
       heading = c.in-Ok.heading;
       headed = c.in-Ok.ensures.ok;
       start = c.in-Ok-Some-write_over.place.start;
-      new = c.write_over.new.archive;
       puts = puts_text key_to value_to keys values _ g.K.Item.IsValue (g.K.Item.spelling c.args.style) g.V.Item.IsValue (g.V.Item.spelling c.args.style) _ _ _ c.in-Ok-Some.key c.in-Ok-Some-native_of.value own _ _ _ is_key word is_value text c.own.ensures (g.met.V.InPlace.is_in_place.written c.own.result).size puts;
       reheaded = c.keeps_heading.ensures.no c.if-keeps_heading.false;
     }

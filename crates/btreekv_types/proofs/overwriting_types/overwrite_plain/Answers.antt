@@ -1,4 +1,5 @@
 -- Each type of numbers has its own call, and other values aren't written over.
+use Rattle.std.proofs.Common.{refl}
 use Rattle.std.proofs.lemmas.Result.{IfOk-weaker, IfErr-weaker}
 use Rattle.btreekv_types.specs.declared.any_type.AnyType.TheVariants.{Plain}
 use Rattle.btreekv_types.specs.declared.plain_type.PlainType.TheVariants.{U8, U16, U32, U64, I32, I64}
@@ -60,7 +61,7 @@ returns-in-I64 g c = rw c.in-I64.is (record {
 })
 
 pub returns-in-Text : goal.returns-in-Text
-returns-in-Text g c = rw c.in-Text.is (record { ok = tt; err = λ key_to keys maps no. no })
+returns-in-Text g c = rw c.in-Text.is (record { ok = tt; err = λ key_to keys maps. ((λ no. no), refl) })
 
 pub returns-in-Bytes : goal.returns-in-Bytes
-returns-in-Bytes g c = rw c.in-Bytes.is (record { ok = tt; err = λ key_to keys maps no. no })
+returns-in-Bytes g c = rw c.in-Bytes.is (record { ok = tt; err = λ key_to keys maps. ((λ no. no), refl) })

@@ -1,0 +1,23 @@
+-- Each type of values has its own call.
+use Rattle.btreekv_types.specs.declared.any_type.AnyType.TheVariants.{Plain}
+use Rattle.btreekv_types.specs.declared.plain_type.PlainType.TheVariants.{U32, U64, Text}
+use Rattle.btreekv_types.proofs.Pairs.{own_values}
+use Rattle.btreekv_types.proofs.types.run_to_common.Goals as goal
+
+pub run_of-requires : goal.run_of-requires
+run_of-requires g c = rw c.in-U32.is at c.requires
+
+pub returns-in-U32 : goal.returns-in-U32
+returns-in-U32 g c = rw c.in-U32.is (λ key_to keys maps. c.run_of.ensures key_to (λ v. v) keys (own_values (Plain U32)) maps)
+
+pub run_of-requires-in-U64 : goal.run_of-requires-in-U64
+run_of-requires-in-U64 g c = rw c.in-U64.is at c.requires
+
+pub returns-in-U64 : goal.returns-in-U64
+returns-in-U64 g c = rw c.in-U64.is (λ key_to keys maps. c.run_of-in-U64.ensures key_to (λ v. v) keys (own_values (Plain U64)) maps)
+
+pub run_of-requires-in-Text : goal.run_of-requires-in-Text
+run_of-requires-in-Text g c = rw c.in-Text.is at c.requires
+
+pub returns-in-Text : goal.returns-in-Text
+returns-in-Text g c = rw c.in-Text.is (λ key_to keys maps. c.run_of-in-Text.ensures key_to (λ v. v) keys (own_values (Plain Text)) maps)
