@@ -161,8 +161,8 @@ ends 2 'btreekv: line 2: not KEY TAB VALUE'        '1\ta\n2\n'                 '
 ends 2 'btreekv: refused: the bytes are of type [u32 -> text / 5], not [text -> u32 / 5]' "$numbers" ''      list --types text:u32
 ends 0 ''                                          "$numbers"                  '10\tTEN\n'                 prefix 1
 ends 2 'btreekv: refused: the bytes are of type [u32 -> text / 5], not [text -> text / 5]' "$numbers" ''     stat
-ends 2 'btreekv: u32 are no types KEY:VALUE'       ''                          ''                            build --types u32
-ends 2 'btreekv: u32:number are no types KEY:VALUE' ''                         ''                            build --types u32:number
+ends 2 'btreekv: u32 are no types KEY:VALUE (see btreekv help build)' '' ''                            build --types u32
+ends 2 'btreekv: u32:number are no types KEY:VALUE (see btreekv help build)' '' ''                            build --types u32:number
 ends 0 ''                                          'b\t1\na\t2\n'              "$(archive_of 'a\t2\nb\t1\n')" build --types text:text
 
 # options, pairs and triples
@@ -191,7 +191,7 @@ ends 0 ''                                          "$days"                     '
 ends 0 ''                                          "$days"                     '2026,9,30\tWednesday\n'   prefix 2026,9
 ends 2 'btreekv: 2026,10 is no (u32, u32, u32)'    "$days"                     ''                           get 2026,10
 ends 2 'btreekv: 2026,10,1,0 is no (u32, u32, u32)' "$days"                    ''                           get 2026,10,1,0
-ends 2 'btreekv: u16:option(u32) are no types KEY:VALUE' ''                    ''                           build --types 'u16:option(u32)'
+ends 2 'btreekv: u16:option(u32) are no types KEY:VALUE (see btreekv help build)' '' ''                           build --types 'u16:option(u32)'
 
 # each type that the program has maps of: the lesser of two entries comes first. A type with parts goes with a common type, and an option is
 # no key
@@ -208,9 +208,10 @@ go_together() {
     return 0
 }
 for key in "${plain[@]}" "${tuples[@]}" "${numbered[@]}"; do
+    "$program" help build | sed '1,/^Types/d; /^$/,$d' | grep -qwF -e "$key" || fail "help of build: no type $key"
     for value in "${plain[@]}" "${numbered[@]}" "${tuples[@]}"; do
         if ! go_together "$key" "$value"; then
-            ends 2 "btreekv: $key:$value are no types KEY:VALUE" '' '' build --types "$key:$value"
+            ends 2 "btreekv: $key:$value are no types KEY:VALUE (see btreekv help build)" '' '' build --types "$key:$value"
             continue
         fi
         first="${low[$key]-9}\t${high[$value]-200}\n"
@@ -509,6 +510,42 @@ ends 2 'btreekv: input failed: absent: No such file or directory (os error 2)' '
 ends 2 "error: the argument '--json' cannot be used with '[MORE]...'" '' '' get --json fig pear archive
 ends 2 "error: the argument '--escape' cannot be used with '[MORE]...'" '' '' get --escape fig pear archive
 ends 2 "error: the argument '--null' cannot be used with '[MORE]...'" '' '' get --null fig pear archive
+
+# an input that is named - is standard input, and such an output standard output; another file of this name is ./-
+printf 'pear\n' > deletion
+fewer=$(archive_of 'apple\tred\nfig\tblue and green\n')
+ends 0 '' "$three" 'ok 3 entries\n' check -
+ends 0 '' "$three" 'apple\tred\nfig\tblue and green\npear\tyellow\n' list -
+ends 0 '' 'apple\tred\nfig\tblue and green\n' "$fewer" build --strict -o - -
+ends 0 'btreekv: 164 of 164 bytes read' "$three" 'yellow\n' get --stats pear -
+ends 1 '' "$three" "$found" get pear '' banana fig pear -
+ends 1 '' "$three" "$found" get --keys-from keys -
+ends 0 '' "$numbers" '9\tnine\n10\tTEN\n' get --types u32:text 9 10 -
+ends 0 '' "$three" 'apple\tred\n' first -
+ends 0 '' "$three" 'fig\tblue and green\n' prefix f -
+ends 0 '' "$numbers" '10\tTEN\n' last -
+ends 0 '' "$three" "$(archive_of 'apple\tred\nfig\t1\npear\tyellow\n')" set fig 1 -
+ends 0 '' 'pear\n' "$fewer" update -o - archive -
+ends 0 '' "$three" "$fewer" update - deletion
+ends 0 '' "$fewer" "$three" merge - archive
+ends 0 '' "$fewer" "$three" merge archive -
+ends 0 '' "$fewer" 'pear\n' diff archive -
+ends 0 '' "$fewer" 'pear\tyellow\n' diff - archive
+ends 0 '' "$numbers" '' diff --types u32:text numbers -
+ends 1 '' "$three" "00000044  leaf of 3 entries\n          key 0 is less: apple\n          key 1 is greater: fig\n          the key isn't there\n" explain --key banana -
+ends 2 'btreekv: refused: position 0 is out of range' 'abc' '' check -
+ends 2 'btreekv: refused: position 0 is out of range' 'abc' '' get a b -
+ends 2 'btreekv: refused: position 0 is out of range' 'abc' '' merge archive -
+ends 2 'btreekv: refused: position 0 is out of range' 'abc' '' get --types u32:text 1 2 -
+ends 2 'btreekv: not written: -: it is no regular file' "$three" '' set --in-place pear 1 -
+for words in 'merge - -' 'merge archive - -' 'update -' 'update - -' 'diff - -' 'get --keys-from - -'; do
+    ends 2 'btreekv: two inputs are standard input' "$three" '' $words
+done
+"$program" top 1 - < archive > written 2> said && "$program" top 1 archive | cmp -s - written || fail "top of standard input: $(cat said)"
+cp archive ./-
+ends 0 '' '' 'ok 3 entries\n' check ./-
+ends 2 'btreekv: refused: position 0 is out of range' 'abc' '' check -
+rm ./-
 
 # A look-up in a file, which isn't read whole, ends as one in standard input, which is: the words of get before the file, and the file.
 alike() {
@@ -952,7 +989,7 @@ keeps 'btreekv: not written: count_texts: the values are no numbers' 2 count_tex
 keeps 'btreekv: not written: bare_counts: the values are no numbers' 2 bare_counts pear 5 bare_counts
 keeps 'btreekv: not written: tens: the values are no numbers' 2 tens 9 5 tens
 keeps 'btreekv: refused: counts: the bytes are of type [text -> u32 / 5], not [text -> u64 / 5]' 2 counts --types text:u64 pear 5 counts
-keeps 'btreekv: x:u64 are no types KEY:VALUE' 2 counts --types x:u64 pear 5 counts
+keeps 'btreekv: x:u64 are no types KEY:VALUE (see btreekv help build)' 2 counts --types x:u64 pear 5 counts
 refuses 'btreekv: input failed: absent: No such file or directory (os error 2)' '' set --in-place a 1 absent
 refuses 'btreekv: input failed: .: Is a directory (os error 21)' '' set --in-place a 1 .
 refuses 'btreekv: not written: /dev/null: it is no regular file' '' set --in-place a 1 /dev/null

@@ -1,9 +1,9 @@
 //! Commands that hold whole files in memory: updates, entries that are set, merges, differences and sidecars.
 
+use crate::inputs::{file_named, file_of, output_of};
 use crate::output::Output;
 use crate::progress::Progress;
 use crate::system::{Ended, Names, System, bad_byte_of};
-use crate::words;
 use btreearc_lines::fault::ProgramFault;
 use btreearc_lines::streams::{read_all, write_all};
 use btreekv_commands::opening::ArchiveFault;
@@ -19,7 +19,10 @@ fn fail(system: &System<'_>, archives: &[&str], fault: UpdateFault) -> Ended {
         UpdateFault::Line(line) => system.fail(nameless, &ProgramFault::Line(line)),
         UpdateFault::OutOfOrder(line) => system.out_of_order(None, line),
         UpdateFault::Archive(which, fault) => {
-            let name = archives.get(which).copied();
+            let name = match archives.get(which) {
+                Some(name) => file_named(*name),
+                None => None,
+            };
             let fault = match fault {
                 ArchiveFault::Misheaded(fault) => ProgramFault::Misheaded(fault),
                 ArchiveFault::Refused(refusal) => ProgramFault::Refused(refusal),
@@ -102,12 +105,12 @@ fn write(system: &System<'_>, output: Option<&str>, bytes: &[u8]) -> Result<u8, 
 /// Runs `update`, and returns the exit status.
 pub fn update(system: &System<'_>, matches: &ArgMatches<'_>) -> Result<u8, Ended> {
     let name = matches.get_str("ARCHIVE").unwrap_or("");
-    let changes_name = matches.get_str("CHANGES");
-    let archive = read(system, Some(name))?;
+    let changes_name = file_of(matches, "CHANGES");
+    let archive = read(system, file_named(name))?;
     let changes = read(system, changes_name)?;
     let sorts = matches.get_flag("sort");
     match updating::update(system.alloc(), sorts, &archive, &changes) {
-        Ok(bytes) => write(system, words::output_of("update", matches), &bytes),
+        Ok(bytes) => write(system, output_of("update", matches), &bytes),
         Err(fault) => { Err(fail_update(system, name, changes_name, &changes, fault)) }
     }
 }
@@ -122,7 +125,7 @@ pub(crate) fn set_in(
     let key = matches.get_str("KEY").unwrap_or("");
     let value = matches.get_str("VALUE").unwrap_or("");
     match (updating::set(system.alloc(), archive, key, value), name) {
-        (Ok(bytes), _) => write(system, words::output_of("set", matches), &bytes),
+        (Ok(bytes), _) => write(system, output_of("set", matches), &bytes),
         (Err(fault), Some(name)) => Err(fail(system, &[name], fault)),
         (Err(fault), None) => Err(fail(system, &[], fault)),
     }
@@ -130,7 +133,7 @@ pub(crate) fn set_in(
 
 /// Runs `set`, and returns the exit status.
 pub fn set(system: &System<'_>, matches: &ArgMatches<'_>) -> Result<u8, Ended> {
-    let name = matches.get_str("FILE");
+    let name = file_of(matches, "FILE");
     let archive = read(system, name)?;
     set_in(system, matches, name, &archive)
 }
@@ -139,7 +142,7 @@ pub fn set(system: &System<'_>, matches: &ArgMatches<'_>) -> Result<u8, Ended> {
 pub(crate) fn read_each(system: &System<'_>, names: &[&str]) -> Result<Vec<Vec<u8>>, Ended> {
     let mut files = Vec::new(system.alloc());
     for name in names {
-        let file = read(system, Some(*name))?;
+        let file = read(system, file_named(*name))?;
         if files.push(file).is_err() {
             return Err(system.fail(Names::of_input(None), &ProgramFault::Memory));
         }
@@ -156,10 +159,10 @@ pub fn merge(system: &System<'_>, matches: &ArgMatches<'_>) -> Result<u8, Ended>
     if names.push(first).is_err() || names.extend_from_slice(other_names).is_err() {
         return Err(system.fail(Names::of_input(None), &ProgramFault::Memory));
     }
-    let archive = read(system, Some(first))?;
+    let archive = read(system, file_named(first))?;
     let others = read_each(system, other_names)?;
     match merging::merge(alloc, &archive, &others) {
-        Ok(bytes) => write(system, words::output_of("merge", matches), &bytes),
+        Ok(bytes) => write(system, output_of("merge", matches), &bytes),
         Err(fault) => { Err(fail(system, &names, fault)) }
     }
 }
@@ -168,8 +171,8 @@ pub fn merge(system: &System<'_>, matches: &ArgMatches<'_>) -> Result<u8, Ended>
 pub fn diff(system: &System<'_>, matches: &ArgMatches<'_>) -> Result<u8, Ended> {
     let old_name = matches.get_str("OLD").unwrap_or("");
     let new_name = matches.get_str("NEW").unwrap_or("");
-    let old = read(system, Some(old_name))?;
-    let new = read(system, Some(new_name))?;
+    let old = read(system, file_named(old_name))?;
+    let new = read(system, file_named(new_name))?;
     match differences::diff(system.alloc(), &old, &new) {
         Ok(text) => write(system, None, text.as_bytes()),
         Err(fault) => { Err(fail(system, &[old_name, new_name], fault)) }
@@ -178,11 +181,11 @@ pub fn diff(system: &System<'_>, matches: &ArgMatches<'_>) -> Result<u8, Ended> 
 
 /// Runs `top`, and returns the exit status.
 pub fn top(system: &System<'_>, matches: &ArgMatches<'_>) -> Result<u8, Ended> {
-    let name = matches.get_str("FILE").unwrap_or("");
+    let name = file_of(matches, "FILE");
     let levels = matches.get_one::<u32>("LEVELS").unwrap_or(1);
-    let archive = read(system, Some(name))?;
+    let archive = read(system, name)?;
     match sidecar(system.alloc(), levels, &archive) {
-        Ok(bytes) => write(system, words::output_of("top", matches), &bytes),
-        Err(fault) => Err(system.fail(Names::of_input(Some(name)), &fault)),
+        Ok(bytes) => write(system, output_of("top", matches), &bytes),
+        Err(fault) => Err(system.fail(Names::of_input(name), &fault)),
     }
 }

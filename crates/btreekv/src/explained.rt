@@ -1,6 +1,7 @@
 //! The command `explain`.
 
 use crate::archives::read;
+use crate::inputs::file_of;
 use crate::system::{Ended, Names, System};
 use btreekv_commands::explaining::explain;
 use btreekv_commands::way::explain_way;
@@ -8,7 +9,7 @@ use clap::ArgMatches;
 
 /// Writes the bytes of an archive with their meaning, or the way of the lookup of a key. Returns the exit status.
 pub fn run(system: &System<'_>, matches: &ArgMatches<'_>) -> Result<u8, Ended> {
-    let path = matches.get_str("FILE");
+    let path = file_of(matches, "FILE");
     let archive = read(system, path)?;
     let alloc = system.alloc();
     let mut output = system.stdout();

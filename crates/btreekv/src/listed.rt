@@ -1,6 +1,7 @@
 //! The command `list`.
 
 use crate::archives::read;
+use crate::inputs::file_of;
 use crate::sink::WRITE_LEN;
 use crate::system::{Ended, Names, System};
 use crate::words::{form_of, table_of};
@@ -43,7 +44,7 @@ pub(crate) fn write(
 
 /// Writes the entries of a file, or of standard input, and returns the exit status.
 pub fn run(system: &System<'_>, matches: &ArgMatches<'_>) -> Result<u8, Ended> {
-    let path = matches.get_str("FILE");
+    let path = file_of(matches, "FILE");
     let archive = read(system, path)?;
     write(system, matches, Names::of_input(path), &archive)
 }

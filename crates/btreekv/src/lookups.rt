@@ -1,5 +1,7 @@
 //! Look-ups of one key, and of many. A file isn't read whole.
 
+use crate::archives::read;
+use crate::inputs::{file_of, input_of};
 use crate::progress::Progress;
 use crate::system::{Ended, Named, Names, System};
 use crate::words;
@@ -339,11 +341,11 @@ pub(crate) fn get_keys_in<A: Archive>(
 fn get_texts_in<S: ReadAt + Drop>(
     system: &System<'_>,
     matches: &ArgMatches<'_>,
-    path: &str,
+    path: Option<&str>,
     mut source: S,
     keys: KeyList<'_>,
 ) -> Result<u8, Ended> {
-    let names = Names::of_input(Some(path));
+    let names = Names::of_input(path);
     let Ok(size) = source.size() else {
         return Err(system.fail(names, &ProgramFault::InputFailed));
     };
@@ -390,24 +392,40 @@ pub(crate) fn blocks_for(keys: KeyList<'_>) -> usize {
     }
 }
 
-/// Looks up keys in the archive of texts of this name.
+/// Looks up keys in the archive of texts that standard input has.
+fn get_keys_in_stdin(
+    system: &System<'_>,
+    matches: &ArgMatches<'_>,
+    keys: KeyList<'_>,
+) -> Result<u8, Ended> {
+    let bytes = read(system, None)?;
+    match opening::open(&bytes) {
+        Ok(_) => get_texts_in(system, matches, None, bytes.as_slice(), keys),
+        Err(fault) => Err(system.fail(Names::of_input(None), &fault)),
+    }
+}
+
+/// Looks up keys in the archive of texts of this name, or in that of standard input.
 fn get_keys(
     system: &System<'_>,
     matches: &ArgMatches<'_>,
-    path: &str,
+    path: Option<&str>,
     keys: KeyList<'_>,
 ) -> Result<u8, Ended> {
-    let file = system.open(path)?;
+    let Some(name) = path else {
+        return get_keys_in_stdin(system, matches, keys);
+    };
+    let file = system.open(name)?;
     let in_parts = is_regular(&file) && !matches.get_flag("validate");
     if in_parts && !are_many(system, &file, keys) {
         return match cached(system, file, blocks_for(keys)) {
             Ok(source) => get_texts_in(system, matches, path, source, keys),
-            Err(fault) => Err(system.fail(Names::of_input(Some(path)), &fault)),
+            Err(fault) => Err(system.fail(Names::of_input(path), &fault)),
         };
     }
     match read_archive(system, matches, file) {
         Ok(bytes) => get_texts_in(system, matches, path, bytes.as_slice(), keys),
-        Err(fault) => Err(system.fail(Names::of_input(Some(path)), &fault)),
+        Err(fault) => Err(system.fail(Names::of_input(path), &fault)),
     }
 }
 
@@ -432,7 +450,7 @@ pub(crate) fn key_words<'a>(
 
 /// Looks up several keys in the archive of texts that the words name.
 fn get_several(system: &System<'_>, matches: &ArgMatches<'_>) -> Result<u8, Ended> {
-    let path = words::input_of("get", matches).unwrap_or("");
+    let path = input_of("get", matches);
     if let Some(keys) = matches.get_str("keys-from") {
         return get_keys(system, matches, path, KeyList::From(keys));
     }
@@ -466,7 +484,7 @@ pub fn get(system: &System<'_>, matches: &ArgMatches<'_>) -> Result<u8, Ended> {
     if words::has_several_keys("get", matches) {
         return get_several(system, matches);
     }
-    let path = matches.get_str("FILE");
+    let path = file_of(matches, "FILE");
     let done = match path {
         None => in_all(
             system,

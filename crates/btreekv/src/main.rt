@@ -4,6 +4,7 @@
 mod archives;
 mod explained;
 mod files;
+mod inputs;
 mod listed;
 mod lookups;
 mod output;
@@ -200,8 +201,8 @@ fn arguments(system: &System<'_>) -> Result<Vec<String>, ProgramFault> {
 /// Does what the words of a command over one file say, and returns the exit status.
 fn one_file(system: &System<'_>, name: &str, matches: &ArgMatches<'_>) -> Result<u8, Ended> {
     let names = Names {
-        input: matches.get_str("FILE"),
-        output: words::output_of(name, matches),
+        input: inputs::input_of(name, matches),
+        output: inputs::output_of(name, matches),
     };
     let Ok(command) = words::command_of(system.alloc(), name, matches) else {
         return Err(system.fail(names, &ProgramFault::Memory));
@@ -229,7 +230,10 @@ fn status(system: &System<'_>) -> Result<u8, Ended> {
     let Some((name, matches)) = matches.subcommand() else {
         return Err(system.fail(Names::of_input(None), &ProgramFault::Usage));
     };
-    if words::output_of(name, matches).is_none() {
+    if inputs::reads_stdin_twice(name, matches) {
+        return Err(system.stdin_twice());
+    }
+    if inputs::output_of(name, matches).is_none() {
         system.writes_to_stdout();
     }
     if let Some(status) = typed::run(system, name, matches)? {

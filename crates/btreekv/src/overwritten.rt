@@ -1,5 +1,6 @@
 //! The command `set --in-place`.
 
+use crate::inputs::file_of;
 use crate::lookups::is_regular;
 use crate::progress::Progress;
 use crate::system::{Ended, Names, System};
@@ -19,6 +20,9 @@ const NOT_FOUND: u8 = 1;
 
 /// Why a value isn't written over that is no number.
 const NO_NUMBERS: &str = "the values are no numbers";
+
+/// Why a value isn't written over in what is no file.
+const NO_FILE: &str = "it is no regular file";
 
 /// Opens a file to read and to write it.
 fn open(system: &System<'_>, path: &str) -> Result<File, Ended> {
@@ -122,11 +126,13 @@ fn overwrite(
 
 /// Runs `set --in-place`, and returns the exit status. If it isn't 0, the file is unchanged, unless the write failed.
 pub(crate) fn run(system: &System<'_>, matches: &ArgMatches<'_>) -> Result<u8, Ended> {
-    let path = matches.get_str("FILE").unwrap_or("");
     let named = named_types(system, matches)?;
+    let Some(path) = file_of(matches, "FILE") else {
+        return Err(refuse(system, "-", NO_FILE));
+    };
     let file = open(system, path)?;
     if !is_regular(&file) {
-        return Err(refuse(system, path, "it is no regular file"));
+        return Err(refuse(system, path, NO_FILE));
     }
     let mut input = Progress::of_file(system, handle(system, path, &file)?);
     let bytes = match read_all(system.alloc(), &mut input) {

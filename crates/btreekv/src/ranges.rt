@@ -1,5 +1,6 @@
 //! The first and the last entry, ranges of keys, and keys that begin with a text. A regular file isn't read whole.
 
+use crate::inputs::file_of;
 use crate::lookups::{FEW_BLOCKS, cached, in_all, is_regular, write_stats};
 use crate::progress::Progress;
 use crate::system::{Ended, Names, System};
@@ -106,7 +107,7 @@ fn in_file(
 
 /// Runs `first`, `last`, `range` or `prefix`, and returns the exit status.
 pub fn run(system: &System<'_>, name: &str, matches: &ArgMatches<'_>) -> Result<u8, Ended> {
-    let path = matches.get_str("FILE");
+    let path = file_of(matches, "FILE");
     let done = match path {
         None => in_all(
             system,

@@ -153,6 +153,13 @@ impl<'a> System<'a> {
         Err(Ended { status: FAILED })
     }
 
+    /// Writes the line of two inputs that both are standard input.
+    pub fn stdin_twice(&self) -> Ended {
+        let rt = self.rt;
+        let _ = eprintln!(rt; "btreekv: two inputs are standard input");
+        Ended { status: FAILED }
+    }
+
     /// Returns standard input.
     pub fn stdin(&self) -> Result<Stdin, Ended> {
         self.refuse_output(None, id_of(fs::metadata(self.rt, "/dev/stdin")))?;

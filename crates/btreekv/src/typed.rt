@@ -1,12 +1,13 @@
 //! Maps of other types than texts to texts: their types are those of the words, or those that a file's header names.
 
+use crate::inputs::{file_named, file_of};
 use crate::lookups::{in_all, is_regular, write_stats};
 use crate::output::Output;
 use crate::progress::Progress;
 use crate::sink::Sink;
 use crate::system::{Ended, Named, Names, System, bad_byte_of};
 use crate::typed_lookups::{get_keys, in_parts};
-use crate::{archives, listed, overwritten, words};
+use crate::{archives, inputs, listed, overwritten, words};
 use btreearc_lines::fault::ProgramFault;
 use btreearc_lines::heading::HeadingFault;
 use btreearc_lines::streams::read_all;
@@ -54,11 +55,11 @@ fn other_files(
     match name {
         "merge" => archives::read_each(system, matches.get_strs("OTHERS").unwrap_or(&[])),
         "update" => {
-            let lines = archives::read(system, matches.get_str("CHANGES"))?;
+            let lines = archives::read(system, file_of(matches, "CHANGES"))?;
             one_file(system, lines)
         }
         "diff" => {
-            let new = archives::read(system, matches.get_str("NEW"))?;
+            let new = archives::read(system, file_of(matches, "NEW"))?;
             one_file(system, new)
         }
         _ => Ok(Vec::new(system.alloc())),
@@ -199,7 +200,7 @@ fn fail_update(
     lines: &[u8],
     fault: &TypedFault,
 ) -> Ended {
-    let name = matches.get_str("CHANGES");
+    let name = file_of(matches, "CHANGES");
     let (key, value) = (typed.types.key(), typed.types.value());
     match fault {
         TypedFault::BadKey(line) => bad_line(system, name, *line, "key", key),
@@ -212,7 +213,7 @@ fn fail_update(
             system.out_of_order(name, index.saturating_add(1))
         }
         TypedFault::Program(fault) => {
-            let names = Names::of_input(matches.get_str("ARCHIVE"));
+            let names = Names::of_input(file_of(matches, "ARCHIVE"));
             fail_of(system, typed.types, names, fault)
         }
         _ => system.fail(Names::of_input(None), &ProgramFault::Usage),
@@ -261,10 +262,13 @@ fn name_at<'a>(command: &TypedCommand, matches: &ArgMatches<'a>, number: u64) ->
         _ => ("ARCHIVE", "OTHERS"),
     };
     let Some(index) = number.checked_sub(1) else {
-        return Names::of_input(matches.get_str(first));
+        return Names::of_input(file_of(matches, first));
     };
     let others = matches.get_strs(others).unwrap_or(&[]);
-    Names::of_input(others.get(index as usize).copied())
+    match others.get(index as usize) {
+        Some(name) => Names::of_input(file_named(*name)),
+        None => Names::of_input(None),
+    }
 }
 
 /// Writes the line of an error of any command over maps of two types.
@@ -344,8 +348,8 @@ fn bad_record(system: &System<'_>, command: &TypedCommand, names: Names<'_>, num
 /// Returns the files of a command.
 fn names_of<'a>(name: &str, matches: &ArgMatches<'a>) -> Names<'a> {
     Names {
-        input: words::input_of(name, matches),
-        output: words::output_of(name, matches),
+        input: inputs::input_of(name, matches),
+        output: inputs::output_of(name, matches),
     }
 }
 
@@ -468,7 +472,7 @@ fn run_texts<R: Read + Drop>(
     matches: &ArgMatches<'_>,
     mut input: Progress<'_, '_, R>,
 ) -> Result<u8, Ended> {
-    let names = Names::of_input(matches.get_str("FILE"));
+    let names = Names::of_input(file_of(matches, "FILE"));
     if name == "set" || name == "list" {
         let archive = match read_all(system.alloc(), &mut input) {
             Ok(archive) => archive,
@@ -516,15 +520,19 @@ fn run_by_header(
     name: &str,
     matches: &ArgMatches<'_>,
 ) -> Result<Option<u8>, Ended> {
-    let Some(path) = words::input_of(name, matches) else {
-        return Ok(Some(run_stream(system, name, matches, system.stdin()?)?));
+    let is_stream = !words::reads_several(name) && !words::has_several_keys(name, matches);
+    let Some(path) = inputs::input_of(name, matches) else {
+        if is_stream {
+            return Ok(Some(run_stream(system, name, matches, system.stdin()?)?));
+        }
+        return Ok(None);
     };
     let file = system.open(path)?;
     if !is_regular(&file) {
-        if words::reads_several(name) || words::has_several_keys(name, matches) {
-            return Ok(None);
+        if is_stream {
+            return Ok(Some(run_stream(system, name, matches, file)?));
         }
-        return Ok(Some(run_stream(system, name, matches, file)?));
+        return Ok(None);
     }
     let first = match first_bytes(system, &mut Progress::silent(system, file)) {
         Ok(first) => first,
@@ -550,7 +558,7 @@ pub(crate) fn named_types(
     };
     let Some(types) = types_of_words(word) else {
         let rt = system.rt;
-        let _ = eprintln!(rt; "btreekv: {word} are no types KEY:VALUE");
+        let _ = eprintln!(rt; "btreekv: {word} are no types KEY:VALUE (see btreekv help build)");
         return Err(Ended::failed());
     };
     Ok(Some(types))

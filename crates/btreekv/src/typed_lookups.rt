@@ -1,5 +1,7 @@
 //! Look-ups in maps of other types than texts. A regular file isn't read whole.
 
+use crate::archives::read;
+use crate::inputs::input_of;
 use crate::lookups::{
     Archive, FEW_BLOCKS, KeyList, SizedFile, are_many, blocks_for, cached, get_keys_in, is_regular,
     key_words, write_stats,
@@ -190,7 +192,7 @@ fn validate(
 }
 
 /// Returns a file as what look-ups of these keys read, or all of it, which is validated if it is no regular file, or the words ask for it.
-fn input_of(
+fn source_of(
     system: &System<'_>,
     types: Types,
     matches: &ArgMatches<'_>,
@@ -208,6 +210,36 @@ fn input_of(
     Ok(Input::Bytes(bytes))
 }
 
+/// Returns all of standard input, which is validated.
+fn stdin_source(
+    system: &System<'_>,
+    types: Types,
+    matches: &ArgMatches<'_>,
+) -> Result<Input, Ended> {
+    let bytes = read(system, None)?;
+    match validate(system, types, words::style_of(matches), &bytes) {
+        Ok(()) => Ok(Input::Bytes(bytes)),
+        Err(fault) => Err(fail(system, types, Names::of_input(None), &fault)),
+    }
+}
+
+/// Returns what look-ups of these keys read of a file of this name, or of standard input.
+fn source_named(
+    system: &System<'_>,
+    types: Types,
+    matches: &ArgMatches<'_>,
+    path: Option<&str>,
+    keys: KeyList<'_>,
+) -> Result<Input, Ended> {
+    let Some(name) = path else {
+        return stdin_source(system, types, matches);
+    };
+    match source_of(system, types, matches, system.open(name)?, keys) {
+        Ok(source) => Ok(source),
+        Err(fault) => Err(fail(system, types, Names::of_input(path), &fault)),
+    }
+}
+
 /// Writes the line of an error of look-ups of several keys.
 fn fail(system: &System<'_>, types: Types, names: Names<'_>, fault: &TypedFault) -> Ended {
     match fault {
@@ -216,20 +248,16 @@ fn fail(system: &System<'_>, types: Types, names: Names<'_>, fault: &TypedFault)
     }
 }
 
-/// Looks up keys in the archive of this name.
+/// Looks up keys in the archive of this name, or in that of standard input.
 fn get_keys_of(
     system: &System<'_>,
     types: PlainTypes,
     matches: &ArgMatches<'_>,
-    path: &str,
+    path: Option<&str>,
     keys: KeyList<'_>,
 ) -> Result<u8, Ended> {
-    let names = Names::of_input(Some(path));
-    let file = system.open(path)?;
-    let mut source = match input_of(system, Types::Plain(types), matches, file, keys) {
-        Ok(source) => source,
-        Err(fault) => return Err(fail(system, Types::Plain(types), names, &fault)),
-    };
+    let names = Names::of_input(path);
+    let mut source = source_named(system, Types::Plain(types), matches, path, keys)?;
     let Ok(size) = source.size() else {
         return Err(system.fail(names, &ProgramFault::InputFailed));
     };
@@ -249,7 +277,7 @@ pub(crate) fn get_keys(
     types: PlainTypes,
     matches: &ArgMatches<'_>,
 ) -> Result<u8, Ended> {
-    let path = words::input_of("get", matches).unwrap_or("");
+    let path = input_of("get", matches);
     if let Some(keys) = matches.get_str("keys-from") {
         return get_keys_of(system, types, matches, path, KeyList::From(keys));
     }

@@ -21,12 +21,20 @@ const EXAMPLES: &str = "Examples:
 
 `btreekv help COMMAND` describes a command.";
 
-/// Examples of `build`.
-const BUILD_EXAMPLES: &str = "Examples:
+/// The types of keys and values, and examples of `build`.
+const BUILD_HELP: &str = "Types of keys and values:
+  u8, u16, u32, u64, i32, i64, text, bytes
+  with keys u32, u64 and text also values option(u32), option(u64), option(i64)
+  with u32, u64 and text also keys or values (u32, u32), (u64, u64), (u32, text),
+  (u32, u32, u32), (u64, u64, u64)
+
+Examples:
   btreekv build --strict -o fruits fruits.lines
   sort -u words | sed 's/$/\\t1/' | btreekv build > words.archive
   btreekv list --escape old | btreekv build --sort --escape -o new
-  btreekv build --csv -o prices prices.csv";
+  btreekv build --csv -o prices prices.csv
+  btreekv build --types u32:text -o names names.lines
+  btreekv build --types 'text:(u32, u32)' -o sizes sizes.lines";
 
 /// Examples of `set`.
 const SET_EXAMPLES: &str = "Examples:
@@ -219,7 +227,7 @@ fn build<'a>(alloc: Global) -> Result<Command<'a>, AllocError> {
     let tables = "read CSV of a header and records KEY,VALUE; sorted as by --sort";
     let command = Command::new(alloc, "build")
         .about("write the archive of lines KEY TAB VALUE")
-        .after_help(BUILD_EXAMPLES)
+        .after_help(BUILD_HELP)
         .arg(sort.conflicts_with("strict")?)?
         .arg(flag(alloc, "strict", "fail unless the keys increase"))?
         .arg(untyped)?
@@ -486,7 +494,9 @@ fn with_commands<'a>(alloc: Global, program: Command<'a>) -> Result<Command<'a>,
 /// them takes longer than a look-up.
 fn grammar<'a>(alloc: Global, first: &str) -> Result<Command<'a>, AllocError> {
     let program = Command::new(alloc, "btreekv")
-        .about("Builds, validates, queries and changes archived maps of texts")
+        .about(
+            "Builds, validates, queries and changes archived maps of texts, numbers and byte strings",
+        )
         .version("0.1.0")
         .after_help(EXAMPLES)
         .subcommand_required(true);
@@ -599,14 +609,6 @@ pub fn command_of(
     }
 }
 
-/// Returns the file that a command is to write, if it isn't standard output.
-pub fn output_of<'a>(name: &str, matches: &ArgMatches<'a>) -> Option<&'a str> {
-    match name {
-        "build" | "update" | "set" | "merge" | "top" => matches.get_str("OUTPUT"),
-        _ => None,
-    }
-}
-
 /// Returns whether a command takes maps of other types than texts.
 pub fn takes_types(name: &str) -> bool {
     match name {
@@ -629,27 +631,6 @@ pub fn is_in_place(name: &str, matches: &ArgMatches<'_>) -> bool {
 /// Returns whether a command looks up several keys.
 pub fn has_several_keys(name: &str, matches: &ArgMatches<'_>) -> bool {
     name == "get" && (matches.get_str("keys-from").is_some() || matches.get_strs("MORE").is_some())
-}
-
-/// Returns the file in which `get` looks up keys. With `--keys-from` the words have no key, so the first of them is the file.
-fn file_of_get<'a>(matches: &ArgMatches<'a>) -> Option<&'a str> {
-    if matches.get_str("keys-from").is_some() {
-        return matches.get_str("KEY");
-    }
-    match matches.get_strs("MORE").unwrap_or(&[]).last() {
-        Some(path) => Some(*path),
-        None => matches.get_str("FILE"),
-    }
-}
-
-/// Returns the file that a command reads first, if it isn't standard input.
-pub fn input_of<'a>(name: &str, matches: &ArgMatches<'a>) -> Option<&'a str> {
-    match name {
-        "merge" | "update" => matches.get_str("ARCHIVE"),
-        "diff" => matches.get_str("OLD"),
-        "get" => file_of_get(matches),
-        _ => matches.get_str("FILE"),
-    }
 }
 
 /// Returns how byte strings are written and read.
