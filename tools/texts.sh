@@ -513,6 +513,7 @@ ends 2 "error: the argument '--null' cannot be used with '[MORE]...'" '' '' get 
 
 # an input that is named - is standard input, and such an output standard output; another file of this name is ./-
 printf 'pear\n' > deletion
+printf '10\n' > tens
 fewer=$(archive_of 'apple\tred\nfig\tblue and green\n')
 ends 0 '' "$three" 'ok 3 entries\n' check -
 ends 0 '' "$three" 'apple\tred\nfig\tblue and green\npear\tyellow\n' list -
@@ -532,6 +533,15 @@ ends 0 '' "$fewer" "$three" merge archive -
 ends 0 '' "$fewer" 'pear\n' diff archive -
 ends 0 '' "$fewer" 'pear\tyellow\n' diff - archive
 ends 0 '' "$numbers" '' diff --types u32:text numbers -
+ends 0 '' "$numbers" '' diff - numbers
+ends 0 '' "$numbers" "$numbers" merge - numbers
+ends 0 '' "$numbers" "$(archive_of '9\tnine\n' --types u32:text)" update - tens
+ends 0 '' "$numbers" '10\tTEN\n' get --keys-from tens -
+ends 1 '' "$numbers" '9\tnine\n' get 11 9 -
+ends 2 'btreekv: x is no u32' "$numbers" '' get 9 x -
+ends 2 "btreekv: several keys aren't looked up in a map of type [u32 -> option(u64) / 5]" "$options" '' get 9 10 -
+"$program" merge <(cat numbers) numbers 2> said | cmp -s - numbers || fail "merge of a pipe by name: $(cat said)"
+"$program" get 10 9 <(cat numbers) 2> said | cmp -s - <(printf '10\tTEN\n9\tnine\n') || fail "several keys in a pipe by name: $(cat said)"
 ends 1 '' "$three" "00000044  leaf of 3 entries\n          key 0 is less: apple\n          key 1 is greater: fig\n          the key isn't there\n" explain --key banana -
 ends 2 'btreekv: refused: position 0 is out of range' 'abc' '' check -
 ends 2 'btreekv: refused: position 0 is out of range' 'abc' '' get a b -

@@ -1,6 +1,6 @@
 //! Commands that hold whole files in memory: updates, entries that are set, merges, differences and sidecars.
 
-use crate::inputs::{file_named, file_of, output_of};
+use crate::inputs::{file_named, file_of, input_of, output_of};
 use crate::output::Output;
 use crate::progress::Progress;
 use crate::system::{Ended, Names, System, bad_byte_of};
@@ -102,14 +102,13 @@ fn write(system: &System<'_>, output: Option<&str>, bytes: &[u8]) -> Result<u8, 
     }
 }
 
-/// Runs `update`, and returns the exit status.
-pub fn update(system: &System<'_>, matches: &ArgMatches<'_>) -> Result<u8, Ended> {
+/// Runs `update` over an archive, and returns the exit status.
+fn update(system: &System<'_>, matches: &ArgMatches<'_>, archive: &[u8]) -> Result<u8, Ended> {
     let name = matches.get_str("ARCHIVE").unwrap_or("");
     let changes_name = file_of(matches, "CHANGES");
-    let archive = read(system, file_named(name))?;
     let changes = read(system, changes_name)?;
     let sorts = matches.get_flag("sort");
-    match updating::update(system.alloc(), sorts, &archive, &changes) {
+    match updating::update(system.alloc(), sorts, archive, &changes) {
         Ok(bytes) => write(system, output_of("update", matches), &bytes),
         Err(fault) => { Err(fail_update(system, name, changes_name, &changes, fault)) }
     }
@@ -150,8 +149,8 @@ pub(crate) fn read_each(system: &System<'_>, names: &[&str]) -> Result<Vec<Vec<u
     Ok(files)
 }
 
-/// Runs `merge`, and returns the exit status.
-pub fn merge(system: &System<'_>, matches: &ArgMatches<'_>) -> Result<u8, Ended> {
+/// Runs `merge` over an archive and the others, and returns the exit status.
+fn merge(system: &System<'_>, matches: &ArgMatches<'_>, archive: &[u8]) -> Result<u8, Ended> {
     let alloc = system.alloc();
     let first = matches.get_str("ARCHIVE").unwrap_or("");
     let other_names = matches.get_strs("OTHERS").unwrap_or(&[]);
@@ -159,24 +158,42 @@ pub fn merge(system: &System<'_>, matches: &ArgMatches<'_>) -> Result<u8, Ended>
     if names.push(first).is_err() || names.extend_from_slice(other_names).is_err() {
         return Err(system.fail(Names::of_input(None), &ProgramFault::Memory));
     }
-    let archive = read(system, file_named(first))?;
     let others = read_each(system, other_names)?;
-    match merging::merge(alloc, &archive, &others) {
+    match merging::merge(alloc, archive, &others) {
         Ok(bytes) => write(system, output_of("merge", matches), &bytes),
         Err(fault) => { Err(fail(system, &names, fault)) }
     }
 }
 
-/// Runs `diff`, and returns the exit status.
-pub fn diff(system: &System<'_>, matches: &ArgMatches<'_>) -> Result<u8, Ended> {
+/// Runs `diff` over an old archive, and returns the exit status.
+fn diff(system: &System<'_>, matches: &ArgMatches<'_>, old: &[u8]) -> Result<u8, Ended> {
     let old_name = matches.get_str("OLD").unwrap_or("");
     let new_name = matches.get_str("NEW").unwrap_or("");
-    let old = read(system, file_named(old_name))?;
     let new = read(system, file_named(new_name))?;
-    match differences::diff(system.alloc(), &old, &new) {
+    match differences::diff(system.alloc(), old, &new) {
         Ok(text) => write(system, None, text.as_bytes()),
         Err(fault) => { Err(fail(system, &[old_name, new_name], fault)) }
     }
+}
+
+/// Runs `update`, `merge` or `diff` over an archive, which is the first of its files, and returns the exit status.
+pub(crate) fn run_in(
+    system: &System<'_>,
+    name: &str,
+    matches: &ArgMatches<'_>,
+    archive: &[u8],
+) -> Result<u8, Ended> {
+    match name {
+        "update" => update(system, matches, archive),
+        "merge" => merge(system, matches, archive),
+        _ => diff(system, matches, archive),
+    }
+}
+
+/// Runs `update`, `merge` or `diff`, and returns the exit status.
+pub fn run(system: &System<'_>, name: &str, matches: &ArgMatches<'_>) -> Result<u8, Ended> {
+    let archive = read(system, input_of(name, matches))?;
+    run_in(system, name, matches, &archive)
 }
 
 /// Runs `top`, and returns the exit status.

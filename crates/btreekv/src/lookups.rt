@@ -259,6 +259,25 @@ pub(crate) enum KeyList<'w> {
     Words(&'w [&'w str]),
 }
 
+/// Several keys of a call.
+#[derive(Drop)]
+pub(crate) enum AskedKeys<'a> {
+    /// Those in the file of this name, or in standard input if it is `-`.
+    From(&'a str),
+    /// These words.
+    Words(Vec<&'a str>),
+}
+
+impl<'a> AskedKeys<'a> {
+    /// Returns where they are.
+    pub(crate) fn list(&self) -> KeyList<'_> {
+        match self {
+            AskedKeys::From(name) => KeyList::From(*name),
+            AskedKeys::Words(words) => KeyList::Words(words),
+        }
+    }
+}
+
 /// Looks up keys in an archive, and writes the line of each that is found. Returns the exit status, and the archive.
 fn write_keys<A: Archive, K: Keys + Drop>(
     system: &System<'_>,
@@ -392,16 +411,17 @@ pub(crate) fn blocks_for(keys: KeyList<'_>) -> usize {
     }
 }
 
-/// Looks up keys in the archive of texts that standard input has.
-fn get_keys_in_stdin(
+/// Looks up keys in the archive of texts that all of an input has, which comes from this file.
+fn get_keys_in_bytes(
     system: &System<'_>,
     matches: &ArgMatches<'_>,
+    path: Option<&str>,
+    bytes: &[u8],
     keys: KeyList<'_>,
 ) -> Result<u8, Ended> {
-    let bytes = read(system, None)?;
-    match opening::open(&bytes) {
-        Ok(_) => get_texts_in(system, matches, None, bytes.as_slice(), keys),
-        Err(fault) => Err(system.fail(Names::of_input(None), &fault)),
+    match opening::open(bytes) {
+        Ok(_) => get_texts_in(system, matches, path, bytes, keys),
+        Err(fault) => Err(system.fail(Names::of_input(path), &fault)),
     }
 }
 
@@ -413,7 +433,7 @@ fn get_keys(
     keys: KeyList<'_>,
 ) -> Result<u8, Ended> {
     let Some(name) = path else {
-        return get_keys_in_stdin(system, matches, keys);
+        return get_keys_in_bytes(system, matches, path, &read(system, None)?, keys);
     };
     let file = system.open(name)?;
     let in_parts = is_regular(&file) && !matches.get_flag("validate");
@@ -430,10 +450,7 @@ fn get_keys(
 }
 
 /// Returns the keys that are all of the words of `get` but the last, which is the file.
-pub(crate) fn key_words<'a>(
-    system: &System<'_>,
-    matches: &ArgMatches<'a>,
-) -> Result<Vec<&'a str>, Ended> {
+fn key_words<'a>(system: &System<'_>, matches: &ArgMatches<'a>) -> Result<Vec<&'a str>, Ended> {
     let mut keys = Vec::new(system.alloc());
     let first = [
         matches.get_str("KEY").unwrap_or(""),
@@ -448,14 +465,37 @@ pub(crate) fn key_words<'a>(
     Ok(keys)
 }
 
+/// Returns where the words of `get` have several keys.
+pub(crate) fn asked_keys<'a>(
+    system: &System<'_>,
+    matches: &ArgMatches<'a>,
+) -> Result<AskedKeys<'a>, Ended> {
+    match matches.get_str("keys-from") {
+        Some(name) => Ok(AskedKeys::From(name)),
+        None => Ok(AskedKeys::Words(key_words(system, matches)?)),
+    }
+}
+
 /// Looks up several keys in the archive of texts that the words name.
 fn get_several(system: &System<'_>, matches: &ArgMatches<'_>) -> Result<u8, Ended> {
-    let path = input_of("get", matches);
-    if let Some(keys) = matches.get_str("keys-from") {
-        return get_keys(system, matches, path, KeyList::From(keys));
-    }
-    let keys = key_words(system, matches)?;
-    get_keys(system, matches, path, KeyList::Words(&keys))
+    let keys = asked_keys(system, matches)?;
+    get_keys(system, matches, input_of("get", matches), keys.list())
+}
+
+/// Looks them up in the archive of texts that all of an input has.
+pub(crate) fn get_several_in(
+    system: &System<'_>,
+    matches: &ArgMatches<'_>,
+    bytes: &[u8],
+) -> Result<u8, Ended> {
+    let keys = asked_keys(system, matches)?;
+    get_keys_in_bytes(
+        system,
+        matches,
+        input_of("get", matches),
+        bytes,
+        keys.list(),
+    )
 }
 
 /// Returns whether a file is a regular one.

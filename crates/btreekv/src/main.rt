@@ -240,10 +240,8 @@ fn status(system: &System<'_>) -> Result<u8, Ended> {
         return Ok(status);
     }
     match name {
-        "update" => archives::update(system, matches),
+        "update" | "merge" | "diff" => archives::run(system, name, matches),
         "set" => archives::set(system, matches),
-        "merge" => archives::merge(system, matches),
-        "diff" => archives::diff(system, matches),
         "top" => archives::top(system, matches),
         "explain" => explained::run(system, matches),
         "list" => listed::run(system, matches),

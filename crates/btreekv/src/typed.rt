@@ -1,12 +1,12 @@
 //! Maps of other types than texts to texts: their types are those of the words, or those that a file's header names.
 
 use crate::inputs::{file_named, file_of};
-use crate::lookups::{in_all, is_regular, write_stats};
+use crate::lookups::{get_several_in, in_all, is_regular, write_stats};
 use crate::output::Output;
 use crate::progress::Progress;
 use crate::sink::Sink;
 use crate::system::{Ended, Named, Names, System, bad_byte_of};
-use crate::typed_lookups::{get_keys, in_parts};
+use crate::typed_lookups::{get_keys, get_keys_in_bytes, in_parts};
 use crate::{archives, inputs, listed, overwritten, words};
 use btreearc_lines::fault::ProgramFault;
 use btreearc_lines::heading::HeadingFault;
@@ -489,6 +489,46 @@ fn run_texts<R: Read + Drop>(
     }
 }
 
+/// Looks up several keys in an archive of maps of two types.
+fn get_keys_in_types(
+    system: &System<'_>,
+    types: Types,
+    matches: &ArgMatches<'_>,
+    bytes: Vec<u8>,
+) -> Result<u8, Ended> {
+    match types.plain() {
+        Some(types) => get_keys_in_bytes(system, types, matches, bytes),
+        None => Err(no_keys_in(system, types)),
+    }
+}
+
+/// Looks up several keys in an archive of texts, or runs a command of which it is the first of several files.
+fn run_texts_in(
+    system: &System<'_>,
+    name: &str,
+    matches: &ArgMatches<'_>,
+    archive: &[u8],
+) -> Result<u8, Ended> {
+    if words::has_several_keys(name, matches) {
+        return get_several_in(system, matches, archive);
+    }
+    archives::run_in(system, name, matches, archive)
+}
+
+/// Returns the first bytes of an input, by which a header is known. They are all bytes, if the command reads more files, or looks up several
+/// keys.
+fn first_of<R: Read>(
+    system: &System<'_>,
+    input: &mut Progress<'_, '_, R>,
+    are_all: bool,
+) -> Result<Vec<u8>, ProgramFault> {
+    if are_all {
+        read_all(system.alloc(), input)
+    } else {
+        first_bytes(system, input)
+    }
+}
+
 /// Runs a command over an input that can't be read again, as a map of the types that its header names, or of texts.
 fn run_stream<R: Read + Drop>(
     system: &System<'_>,
@@ -497,42 +537,41 @@ fn run_stream<R: Read + Drop>(
     input: R,
 ) -> Result<u8, Ended> {
     let names = names_of(name, matches);
+    let has_several_keys = words::has_several_keys(name, matches);
+    let are_all = has_several_keys || words::reads_several(name);
     let mut input = Progress::new(system, input);
-    let first = match first_bytes(system, &mut input) {
+    let first = match first_of(system, &mut input, are_all) {
         Ok(first) => first,
         Err(fault) => return Err(system.fail(names, &fault)),
     };
-    let types = header_types(&first);
-    let mut input = input.with_first(&first);
-    let Some(types) = types else {
-        return run_texts(system, name, matches, input);
+    let Some(types) = header_types(&first) else {
+        if are_all {
+            return run_texts_in(system, name, matches, &first);
+        }
+        return run_texts(system, name, matches, input.with_first(&first));
     };
+    if has_several_keys {
+        return get_keys_in_types(system, types, matches, first);
+    }
     let typed = typed_run(system, types, name, matches)?;
+    let mut input = input.with_first(&first);
     let done = run_over(system, &typed, &mut input, names.output);
     ended(system, &typed, names, matches, done, input.bytes_read())
 }
 
 /// Runs a command that reads an archive as a map of the types that its header names, and returns the exit status. There is none if the
-/// archive is a regular file without such a header, or no regular file and the first of several, or one in which several keys are
-/// looked up: nothing is done then.
+/// archive is a regular file without such a header: nothing is done then.
 fn run_by_header(
     system: &System<'_>,
     name: &str,
     matches: &ArgMatches<'_>,
 ) -> Result<Option<u8>, Ended> {
-    let is_stream = !words::reads_several(name) && !words::has_several_keys(name, matches);
     let Some(path) = inputs::input_of(name, matches) else {
-        if is_stream {
-            return Ok(Some(run_stream(system, name, matches, system.stdin()?)?));
-        }
-        return Ok(None);
+        return Ok(Some(run_stream(system, name, matches, system.stdin()?)?));
     };
     let file = system.open(path)?;
     if !is_regular(&file) {
-        if is_stream {
-            return Ok(Some(run_stream(system, name, matches, file)?));
-        }
-        return Ok(None);
+        return Ok(Some(run_stream(system, name, matches, file)?));
     }
     let first = match first_bytes(system, &mut Progress::silent(system, file)) {
         Ok(first) => first,

@@ -3,8 +3,8 @@
 use crate::archives::read;
 use crate::inputs::input_of;
 use crate::lookups::{
-    Archive, FEW_BLOCKS, KeyList, SizedFile, are_many, blocks_for, cached, get_keys_in, is_regular,
-    key_words, write_stats,
+    Archive, FEW_BLOCKS, KeyList, SizedFile, are_many, asked_keys, blocks_for, cached, get_keys_in,
+    is_regular, write_stats,
 };
 use crate::progress::Progress;
 use crate::sink::Sink;
@@ -210,16 +210,25 @@ fn source_of(
     Ok(Input::Bytes(bytes))
 }
 
-/// Returns all of standard input, which is validated.
-fn stdin_source(
+/// Writes the line of an error of look-ups of several keys.
+fn fail(system: &System<'_>, types: Types, names: Names<'_>, fault: &TypedFault) -> Ended {
+    match fault {
+        TypedFault::Program(fault) => fail_of(system, types, names, fault),
+        _ => system.fail(names, &ProgramFault::Usage),
+    }
+}
+
+/// Returns all bytes of an input, which comes from this file, and validates them.
+fn validated(
     system: &System<'_>,
     types: Types,
     matches: &ArgMatches<'_>,
+    path: Option<&str>,
+    bytes: Vec<u8>,
 ) -> Result<Input, Ended> {
-    let bytes = read(system, None)?;
     match validate(system, types, words::style_of(matches), &bytes) {
         Ok(()) => Ok(Input::Bytes(bytes)),
-        Err(fault) => Err(fail(system, types, Names::of_input(None), &fault)),
+        Err(fault) => Err(fail(system, types, Names::of_input(path), &fault)),
     }
 }
 
@@ -232,7 +241,7 @@ fn source_named(
     keys: KeyList<'_>,
 ) -> Result<Input, Ended> {
     let Some(name) = path else {
-        return stdin_source(system, types, matches);
+        return validated(system, types, matches, path, read(system, None)?);
     };
     match source_of(system, types, matches, system.open(name)?, keys) {
         Ok(source) => Ok(source),
@@ -240,24 +249,16 @@ fn source_named(
     }
 }
 
-/// Writes the line of an error of look-ups of several keys.
-fn fail(system: &System<'_>, types: Types, names: Names<'_>, fault: &TypedFault) -> Ended {
-    match fault {
-        TypedFault::Program(fault) => fail_of(system, types, names, fault),
-        _ => system.fail(names, &ProgramFault::Usage),
-    }
-}
-
-/// Looks up keys in the archive of this name, or in that of standard input.
+/// Looks up keys in a source, which comes from this file.
 fn get_keys_of(
     system: &System<'_>,
     types: PlainTypes,
     matches: &ArgMatches<'_>,
     path: Option<&str>,
+    mut source: Input,
     keys: KeyList<'_>,
 ) -> Result<u8, Ended> {
     let names = Names::of_input(path);
-    let mut source = source_named(system, Types::Plain(types), matches, path, keys)?;
     let Ok(size) = source.size() else {
         return Err(system.fail(names, &ProgramFault::InputFailed));
     };
@@ -278,9 +279,20 @@ pub(crate) fn get_keys(
     matches: &ArgMatches<'_>,
 ) -> Result<u8, Ended> {
     let path = input_of("get", matches);
-    if let Some(keys) = matches.get_str("keys-from") {
-        return get_keys_of(system, types, matches, path, KeyList::From(keys));
-    }
-    let keys = key_words(system, matches)?;
-    get_keys_of(system, types, matches, path, KeyList::Words(&keys))
+    let keys = asked_keys(system, matches)?;
+    let source = source_named(system, Types::Plain(types), matches, path, keys.list())?;
+    get_keys_of(system, types, matches, path, source, keys.list())
+}
+
+/// Looks them up in the archive that all of an input has.
+pub(crate) fn get_keys_in_bytes(
+    system: &System<'_>,
+    types: PlainTypes,
+    matches: &ArgMatches<'_>,
+    bytes: Vec<u8>,
+) -> Result<u8, Ended> {
+    let path = input_of("get", matches);
+    let source = validated(system, Types::Plain(types), matches, path, bytes)?;
+    let keys = asked_keys(system, matches)?;
+    get_keys_of(system, types, matches, path, source, keys.list())
 }
