@@ -59,6 +59,6 @@ pub fn reads_stdin_twice(name: &str, matches: &ArgMatches<'_>) -> bool {
         "get" => usize::from(matches.get_str("keys-from") == Some(STANDARD)),
         _ => 0,
     };
-    let others_may = usize::from(input_of(name, matches).is_some());
-    others > others_may
+    let most_others = usize::from(input_of(name, matches).is_some());
+    others > most_others
 }

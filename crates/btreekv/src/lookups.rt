@@ -1,7 +1,7 @@
 //! Look-ups of one key, and of many. A file isn't read whole.
 
 use crate::archives::read;
-use crate::inputs::{file_of, input_of};
+use crate::inputs::{file_named, file_of, input_of};
 use crate::progress::Progress;
 use crate::system::{Ended, Named, Names, System};
 use crate::words;
@@ -251,31 +251,12 @@ impl<S: ReadAt + Drop> Archive for ArchiveOfTexts<S> {
 }
 
 /// Where the keys of a call are.
-#[derive(Clone, Copy)]
+#[derive(Drop)]
 pub(crate) enum KeyList<'w> {
     /// In the file of this name, or in standard input if it is `-`.
     From(&'w str),
     /// Among the words of the command line.
-    Words(&'w [&'w str]),
-}
-
-/// Several keys of a call.
-#[derive(Drop)]
-pub(crate) enum AskedKeys<'a> {
-    /// Those in the file of this name, or in standard input if it is `-`.
-    From(&'a str),
-    /// These words.
-    Words(Vec<&'a str>),
-}
-
-impl<'a> AskedKeys<'a> {
-    /// Returns where they are.
-    pub(crate) fn list(&self) -> KeyList<'_> {
-        match self {
-            AskedKeys::From(name) => KeyList::From(*name),
-            AskedKeys::Words(words) => KeyList::Words(words),
-        }
-    }
+    Words(Vec<&'w str>),
 }
 
 /// Looks up keys in an archive, and writes the line of each that is found. Returns the exit status, and the archive.
@@ -339,14 +320,16 @@ pub(crate) fn get_keys_in<A: Archive>(
     names: Names<'_>,
     size: u64,
     archive: A,
-    keys: KeyList<'_>,
+    keys: &KeyList<'_>,
 ) -> Result<u8, Ended> {
     let (status, archive) = match keys {
-        KeyList::From("-") => write_keys_of(system, names, archive, system.stdin()?, None)?,
-        KeyList::From(keys) => {
-            let file = system.open(keys)?;
-            write_keys_of(system, names, archive, file, Some(keys))?
-        }
+        KeyList::From(word) => match file_named(*word) {
+            None => write_keys_of(system, names, archive, system.stdin()?, None)?,
+            Some(name) => {
+                let file = system.open(name)?;
+                write_keys_of(system, names, archive, file, Some(name))?
+            }
+        },
         KeyList::Words(words) => {
             let words = words.iter();
             write_keys(system, names, archive, KeyWords { words })?
@@ -362,7 +345,7 @@ fn get_texts_in<S: ReadAt + Drop>(
     matches: &ArgMatches<'_>,
     path: Option<&str>,
     mut source: S,
-    keys: KeyList<'_>,
+    keys: &KeyList<'_>,
 ) -> Result<u8, Ended> {
     let names = Names::of_input(path);
     let Ok(size) = source.size() else {
@@ -375,11 +358,11 @@ fn get_texts_in<S: ReadAt + Drop>(
 }
 
 /// Returns whether there are so many keys that it takes less time to read all of a regular file than what the look-ups need of it.
-pub(crate) fn are_many(system: &System<'_>, file: &File, keys: KeyList<'_>) -> bool {
+pub(crate) fn are_many(system: &System<'_>, file: &File, keys: &KeyList<'_>) -> bool {
     let KeyList::From(keys) = keys else {
         return false;
     };
-    let (Ok(archive), Ok(keys)) = (file.metadata(), metadata(system.rt, keys)) else {
+    let (Ok(archive), Ok(keys)) = (file.metadata(), metadata(system.rt, *keys)) else {
         return false;
     };
     let size = archive.len();
@@ -401,7 +384,7 @@ fn read_archive(
 }
 
 /// Returns how many blocks the look-ups of keys keep.
-pub(crate) fn blocks_for(keys: KeyList<'_>) -> usize {
+pub(crate) fn blocks_for(keys: &KeyList<'_>) -> usize {
     match keys {
         KeyList::From(_) => MANY_BLOCKS,
         KeyList::Words(words) => {
@@ -417,7 +400,7 @@ fn get_keys_in_bytes(
     matches: &ArgMatches<'_>,
     path: Option<&str>,
     bytes: &[u8],
-    keys: KeyList<'_>,
+    keys: &KeyList<'_>,
 ) -> Result<u8, Ended> {
     match opening::open(bytes) {
         Ok(_) => get_texts_in(system, matches, path, bytes, keys),
@@ -430,7 +413,7 @@ fn get_keys(
     system: &System<'_>,
     matches: &ArgMatches<'_>,
     path: Option<&str>,
-    keys: KeyList<'_>,
+    keys: &KeyList<'_>,
 ) -> Result<u8, Ended> {
     let Some(name) = path else {
         return get_keys_in_bytes(system, matches, path, &read(system, None)?, keys);
@@ -469,17 +452,17 @@ fn key_words<'a>(system: &System<'_>, matches: &ArgMatches<'a>) -> Result<Vec<&'
 pub(crate) fn asked_keys<'a>(
     system: &System<'_>,
     matches: &ArgMatches<'a>,
-) -> Result<AskedKeys<'a>, Ended> {
+) -> Result<KeyList<'a>, Ended> {
     match matches.get_str("keys-from") {
-        Some(name) => Ok(AskedKeys::From(name)),
-        None => Ok(AskedKeys::Words(key_words(system, matches)?)),
+        Some(name) => Ok(KeyList::From(name)),
+        None => Ok(KeyList::Words(key_words(system, matches)?)),
     }
 }
 
 /// Looks up several keys in the archive of texts that the words name.
 fn get_several(system: &System<'_>, matches: &ArgMatches<'_>) -> Result<u8, Ended> {
     let keys = asked_keys(system, matches)?;
-    get_keys(system, matches, input_of("get", matches), keys.list())
+    get_keys(system, matches, input_of("get", matches), &keys)
 }
 
 /// Looks them up in the archive of texts that all of an input has.
@@ -489,13 +472,7 @@ pub(crate) fn get_several_in(
     bytes: &[u8],
 ) -> Result<u8, Ended> {
     let keys = asked_keys(system, matches)?;
-    get_keys_in_bytes(
-        system,
-        matches,
-        input_of("get", matches),
-        bytes,
-        keys.list(),
-    )
+    get_keys_in_bytes(system, matches, input_of("get", matches), bytes, &keys)
 }
 
 /// Returns whether a file is a regular one.

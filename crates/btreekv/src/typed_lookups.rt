@@ -197,7 +197,7 @@ fn source_of(
     types: Types,
     matches: &ArgMatches<'_>,
     file: File,
-    keys: KeyList<'_>,
+    keys: &KeyList<'_>,
 ) -> Result<Input, TypedFault> {
     let in_parts = is_regular(&file) && !matches.get_flag("validate");
     if in_parts && !are_many(system, &file, keys) {
@@ -238,7 +238,7 @@ fn source_named(
     types: Types,
     matches: &ArgMatches<'_>,
     path: Option<&str>,
-    keys: KeyList<'_>,
+    keys: &KeyList<'_>,
 ) -> Result<Input, Ended> {
     let Some(name) = path else {
         return validated(system, types, matches, path, read(system, None)?);
@@ -256,7 +256,7 @@ fn get_keys_of(
     matches: &ArgMatches<'_>,
     path: Option<&str>,
     mut source: Input,
-    keys: KeyList<'_>,
+    keys: &KeyList<'_>,
 ) -> Result<u8, Ended> {
     let names = Names::of_input(path);
     let Ok(size) = source.size() else {
@@ -280,8 +280,8 @@ pub(crate) fn get_keys(
 ) -> Result<u8, Ended> {
     let path = input_of("get", matches);
     let keys = asked_keys(system, matches)?;
-    let source = source_named(system, Types::Plain(types), matches, path, keys.list())?;
-    get_keys_of(system, types, matches, path, source, keys.list())
+    let source = source_named(system, Types::Plain(types), matches, path, &keys)?;
+    get_keys_of(system, types, matches, path, source, &keys)
 }
 
 /// Looks them up in the archive that all of an input has.
@@ -294,5 +294,5 @@ pub(crate) fn get_keys_in_bytes(
     let path = input_of("get", matches);
     let source = validated(system, Types::Plain(types), matches, path, bytes)?;
     let keys = asked_keys(system, matches)?;
-    get_keys_of(system, types, matches, path, source, keys.list())
+    get_keys_of(system, types, matches, path, source, &keys)
 }
